@@ -16,14 +16,15 @@ use Rattle.file_tops.specs.Tops.{literal_value, link}
 use Rattle.dispatch_laws.specs.Targets.{IsTargetOf}
 use Rattle.helper_rules.specs.Helpers.{helper_name, helper_item, used_helpers, constants, box_constructor}
 use Rattle.helper_rules.specs.Words.{class_name, constants_name}
-use Rattle.helper_rules.specs.declared.kinds.Failure.TheVariants.{NullReceiver, Division}
+use Rattle.helper_rules.specs.declared.kinds.Failure.TheVariants.{NullReceiver, Division, Cast}
 use Rattle.helper_rules.specs.declared.kinds.Helper.{Helper}
 use Rattle.helper_rules.specs.declared.kinds.Helper.TheVariants as helpers
+use Rattle.helper_rules.specs.declared.kinds.Kind.{Kind}
 use Rattle.helper_rules.specs.declared.kinds.Kind.TheVariants as kinds
 use Rattle.ir_mean.specs.Dispatch.{chain_of, longest}
 use Rattle.ir_mean.specs.World as ir_world
 use Rattle.js_mean.specs.Classes.{members_in, members_of}
-use Rattle.js_mean.specs.Files.{items_in}
+use Rattle.js_mean.specs.Files.{items_in, owner}
 use Rattle.js_mean.specs.Meaning as js_meaning
 use Rattle.js_mean.specs.Shows.{object_shown, char_shown}
 use Rattle.js_mean.specs.States as js
@@ -34,6 +35,7 @@ use Rattle.outcomes.specs.Shown as shown_ends
 use Rattle.piece_rules.specs.Pieces.{class_item_of, constructor_body, setter, zero_of as zero_literal}
 use Rattle.sj_calls.proofs.Shapes.{stands_there, zero_alike}
 use Rattle.sj_calls.specs.Chains as chains
+use Rattle.sj_calls.proofs.Casting.{cast_named}
 use Rattle.sj_calls.proofs.Testing.{test_named}
 use Rattle.sj_calls.specs.Helpers.{ReachesBoxes, CanTest, CanCompare, helper_code, HelperStands, BoxStands, failing_code, checking_code, division_code}
 use Rattle.sj_calls.specs.Made.{zero_value}
@@ -41,13 +43,13 @@ use Rattle.sj_calls.specs.Methods.{Linked, parameters_in, function_of}
 use Rattle.sj_calls.specs.Names.{emitted_in}
 use Rattle.sj_calls.specs.Objects.{RunsOn, Constructs, function_on, body_of}
 use Rattle.sj_calls.specs.Objects as on_objects
-use Rattle.sj_calls.specs.Worlds.{IsMade, CanCheck, CanDivide, StaticStands, setter_code, HasObjects}
+use Rattle.sj_calls.specs.Worlds.{IsMade, CanCheck, CanDivide, CanCast, StaticStands, setter_code, HasObjects}
 use Rattle.sj_core.specs.Terms.{named, receiver}
 use Rattle.sj_desugar.specs.Desugar.{is_mutable_in, names_of, body_code, completed, desugared_member}
 use Rattle.sj_emit_expr.specs.Members.{with_receiver, member_piece}
 use Rattle.sj_emit_expr.specs.Names.{variable_name, label_name}
 use Rattle.sj_emit_expr.specs.Templates.{check_name, member_name, static_name, setter_name, parameter_names, statement_templates}
-use Rattle.sj_emit_expr.specs.Tests.{test_name}
+use Rattle.sj_emit_expr.specs.Tests.{test_name, cast_name}
 use Rattle.sj_names.proofs.Same.{impossible}
 use Rattle.sj_names.specs.declared.method_names.Member.{Member as MemberName}
 use Rattle.sj_names.specs.declared.method_names.Namespace.{Namespace}
@@ -256,13 +258,42 @@ module _ (z : Spread) where
       boxes_here : (g : Name) → (z.has g).helper (helper_name helpers.BoxedChar) ≡ true → ReachesBoxes place g
       boxes_here g l = record { reached = reaches g (a_helper helpers.BoxedChar) l; user = g; usable = l }
 
+      -- the test of a kind, and that of chars with the class of objects that hold them
+      kind_test_here : (f : Name) (k : Kind) → (z.has f).helper (helper_name (helpers.TestOf k)) ≡ true → HelperStands place (helpers.TestOf k) (helper_code (helpers.TestOf k))
+      kind_test_here f k l = function_there (z.home (a_helper (helpers.TestOf k))) (helper_name (helpers.TestOf k)) (helper_code (helpers.TestOf k)).parameters (helper_code (helpers.TestOf k)).body (helper_there f (helpers.TestOf k) l)
+
+      test_boxes_here : (f : Name) (k : Kind) → (z.has f).helper (helper_name (helpers.TestOf k)) ≡ true → k ≡ kinds.Char → ReachesBoxes place (z.home (a_helper (helpers.TestOf k)))
+      test_boxes_here f k l e = boxes_here (z.home (a_helper (helpers.TestOf k))) (can.helpers f (helpers.TestOf k) helpers.BoxedChar l (subst (λ k. Contains (used_helpers (helpers.TestOf k)) helpers.BoxedChar) (sym e) (at_front helpers.BoxedChar [])))
+
       tested_here : (f : Name) (t : IrType) → (z.has f).tests t ≡ true → CanTest place t
-      tested_here f t l = let d = can.tests f t l in let g = z.home (a_helper (helpers.TestOf d.kind)) in record {
+      tested_here f t l = let d = can.tests f t l in record {
         kind = d.kind;
         its_kind = d.its_kind;
-        test = ap (js_meaning.code_of z.program (z.home (a_test t))) (test_named t d.kind d.its_kind) ∙ ap (λ x. js_meaning.code_of z.program x (helper_name (helpers.TestOf d.kind))) d.home ∙ function_there g (helper_name (helpers.TestOf d.kind)) (helper_code (helpers.TestOf d.kind)).parameters (helper_code (helpers.TestOf d.kind)).body (helper_there f (helpers.TestOf d.kind) d.helper);
-        boxes = λ e. subst (ReachesBoxes place) (sym d.home) (boxes_here g (can.helpers f (helpers.TestOf d.kind) helpers.BoxedChar d.helper (subst (λ k. Contains (used_helpers (helpers.TestOf k)) helpers.BoxedChar) (sym e) (at_front helpers.BoxedChar []))));
+        test = ap (js_meaning.code_of z.program (z.home (a_test t))) (test_named t d.kind d.its_kind) ∙ ap (λ x. js_meaning.code_of z.program x (helper_name (helpers.TestOf d.kind))) d.home ∙ kind_test_here f d.kind d.helper;
+        boxes = λ e. subst (ReachesBoxes place) (sym d.home) (test_boxes_here f d.kind d.helper e);
       }
+
+      cast_here : (f : Name) (t : IrType) → (z.has f).casts t ≡ true → CanCast place t
+      cast_here f t l =
+          let d = can.casts f t l in
+          let g = z.home (a_helper (helpers.CastTo d.kind)) in
+          let its_test = can.helpers f (helpers.CastTo d.kind) (helpers.TestOf d.kind) d.helper (at_front (helpers.TestOf d.kind) (helpers.Throws Cast ∷ [])) in
+          let throws = can.helpers f (helpers.CastTo d.kind) (helpers.Throws Cast) d.helper (further_on (helpers.TestOf d.kind) (helpers.Throws Cast ∷ []) (helpers.Throws Cast) (at_front (helpers.Throws Cast) [])) in
+          record {
+            kind = d.kind;
+            its_kind = d.its_kind;
+            cast = ap (js_meaning.code_of z.program (z.home (a_cast t))) (cast_named t d.kind d.its_kind) ∙ ap (λ x. js_meaning.code_of z.program x (helper_name (helpers.CastTo d.kind))) d.home ∙ function_there g (helper_name (helpers.CastTo d.kind)) (helper_code (helpers.CastTo d.kind)).parameters (helper_code (helpers.CastTo d.kind)).body (helper_there f (helpers.CastTo d.kind) d.helper);
+            test = kind_test_here g d.kind its_test;
+            boxes = test_boxes_here g d.kind its_test;
+            test_owned = ap (λ x. owner z.program x (helper_name (helpers.TestOf d.kind))) d.home ∙ reaches g (a_helper (helpers.TestOf d.kind)) its_test;
+            test_held = λ y s u same. same.tops g (a_helper (helpers.TestOf d.kind)) its_test;
+            failure = function_there (z.home (a_helper (helpers.Throws Cast))) (helper_name (helpers.Throws Cast)) (helper_code (helpers.Throws Cast)).parameters (helper_code (helpers.Throws Cast)).body (helper_there g (helpers.Throws Cast) throws);
+            owned = ap (λ x. owner z.program x (helper_name (helpers.Throws Cast))) d.home ∙ reaches g (a_helper (helpers.Throws Cast)) throws;
+            held = λ y s u same. same.tops g (a_helper (helpers.Throws Cast)) throws;
+            reaches = reaches (z.home (a_helper (helpers.Throws Cast)));
+            built = d.built;
+            made = d.made;
+          }
 
       compared_here : (f : Name) → compares (z.has f) ≡ true → CanCompare place
       compared_here f l = let g = z.home (a_helper helpers.Equal) in record {
@@ -275,7 +306,7 @@ module _ (z : Spread) where
       target_here f m l = let same = (laws.among f).targets m in subst (IsTargetOf z.classes m) same (laws.objects.targets m (subst (λ (o : MemberName). all.received o ≡ true) (sym same) ((laws.among f).tops (a_method ((z.has f).target m)) l)))
 
       pub has_objects : HasObjects place
-      has_objects = record { linked = linked_here; received = runs_here; targets = target_here; built = constructs_here; made = made_here; objects = object_here; field = field_here; statics = static_here; checked = check_here; divided = divided_here; boxes = box_here; tested = tested_here; no_cast = can.casts; compared = compared_here; each = omega arith; beyond = omega arith }
+      has_objects = record { linked = linked_here; received = runs_here; targets = target_here; built = constructs_here; made = made_here; objects = object_here; field = field_here; statics = static_here; checked = check_here; divided = divided_here; boxes = box_here; tested = tested_here; cast = cast_here; compared = compared_here; each = omega arith; beyond = omega arith }
 
     -- the state behind the declarations
     module _ (t : js.State) (hold : AllHold z.program t 0 (all_items z)) where
@@ -337,7 +368,7 @@ module _ (z : Spread) where
       top_held f (a_static c g k) l = tt
       top_held f (a_setter c g k) l = let its = can.static_field f c g k (set_static (z.has f) c g k l) in (held_in (z.home (a_setter c g k)) (setter (setter_name c g) (static_name c g)) (subst (λ n. Stands z (a_setter c g k) (setter (setter_name c n) (static_name c n))) its.field.named its.setter)).1
       top_held f (a_test k) l = let d = can.tests f k l in let h = can.helper f (helpers.TestOf d.kind) d.helper in subst (λ g. t.tops g (test_name k) ≡ js.holds false (js.function g (test_name k))) (sym d.home) (subst (λ x. t.tops (z.home (a_helper (helpers.TestOf d.kind))) x ≡ js.holds false (js.function (z.home (a_helper (helpers.TestOf d.kind))) x)) (sym (test_named k d.kind d.its_kind)) (helper_held (helpers.TestOf d.kind) h.0 h.1))
-      top_held f (a_cast k) l = impossible (sym (can.casts f k) ∙ l)
+      top_held f (a_cast k) l = let d = can.casts f k l in let h = can.helper f (helpers.CastTo d.kind) d.helper in subst (λ g. t.tops g (cast_name k) ≡ js.holds false (js.function g (cast_name k))) (sym d.home) (subst (λ x. t.tops (z.home (a_helper (helpers.CastTo d.kind))) x ≡ js.holds false (js.function (z.home (a_helper (helpers.CastTo d.kind))) x)) (sym (cast_named k d.kind d.its_kind)) (helper_held (helpers.CastTo d.kind) h.0 h.1))
       top_held f (a_helper h) l = let k = can.helper f h l in helper_held h k.0 k.1
 
       -- the variable of a static field holds the zero of its type

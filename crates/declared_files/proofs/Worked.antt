@@ -40,7 +40,7 @@ use Rattle.sj_trees.specs.declared.types.IrType.{IrType}
 use Rattle.sj_trees.specs.declared.types.IrType.TheVariants.{Int, NoType}
 use Rattle.sj_world.specs.Subtypes.{equal}
 use Rattle.typing_rules.specs.Rules.{nothing_wanted, fitting, HasFieldType}
-use Rattle.declared_files.specs.Declared.{Leads, Stands, Uses, FunctionDeclared, ClassDeclared, extends_none, extends_one, MadeDeclared, StaticDeclared, Declared, IsAmong, IsPublic, IsLawful, all_items, TestDeclared}
+use Rattle.declared_files.specs.Declared.{Leads, Stands, Uses, FunctionDeclared, ClassDeclared, extends_none, extends_one, MadeDeclared, StaticDeclared, Declared, IsAmong, IsPublic, IsLawful, all_items, TestDeclared, CastDeclared}
 use Rattle.declared_files.specs.Placed.{Placed, placed}
 use Rattle.declared_files.specs.Worked.{main_file, class_file, object_file, main_use, class_use, use_of, three_files, spread}
 use Rattle.declared_files.proofs.Whole.{files_agree}
@@ -198,7 +198,7 @@ all_declared = record {
   field = by_file (λ f u. (c g : Name) (t : IrType) → u.field c g t ≡ true → IsField object_world c g t) (λ c g t h. impossible h) (λ c g t h. declared_alone.field c g t h) (λ f c g t h. impossible h);
   static_field = by_file (λ f u. (c g : Name) (t : IrType) → has_static u c g t ≡ true → StaticDeclared spread c g t) (λ c g t h. impossible h) (λ c g t h. impossible h) (λ f c g t h. impossible h);
   tests = by_file (λ f u. (t : IrType) → u.tests t ≡ true → TestDeclared spread f t) (λ t h. impossible h) (λ t h. impossible h) (λ f t h. impossible h);
-  casts = by_file (λ f u. (t : IrType) → u.casts t ≡ false) (λ t. refl) (λ t. refl) (λ f t. refl);
+  casts = by_file (λ f u. (t : IrType) → u.casts t ≡ true → CastDeclared spread f t) (λ t h. impossible h) (λ t h. impossible h) (λ f t h. impossible h);
   kept = declared_alone.kept;
   ancestors = λ k. [];
   helper = by_file (λ f u. (h : Helper) → u.helper (helper_name h) ≡ true → (is_covered h ≡ true) × Stands spread (a_helper h) (helper_item (λ k. []) h)) (λ h l. impossible l) (λ h l. impossible l) (λ f h l. impossible l);

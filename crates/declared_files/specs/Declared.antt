@@ -1,17 +1,17 @@
 -- What the code of bodies can use in a world, as the items of several files declare it.
 use Rattle.std.specs.Prelude.{◌≡◌, ℕ, true, false, List, [], ◌∷◌, ◌++◌, map, Option, Some, None, codes}
 use Rattle.std.specs.List.{Contains, list_all}
-use Rattle.body_soundness.specs.Laws.{ObjectLaws, null_pointer, arithmetic}
+use Rattle.body_soundness.specs.Laws.{ObjectLaws, null_pointer, arithmetic, class_cast}
 use Rattle.body_soundness.specs.Rules.{RightMember}
 use Rattle.built_forms.specs.Built.{Usable, has_static, divides}
 use Rattle.declared_programs.specs.Declared.{Running, alone, on_receiver, completing, running, is_covered, FieldsAreKept}
 use Rattle.helper_rules.specs.Helpers.{Above, helper_name, helper_item, used_helpers}
 use Rattle.helper_rules.specs.Words.{marker}
-use Rattle.helper_rules.specs.declared.kinds.Failure.TheVariants.{NullReceiver, Division}
+use Rattle.helper_rules.specs.declared.kinds.Failure.TheVariants.{NullReceiver, Division, Cast}
 use Rattle.helper_rules.specs.declared.kinds.Helper.{Helper}
 use Rattle.helper_rules.specs.declared.kinds.Kind.{Kind}
 use Rattle.sj_calls.specs.Helpers.{kind_of}
-use Rattle.helper_rules.specs.declared.kinds.Helper.TheVariants.{Throws, TestOf}
+use Rattle.helper_rules.specs.declared.kinds.Helper.TheVariants.{Throws, TestOf, CastTo}
 use Rattle.ir_mean.specs.Dispatch.{chain_of}
 use Rattle.ir_mean.specs.Meaning.{with_message}
 use Rattle.ir_mean.specs.World.{World, class_of}
@@ -28,7 +28,7 @@ use Rattle.sj_names.specs.Same.{is_same_text}
 use Rattle.sj_names.specs.declared.entry_points.EntryPoint.{EntryPoint}
 use Rattle.sj_names.specs.declared.method_names.Member.{Member as MemberName}
 use Rattle.sj_names.specs.declared.method_names.Namespace.TheVariants.{Constructor}
-use Rattle.sj_plain.specs.Settings.{Top, a_function, a_method, a_constructor, a_class, some_constants, a_static, a_setter, a_test, a_helper, top_name, is_usable, is_named, IsField, IsStaticField}
+use Rattle.sj_plain.specs.Settings.{Top, a_function, a_method, a_constructor, a_class, some_constants, a_static, a_setter, a_test, a_cast, a_helper, top_name, is_usable, is_named, IsField, IsStaticField}
 use Rattle.sj_proper.specs.Emitted.{initializer_member, call_item_of}
 use Rattle.sj_trees.specs.declared.classes.ClassDef.{ClassDef}
 use Rattle.sj_trees.specs.declared.classes.FieldDef.{FieldDef}
@@ -112,8 +112,17 @@ pub record TestDeclared (z : Spread) (f : Name) (t : IrType) : Type 0 where
   pub helper : (z.has f).helper (helper_name (TestOf kind)) ≡ true
   pub home : z.home (a_test t) ≡ z.home (a_helper (TestOf kind))
 
+-- a primitive type to which the code of this file can cast: the cast is the helper of its kind, and the file of what a cast throws can use the exception
+pub record CastDeclared (z : Spread) (f : Name) (t : IrType) : Type 0 where
+  pub kind : Kind
+  pub its_kind : kind_of t ≡ Some kind
+  pub helper : (z.has f).helper (helper_name (CastTo kind)) ≡ true
+  pub home : z.home (a_cast t) ≡ z.home (a_helper (CastTo kind))
+  pub made : Uses z (a_helper (Throws Cast)) (a_class class_cast)
+  pub built : Uses z (a_helper (Throws Cast)) (a_constructor (member class_cast Constructor with_message))
+
 -- all that the code of some file can use is declared, and its file leads to what it names: each member as it runs, a constructor without a value; each class that is
--- made; each field and each static field; tests of primitive types, and no cast that calls a function; and each helper, whose file can use those that it uses, and that of
+-- made; each field and each static field; tests of primitive types and casts to them; and each helper, whose file can use those that it uses, and that of
 -- a failure the exception of it
 pub record Declared (z : Spread) : Type 0 where
   pub leads : (f : Name) (t : Top) → is_named (z.has f) t ≡ true → Leads z f t
@@ -124,7 +133,7 @@ pub record Declared (z : Spread) : Type 0 where
   pub field : (f c g : Name) (t : IrType) → (z.has f).field c g t ≡ true → IsField z.classes c g t
   pub static_field : (f c g : Name) (t : IrType) → has_static (z.has f) c g t ≡ true → StaticDeclared z c g t
   pub tests : (f : Name) (t : IrType) → (z.has f).tests t ≡ true → TestDeclared z f t
-  pub casts : (f : Name) (t : IrType) → (z.has f).casts t ≡ false
+  pub casts : (f : Name) (t : IrType) → (z.has f).casts t ≡ true → CastDeclared z f t
   pub kept : FieldsAreKept z.classes
   pub ancestors : Above
   pub helper : (f : Name) (h : Helper) → (z.has f).helper (helper_name h) ≡ true → (is_covered h ≡ true) × Stands z (a_helper h) (helper_item ancestors h)

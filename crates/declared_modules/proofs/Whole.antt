@@ -333,7 +333,7 @@ modules_declare entries files l all live written modules ps front last declared 
   field = λ f. field_there l.world;
   static_field = static_declared entries files l all live written modules ps front last declared bytes a bodies p are_live run owned covered together whole stand;
   tests = λ f t h. impossible h;
-  casts = λ f t. refl;
+  casts = λ f t h. impossible h;
   kept = fields_kept entries files l.world bytes a;
   ancestors = p.above;
   helper = λ f h e. let u = its_helper f h e in (covered h u.is_written.among_helpers, helper_stands entries files l all live written modules ps front last declared bytes a bodies p are_live run owned covered together whole stand h u);

@@ -338,7 +338,7 @@ pieces_declare entries files l all live written ps bytes a bodies p are_live run
   field = field_there l.world;
   static_field = static_declared entries files l all live written ps bytes a bodies p are_live run owned;
   tests = λ t h. impossible h;
-  casts = λ t. refl;
+  casts = λ t h. impossible h;
   kept = fields_kept entries files l.world bytes a;
   ancestors = p.above;
   helper = λ h e. let i = written_there h e in (covered h i.among_helpers, helper_here entries files l all live written ps bytes a bodies p are_live run owned h i);

@@ -16,9 +16,10 @@ use Rattle.file_tops.proofs.Run.{some_same}
 use Rattle.file_tops.specs.Tops.{literal_value, literal_properties, link}
 use Rattle.helper_rules.specs.Helpers.{helper_name, helper_item, used_helpers, constants, marker_property, box_constructor}
 use Rattle.helper_rules.specs.Words.{class_name, constants_name, marker}
-use Rattle.helper_rules.specs.declared.kinds.Failure.TheVariants.{NullReceiver, Division}
+use Rattle.helper_rules.specs.declared.kinds.Failure.TheVariants.{NullReceiver, Division, Cast}
 use Rattle.helper_rules.specs.declared.kinds.Helper.{Helper}
 use Rattle.helper_rules.specs.declared.kinds.Helper.TheVariants as helpers
+use Rattle.helper_rules.specs.declared.kinds.Kind.{Kind}
 use Rattle.helper_rules.specs.declared.kinds.Kind.TheVariants as kinds
 use Rattle.ir_mean.specs.Dispatch.{chain_of, chain_from, longest}
 use Rattle.ir_mean.specs.World as ir_world
@@ -36,13 +37,14 @@ use Rattle.piece_rules.specs.Pieces.{class_item_of, constructor_body, setter, ze
 use Rattle.sj_calls.proofs.Shapes.{stands_there, zero_alike}
 use Rattle.sj_calls.proofs.Whole.{module_there, own_name, alone, place_of}
 use Rattle.sj_calls.specs.Chains as chains
+use Rattle.sj_calls.proofs.Casting.{cast_named}
 use Rattle.sj_calls.proofs.Testing.{test_named}
 use Rattle.sj_calls.specs.Helpers.{HelperStands, BoxStands, ReachesBoxes, CanTest, CanCompare, helper_code, failing_code, checking_code, division_code}
 use Rattle.sj_calls.specs.Methods.{Linked, parameters_in, function_of}
 use Rattle.sj_calls.specs.Objects.{RunsOn, Constructs, function_on, body_of}
 use Rattle.sj_calls.specs.Objects as on_objects
 use Rattle.sj_calls.specs.Made.{zero_value}
-use Rattle.sj_calls.specs.Worlds.{IsMade, CanCheck, CanDivide, StaticStands, setter_code, HasObjects}
+use Rattle.sj_calls.specs.Worlds.{IsMade, CanCheck, CanDivide, CanCast, StaticStands, setter_code, HasObjects}
 use Rattle.sj_core.specs.Terms.{named, receiver}
 use Rattle.sj_desugar.specs.Desugar.{is_mutable_in, names_of, body_code, completed, desugared_member}
 use Rattle.sj_emit_expr.specs.Members.{with_receiver, member_piece}
@@ -300,13 +302,41 @@ module _ (w : ir_world.World) (f : Name) (has : Usable) (is : List Item) (es : L
       boxes_here : has.helper (helper_name helpers.BoxedChar) ≡ true → ReachesBoxes place f
       boxes_here l = record { reached = own_name f module_here (helper_name helpers.BoxedChar) refl; user = f; usable = l }
 
+      -- the test of a kind, and that of chars with the class of objects that hold them
+      kind_test_here : (k : Kind) → has.helper (helper_name (helpers.TestOf k)) ≡ true → HelperStands place (helpers.TestOf k) (helper_code (helpers.TestOf k))
+      kind_test_here k l = function_there (helper_name (helpers.TestOf k)) (helper_code (helpers.TestOf k)).parameters (helper_code (helpers.TestOf k)).body (failing_here (helpers.TestOf k) l)
+
+      test_boxes_here : (k : Kind) → has.helper (helper_name (helpers.TestOf k)) ≡ true → k ≡ kinds.Char → ReachesBoxes place f
+      test_boxes_here k l e = boxes_here (can.helpers (helpers.TestOf k) helpers.BoxedChar l (subst (λ k. Contains (used_helpers (helpers.TestOf k)) helpers.BoxedChar) (sym e) (at_front helpers.BoxedChar [])))
+
       tested_here : (t : IrType) → has.tests t ≡ true → CanTest place t
       tested_here t l = let d = can.tests t l in record {
         kind = d.kind;
         its_kind = d.its_kind;
-        test = ap (js_meaning.code_of program f) (test_named t d.kind d.its_kind) ∙ function_there (helper_name (helpers.TestOf d.kind)) (helper_code (helpers.TestOf d.kind)).parameters (helper_code (helpers.TestOf d.kind)).body (failing_here (helpers.TestOf d.kind) d.helper);
-        boxes = λ e. boxes_here (can.helpers (helpers.TestOf d.kind) helpers.BoxedChar d.helper (subst (λ k. Contains (used_helpers (helpers.TestOf k)) helpers.BoxedChar) (sym e) (at_front helpers.BoxedChar [])));
+        test = ap (js_meaning.code_of program f) (test_named t d.kind d.its_kind) ∙ kind_test_here d.kind d.helper;
+        boxes = test_boxes_here d.kind d.helper;
       }
+
+      cast_here : (t : IrType) → has.casts t ≡ true → CanCast place t
+      cast_here t l =
+          let d = can.casts t l in
+          let its_test = can.helpers (helpers.CastTo d.kind) (helpers.TestOf d.kind) d.helper (at_front (helpers.TestOf d.kind) (helpers.Throws Cast ∷ [])) in
+          let throws = can.helpers (helpers.CastTo d.kind) (helpers.Throws Cast) d.helper (further_on (helpers.TestOf d.kind) (helpers.Throws Cast ∷ []) (helpers.Throws Cast) (at_front (helpers.Throws Cast) [])) in
+          record {
+            kind = d.kind;
+            its_kind = d.its_kind;
+            cast = ap (js_meaning.code_of program f) (cast_named t d.kind d.its_kind) ∙ function_there (helper_name (helpers.CastTo d.kind)) (helper_code (helpers.CastTo d.kind)).parameters (helper_code (helpers.CastTo d.kind)).body (failing_here (helpers.CastTo d.kind) d.helper);
+            test = kind_test_here d.kind its_test;
+            boxes = test_boxes_here d.kind its_test;
+            test_owned = own_name f module_here (helper_name (helpers.TestOf d.kind)) refl;
+            test_held = λ y s u same. same.tops f (a_helper (helpers.TestOf d.kind)) its_test;
+            failure = function_there (helper_name (helpers.Throws Cast)) (helper_code (helpers.Throws Cast)).parameters (helper_code (helpers.Throws Cast)).body (failing_here (helpers.Throws Cast) throws);
+            owned = own_name f module_here (helper_name (helpers.Throws Cast)) refl;
+            held = λ y s u same. same.tops f (a_helper (helpers.Throws Cast)) throws;
+            reaches = reaches;
+            built = (laws.casts t l).1;
+            made = (laws.casts t l).0;
+          }
 
       compared_here : compares has ≡ true → CanCompare place
       compared_here l = record {
@@ -315,7 +345,7 @@ module _ (w : ir_world.World) (f : Name) (has : Usable) (is : List Item) (es : L
       }
 
       pub has_objects : HasObjects place
-      has_objects = record { linked = λ g m l. linked_here m l; received = λ g m l. runs_here m l; targets = λ g m l. laws.targets m l; built = λ g m l. constructs_here m l; made = λ g c l. made_here c l; objects = λ g c l. object_here c l; field = λ g c x t l. field_here c x t l; statics = λ g c x t l. static_here c x t l; checked = λ g l. check_here l; divided = λ g o l. divided_here o l; boxes = λ g l. box_here l; tested = λ g t l. tested_here t l; no_cast = λ g t. can.casts t; compared = λ g l. compared_here l; each = omega arith; beyond = omega arith }
+      has_objects = record { linked = λ g m l. linked_here m l; received = λ g m l. runs_here m l; targets = λ g m l. laws.targets m l; built = λ g m l. constructs_here m l; made = λ g c l. made_here c l; objects = λ g c l. object_here c l; field = λ g c x t l. field_here c x t l; statics = λ g c x t l. static_here c x t l; checked = λ g l. check_here l; divided = λ g o l. divided_here o l; boxes = λ g l. box_here l; tested = λ g t l. tested_here t l; cast = λ g t l. cast_here t l; compared = λ g l. compared_here l; each = omega arith; beyond = omega arith }
 
     -- the state behind the declarations
     module _ (t : js.State) (hold : AllHold f t 0 is) where
@@ -374,7 +404,7 @@ module _ (w : ir_world.World) (f : Name) (has : Usable) (is : List Item) (es : L
       top_held (a_static c g k) l = tt
       top_held (a_setter c g k) l = let its = can.static_field c g k (set_static has c g k l) in (held_in (setter (setter_name c g) (static_name c g)) (subst (λ n. Contains is (setter (setter_name c n) (static_name c n))) its.field.named its.setter)).1
       top_held (a_test k) l = let d = can.tests k l in let h = can.helper (helpers.TestOf d.kind) d.helper in subst (λ x. t.tops f x ≡ js.holds false (js.function f x)) (sym (test_named k d.kind d.its_kind)) (helper_held (helpers.TestOf d.kind) h.0 h.1)
-      top_held (a_cast k) l = impossible (sym (can.casts k) ∙ l)
+      top_held (a_cast k) l = let d = can.casts k l in let h = can.helper (helpers.CastTo d.kind) d.helper in subst (λ x. t.tops f x ≡ js.holds false (js.function f x)) (sym (cast_named k d.kind d.its_kind)) (helper_held (helpers.CastTo d.kind) h.0 h.1)
       top_held (a_helper h) l = let k = can.helper h l in helper_held h k.0 k.1
 
       -- the variable of a static field holds the zero of its type

@@ -6,7 +6,7 @@ use Rattle.built_forms.specs.Built.{Usable, has_static}
 use Rattle.helper_rules.specs.Helpers.{Above, helper_name, helper_item, used_helpers}
 use Rattle.helper_rules.specs.Words.{marker}
 use Rattle.helper_rules.specs.declared.kinds.Helper.{Helper}
-use Rattle.helper_rules.specs.declared.kinds.Helper.TheVariants.{ConstantsOf, ArrayClass, TestOf}
+use Rattle.helper_rules.specs.declared.kinds.Helper.TheVariants.{ConstantsOf, ArrayClass, TestOf, CastTo}
 use Rattle.helper_rules.specs.declared.kinds.Kind.{Kind}
 use Rattle.helper_rules.specs.declared.kinds.Kind.TheVariants as kinds
 use Rattle.ir_mean.specs.Dispatch.{chain_of}
@@ -100,8 +100,14 @@ pub record TestDeclared (has : Usable) (t : IrType) : Type 0 where
   pub its_kind : kind_of t ≡ Some kind
   pub helper : has.helper (helper_name (TestOf kind)) ≡ true
 
+-- a primitive type to which code can cast: the cast is the helper of its kind
+pub record CastDeclared (has : Usable) (t : IrType) : Type 0 where
+  pub kind : Kind
+  pub its_kind : kind_of t ≡ Some kind
+  pub helper : has.helper (helper_name (CastTo kind)) ≡ true
+
 -- all that can be used is declared by these items: each member as it runs, a constructor without a value; each class that is made; each field and each static field; tests
--- of primitive types, and no cast that calls a function; and each helper, with those that it uses
+-- of primitive types and casts to them; and each helper, with those that it uses
 pub record Declared (w : World) (has : Usable) (is : List Item) : Type 0 where
   pub linked : (m : MemberName) → has.linked m ≡ true → FunctionDeclared w has is alone m
   pub received : (m : MemberName) → has.received m ≡ true → FunctionDeclared w has is on_receiver m
@@ -110,7 +116,7 @@ pub record Declared (w : World) (has : Usable) (is : List Item) : Type 0 where
   pub field : (c f : Name) (t : IrType) → has.field c f t ≡ true → IsField w c f t
   pub static_field : (c f : Name) (t : IrType) → has_static has c f t ≡ true → StaticDeclared w is c f t
   pub tests : (t : IrType) → has.tests t ≡ true → TestDeclared has t
-  pub casts : (t : IrType) → has.casts t ≡ false
+  pub casts : (t : IrType) → has.casts t ≡ true → CastDeclared has t
   pub kept : FieldsAreKept w
   pub ancestors : Above
   pub helper : (h : Helper) → has.helper (helper_name h) ≡ true → (is_covered h ≡ true) × Contains is (helper_item ancestors h)

@@ -1,9 +1,10 @@
 -- An object that holds a char is an instance of the class of such objects, and no other value is one.
 use Rattle.std.proofs.Common.{◌≡◌, ℕ, Bool, true, false, ◌&&◌, ◌||◌, List, [], ◌∷◌, map, slice_get, Option, Some, refl, ap, ◌∙◌}
+use Rattle.std.specs.Prelude.{codes, pos}
 use Rattle.std.proofs.lemmas.Bool.{and_from}
 use Rattle.ir_mean.specs.Dispatch.{chain_of}
 use Rattle.ir_mean.specs.States as ir
-use Rattle.js_mean.specs.Objects.{is_below, stored_below, is_instance}
+use Rattle.js_mean.specs.Objects.{is_below, stored_below, is_instance, property, stored_property, or_value, value_on, method_on}
 use Rattle.js_mean.specs.Operators.{is_same_class}
 use Rattle.js_mean.specs.States as js
 use Rattle.js_tree.specs.Terms.{Name}
@@ -37,6 +38,10 @@ module _ (p : Place) where
     -- what stands at the address of an object that holds a char
     pub box_there : (c a : ℕ) (b : IsBox w c a) → slice_get u.heap a ≡ Some (js.plain boxes b.properties)
     box_there c a b = same.heaps.owned a (js.plain w.boxes b.properties) b.owned ∙ ap (λ ls. Some (js.plain ls b.properties)) same.heaps.boxes
+
+    -- the char that it holds
+    pub unit_held : (c a : ℕ) → IsBox w c a → property p.program u (js.object a) (codes "c") ≡ Some (js.number (pos c))
+    unit_held c a b = ap (λ o. stored_property p.program o (codes "c")) (box_there c a b) ∙ ap (λ v. value_on (or_value v (method_on p.program boxes (codes "c"))) (codes "c")) b.char
 
     pub box_below : (c a : ℕ) → IsBox w c a → stored_below (slice_get u.heap a) boxes ≡ true
     box_below c a b = ap (λ o. stored_below o boxes) (box_there c a b) ∙ ap (λ t. t || false) box_itself

@@ -1,5 +1,6 @@
 -- Helpers that fail: an exception is made and thrown on both sides; and the null check.
 use Rattle.std.proofs.Common.{◌≡◌, ℕ, suc, Bool, true, false, List, [], ◌∷◌, Some, Option, refl, sym, ap, ◌∙◌, subst}
+use mathlib.Core.Path.{fun_ext}
 use Rattle.std.specs.Prelude.{codes}
 use Rattle.outcomes.specs.Outcome.{Out, done, then_do}
 use Rattle.outcomes.specs.Agreement.{Direction, Sim}
@@ -38,13 +39,32 @@ use Rattle.sj_calls.specs.Helpers.{failing_code, checking_code, HelperStands, Fa
 abbrev pub in_helper : Place → Helper → Code
 in_helper p h = record { file = p.home (a_helper h); owner = codes "java.lang.Object"; sure = λ x. false }
 
-module _ (d : Direction) (p : Place) (h : Helper) (low : ir_meaning.Low) (n : ℕ) (e message : List ℕ) where
+-- on these values the function of the helper runs as the one that throws this exception
+abbrev pub FailsAs : Place → Helper → List js.Value → List ℕ → List ℕ → Type 0
+FailsAs p h xs e message = (n : ℕ) (u : js.State) → top_call p (js_meaning.below p.program n) (a_helper h) xs u ≡ js_meaning.code_call (js_meaning.below p.program n) (p.home (a_helper h)) (Some (failing_code e message)) [] u
+
+pub fails_itself : (p : Place) (h : Helper) (e message : List ℕ) → HelperStands p h (failing_code e message) → FailsAs p h [] e message
+fails_itself p h e message stands n u = ap (λ o. js_meaning.code_call (js_meaning.below p.program n) (p.home (a_helper h)) o [] u) stands
+
+-- what is thrown in a function is thrown by its call
+abbrev pub throws_it : js.Scope → js.Value → js.State → Out js.StatementEnd
+throws_it sc v u = done (js.ends (js.thrown_with v) sc u)
+
+abbrev pub thrown_on : js.ExpressionEnd → Out js.ExpressionEnd
+thrown_on (js.gives v u) = done (js.throws v u)
+thrown_on (js.throws v u) = done (js.throws v u)
+
+pub throws_on : (sc : js.Scope) (o : Out js.ExpressionEnd) → then_do (then_do (then_do o (js.in_statement sc (throws_it sc))) (js.next_statement js_meaning.nothing)) js_meaning.returned ≡ then_do o thrown_on
+throws_on sc o = ap (λ q. then_do q js_meaning.returned) (then_do-associative o (js.in_statement sc (throws_it sc)) (js.next_statement js_meaning.nothing)) ∙ then_do-associative o (λ b. then_do (js.in_statement sc (throws_it sc) b) (js.next_statement js_meaning.nothing)) js_meaning.returned ∙ ap (then_do o) (fun_ext each)
+  where
+    each : (b : js.ExpressionEnd) → then_do (then_do (js.in_statement sc (throws_it sc) b) (js.next_statement js_meaning.nothing)) js_meaning.returned ≡ thrown_on b
+    each (js.gives v u) = refl
+    each (js.throws v u) = refl
+
+module _ (d : Direction) (p : Place) (h : Helper) (low : ir_meaning.Low) (n : ℕ) (xs : List js.Value) (e message : List ℕ) where
   -- where the code of the helper runs, with a unit less
   abbrev inside : Setting
   inside = record { place = p; code = in_helper p h; direction = d; is_mutable = λ x. false; low = low; js_low = js_meaning.below p.program n }
-
-  abbrev throws_it : js.Scope → js.Value → js.State → Out js.StatementEnd
-  throws_it sc v u = done (js.ends (js.thrown_with v) sc u)
 
   abbrev scope : js.Scope
   scope = js_meaning.function_scope (p.home (a_helper h)) (failing_code e message) []
@@ -53,7 +73,7 @@ module _ (d : Direction) (p : Place) (h : Helper) (low : ir_meaning.Low) (n : �
   abbrev made : core.Expression
   made = core.made_of (member e Constructor ir_meaning.with_message) (expressions_of (core.text_value message ∷ []))
 
-  then_thrown : (w : World) (env : ir.Env) → Fits Any (class_type e) → (a : ir.Ended) (b : js.ExpressionEnd) → Valued p w env (class_type e) a b → Sim d (Failed p w env) (ir.onward (λ v. ir_meaning.throw_value (v ∷ [])) a) (then_do (then_do (js.in_statement scope (throws_it scope) b) (js.next_statement js_meaning.nothing)) js_meaning.returned)
+  then_thrown : (w : World) (env : ir.Env) → Fits Any (class_type e) → (a : ir.Ended) (b : js.ExpressionEnd) → Valued p w env (class_type e) a b → Sim d (Failed p w env) (ir.onward (λ v. ir_meaning.throw_value (v ∷ [])) a) (thrown_on b)
   then_thrown w env f _ _ (valued y v x s u g a same) = sim_done d (Failed p w env) (ir.ends (ir.throws v) env s) (js.throws x u) (failed_so y v x s u g (value-fits y Any (class_type e) v x f a) same)
   then_thrown w env f _ _ (thrown y v x s u g a same) = sim_done d (Failed p w env) (ir.ends (ir.throws v) env s) (js.throws x u) (failed_so y v x s u g a same)
 
@@ -61,17 +81,11 @@ module _ (d : Direction) (p : Place) (h : Helper) (low : ir_meaning.Low) (n : �
   message_alike w env = more_operands String (ir.given (ir.text message)) (core.text_value message) [] [] [] refl (λ y s u g same. sim_done d (Valued p y env String) (ir.ends (ir.gives (ir.text message)) env s) (js.gives (js.text message) u) (valued y (ir.text message) (js.text message) s u (grows-refl y) (record { stands = same_text message; suits = refl }) same)) no_operands
 
   -- an exception is made and thrown: by the IR, and by the function of a helper
-  pub fails_alike : Based inside → HelperStands p h (failing_code e message) → (usable inside).built (member e Constructor ir_meaning.with_message) ≡ true → (usable inside).made e ≡ true → is_bare (class_type e) ≡ false → Fits Any (class_type e) → (w : World) (env : ir.Env) (s : ir.State) (u : js.State) → SameState p w s u → Sim d (Failed p w env) (ir_meaning.raise p.classes low e message env s) (top_call p (js_meaning.below p.program (suc n)) (a_helper h) [] u)
-  fails_alike law stands built is_made bare f w env s u same = subst (λ o. Sim d (Failed p w env) (ir_meaning.raise p.classes low e message env s) o) (sym js_is) (sim_then d (Valued p w env (class_type e)) (Failed p w env) (ir_meaning.construct p.classes low e ir_meaning.with_message (ir.text message ∷ []) env s) (shown inside made scope u) (ir.onward (λ v. ir_meaning.throw_value (v ∷ []))) behind (new_alike inside law e ir_meaning.with_message (String ∷ []) (ir.given (ir.text message) ∷ []) (core.text_value message ∷ []) (core.text_value message ∷ []) refl built is_made bare (refl, tt) w env s scope u (record { file = refl; free = λ y none. refl }) (message_alike w env) same) (then_thrown w env f))
+  pub fails_alike : Based inside → FailsAs p h xs e message → (usable inside).built (member e Constructor ir_meaning.with_message) ≡ true → (usable inside).made e ≡ true → is_bare (class_type e) ≡ false → Fits Any (class_type e) → (w : World) (env : ir.Env) (s : ir.State) (u : js.State) → SameState p w s u → Sim d (Failed p w env) (ir_meaning.raise p.classes low e message env s) (top_call p (js_meaning.below p.program (suc n)) (a_helper h) xs u)
+  fails_alike law fails built is_made bare f w env s u same = subst (λ o. Sim d (Failed p w env) (ir_meaning.raise p.classes low e message env s) o) (sym js_is) (sim_then d (Valued p w env (class_type e)) (Failed p w env) (ir_meaning.construct p.classes low e ir_meaning.with_message (ir.text message ∷ []) env s) (shown inside made scope u) (ir.onward (λ v. ir_meaning.throw_value (v ∷ []))) thrown_on (new_alike inside law e ir_meaning.with_message (String ∷ []) (ir.given (ir.text message) ∷ []) (core.text_value message ∷ []) (core.text_value message ∷ []) refl built is_made bare (refl, tt) w env s scope u (record { file = refl; free = λ y none. refl }) (message_alike w env) same) (then_thrown w env f))
     where
-      behind : js.ExpressionEnd → Out js.ExpressionEnd
-      behind b = then_do (then_do (js.in_statement scope (throws_it scope) b) (js.next_statement js_meaning.nothing)) js_meaning.returned
-
-      regrouped : (o : Out js.ExpressionEnd) → then_do (then_do (then_do o (js.in_statement scope (throws_it scope))) (js.next_statement js_meaning.nothing)) js_meaning.returned ≡ then_do o behind
-      regrouped o = ap (λ q. then_do q js_meaning.returned) (then_do-associative o (js.in_statement scope (throws_it scope)) (js.next_statement js_meaning.nothing)) ∙ then_do-associative o (λ b. then_do (js.in_statement scope (throws_it scope) b) (js.next_statement js_meaning.nothing)) js_meaning.returned
-
-      js_is : top_call p (js_meaning.below p.program (suc n)) (a_helper h) [] u ≡ then_do (shown inside made scope u) behind
-      js_is = ap (λ o. js_meaning.code_call (js_meaning.below p.program (suc n)) (p.home (a_helper h)) o [] u) stands ∙ regrouped (shown inside made scope u)
+      js_is : top_call p (js_meaning.below p.program (suc n)) (a_helper h) xs u ≡ then_do (shown inside made scope u) thrown_on
+      js_is = fails (suc n) u ∙ throws_on scope (shown inside made scope u)
 
 two_grouped : {A B C : Type 0} (o : Out A) (a : A → Out B) (b : B → Out C) → then_do (then_do o a) b ≡ then_do o (λ x. then_do (a x) b)
 two_grouped o a b = then_do-associative o a b
@@ -125,9 +139,12 @@ module _ (p : Place) where
       around : Out js.ExpressionEnd → Out js.ExpressionEnd
       around o = then_do (then_do (then_do (then_do (then_do (then_do o (js.with_value (λ f. js_meaning.in_order [] (js_meaning.call p.program (js_meaning.below p.program m) f) (js_meaning.enter failing_block (check_scope js.null))))) (js.in_statement (js_meaning.enter failing_block (check_scope js.null)) (λ v. js_meaning.nothing (js_meaning.enter failing_block (check_scope js.null))))) (js.next_statement js_meaning.nothing)) (js_meaning.leaving failing_block (check_scope js.null))) (js.next_statement (js_meaning.execute_all p.program (js_meaning.below p.program m) hands_back))) js_meaning.returned
 
--- what the helper that fails does on both sides, where its function has this bound
+-- what the helper that fails does on both sides, where its function has these values and this bound
+abbrev pub FailsOn : Direction → Place → ir_meaning.Low → ℕ → Helper → List js.Value → List ℕ → List ℕ → Type 0
+FailsOn d p low m h xs e message = (w : World) (env : ir.Env) (s : ir.State) (u : js.State) → SameState p w s u → Sim d (Failed p w env) (ir_meaning.raise p.classes low e message env s) (top_call p (js_meaning.below p.program m) (a_helper h) xs u)
+
 abbrev pub FailsAt : Direction → Place → ir_meaning.Low → ℕ → Helper → List ℕ → List ℕ → Type 0
-FailsAt d p low m h e message = (w : World) (env : ir.Env) (s : ir.State) (u : js.State) → SameState p w s u → Sim d (Failed p w env) (ir_meaning.raise p.classes low e message env s) (top_call p (js_meaning.below p.program m) (a_helper h) [] u)
+FailsAt d p low m h e message = FailsOn d p low m h [] e message
 
 module _ (d : Direction) (p : Place) (low : ir_meaning.Low) (m : ℕ) (stands : HelperStands p NotNull checking_code) (owned : owner p.program (p.home (a_helper NotNull)) (helper_name (Throws NullReceiver)) ≡ Some (p.home (a_helper (Throws NullReceiver)))) (fails : FailsAt d p low m (Throws NullReceiver) (codes "java.lang.NullPointerException") (codes "null")) where
   -- the null check of a value, and its helper

@@ -1,6 +1,7 @@
 pub mod Boxed
 pub mod Boxing
 pub mod Calls
+pub mod Casting
 pub mod Chains
 pub mod Items
 pub mod Helps

@@ -15,7 +15,7 @@ use Rattle.ir_mean.specs.Operators.{binary_value, is_same_value}
 use Rattle.ir_mean.specs.States as ir
 use Rattle.js_mean.specs.Files.{owner}
 use Rattle.js_mean.specs.Meaning as js_meaning
-use Rattle.js_mean.specs.Objects.{is_instance, property, stored_property, or_value, value_on, method_on}
+use Rattle.js_mean.specs.Objects.{is_instance, property}
 use Rattle.js_mean.specs.Operators.{is_strictly_equal}
 use Rattle.js_mean.specs.States as js
 use Rattle.js_tree.specs.Terms.{Name, no_statements}
@@ -28,7 +28,7 @@ use Rattle.sj_plain.proofs.Operators.{same-boolean}
 use Rattle.sj_plain.proofs.Tests.{same_is}
 use Rattle.sj_plain.proofs.Worlds.{World, grows-refl, SameValue, IsBox, Stands, same_boolean, same_char, same_box, same_reference}
 use Rattle.sj_calls.specs.Helpers.{helper_code, CanCompare}
-use Rattle.sj_calls.proofs.Boxed.{is_unit, boxes, box_there, told_boxed}
+use Rattle.sj_calls.proofs.Boxed.{is_unit, boxes, unit_held, told_boxed}
 
 -- two tests of which each passes where the other does
 pub both_pass : (t r : Bool) → (t ≡ true → r ≡ true) → (r ≡ true → t ≡ true) → t ≡ r
@@ -82,10 +82,6 @@ module _ (p : Place) (can : CanCompare p) (w : World) (s : ir.State) (u : js.Sta
   stand : js_meaning.top_cell (owner p.program (p.home (a_helper Equal)) (helper_name BoxedChar)) (helper_name BoxedChar) u ≡ js.holds false (js.class (boxes p))
   stand = ap (λ (o : Option Name). js_meaning.top_cell o (helper_name BoxedChar) u) can.boxes.reached ∙ same.tops can.boxes.user (a_helper BoxedChar) can.boxes.usable
 
-  -- the char that an object holds
-  unit_held : (c a : ℕ) → IsBox w c a → property p.program u (js.object a) (codes "c") ≡ Some (js.number (pos c))
-  unit_held c a b = ap (λ o. stored_property p.program o (codes "c")) (box_there p w s u same c a b) ∙ ap (λ v. value_on (or_value v (method_on p.program (boxes p) (codes "c"))) (codes "c")) b.char
-
   -- but for two chars, what the emitted code compares is the same where the values are
   strictly : (v v' : ir.Value) (x x' : js.Value) → Stands w false v x → Stands w false v' x' → (is_unit v && is_unit v') ≡ false → is_strictly_equal x x' ≡ is_same_value v v'
   strictly _ _ _ _ (same_char r c f) b h = impossible r
@@ -108,7 +104,7 @@ module _ (p : Place) (can : CanCompare p) (w : World) (s : ir.State) (u : js.Sta
     by_value v v' x x' a b h = equality_is p m u x x' stand (is_unit v) (is_unit v') (told_boxed p w s u same v x a) (told_boxed p w s u same v' x' b) ∙ ap (λ t. chosen p m u x x' stand (js.boolean t)) h ∙ ap (λ t. done (js.gives (js.boolean t) u)) (strictly v v' x x' a b h)
 
     by_unit : (c d a b : ℕ) → IsBox w c a → IsBox w d b → (x : Stands w false (ir.char c) (js.object a)) (y : Stands w false (ir.char d) (js.object b)) → Tells (ir.char c) (ir.char d) (js.object a) (js.object b)
-    by_unit c d a b i j x y = equality_is p m u (js.object a) (js.object b) stand true true (told_boxed p w s u same (ir.char c) (js.object a) x) (told_boxed p w s u same (ir.char d) (js.object b) y) ∙ units_are p m u (js.object a) (js.object b) stand c d (unit_held c a i) (unit_held d b j) ∙ ap (λ t. done (js.gives (js.boolean t) u)) (same_units_are c d)
+    by_unit c d a b i j x y = equality_is p m u (js.object a) (js.object b) stand true true (told_boxed p w s u same (ir.char c) (js.object a) x) (told_boxed p w s u same (ir.char d) (js.object b) y) ∙ units_are p m u (js.object a) (js.object b) stand c d (unit_held p w s u same c a i) (unit_held p w s u same d b j) ∙ ap (λ t. done (js.gives (js.boolean t) u)) (same_units_are c d)
 
     tells : (v v' : ir.Value) (x x' : js.Value) → Stands w false v x → Stands w false v' x' → Tells v v' x x'
     tells _ _ _ _ (same_box r c a f i) (same_box q d b g j) = by_unit c d a b i j (same_box r c a f i) (same_box q d b g j)

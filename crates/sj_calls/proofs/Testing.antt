@@ -73,20 +73,27 @@ short_small (negsuc n) = and_true (leb n 32767) ∙ both_pass (leb n 32767) (int
     below : FitsSigned w16 (negsuc n) → n ≤ 32767
     below f = let l = f.sfits in omega arith
 
-named : (name : Name) (own k : Kind) → ◌≡◌ {A = Option Kind} (Some own) (Some k) → name ≡ helper_name (TestOf own) → name ≡ helper_name (TestOf k)
-named name own k e is = let same : own ≡ k = cc in subst (λ q. name ≡ helper_name (TestOf q)) same is
+-- what holds of each primitive type and its kind holds where the kind is that of the type
+pub each_kind : (P : IrType → Kind → Type 0) → P Undefined kinds.Undefined → P Boolean kinds.Boolean → P Char kinds.Char → P Byte kinds.Byte → P Short kinds.Short → P Int kinds.Int → P Long kinds.Long → P String kinds.Text → (t : IrType) (k : Kind) → kind_of t ≡ Some k → P t k
+each_kind P undefined boolean char byte short int long text = by
+  where
+    at_kind : (t : IrType) (own k : Kind) → ◌≡◌ {A = Option Kind} (Some own) (Some k) → P t own → P t k
+    at_kind t own k e h = let is : own ≡ k = cc in subst (P t) is h
+
+    by : (t : IrType) (k : Kind) → kind_of t ≡ Some k → P t k
+    by Undefined k e = at_kind Undefined kinds.Undefined k e undefined
+    by Boolean k e = at_kind Boolean kinds.Boolean k e boolean
+    by Char k e = at_kind Char kinds.Char k e char
+    by Byte k e = at_kind Byte kinds.Byte k e byte
+    by Short k e = at_kind Short kinds.Short k e short
+    by Int k e = at_kind Int kinds.Int k e int
+    by Long k e = at_kind Long kinds.Long k e long
+    by String k e = at_kind String kinds.Text k e text
+    by _ k e = absurd (cc)
 
 -- the test of a primitive type has the name of its helper
 pub test_named : (t : IrType) (k : Kind) → kind_of t ≡ Some k → test_name t ≡ helper_name (TestOf k)
-test_named Undefined k e = named (codes "$isV") kinds.Undefined k e refl
-test_named Boolean k e = named (codes "$isZ") kinds.Boolean k e refl
-test_named Char k e = named (codes "$isC") kinds.Char k e refl
-test_named Byte k e = named (codes "$isB") kinds.Byte k e refl
-test_named Short k e = named (codes "$isS") kinds.Short k e refl
-test_named Int k e = named (codes "$isI") kinds.Int k e refl
-test_named Long k e = named (codes "$isJ") kinds.Long k e refl
-test_named String k e = named (codes "$isT") kinds.Text k e refl
-test_named _ k e = absurd (cc)
+test_named = each_kind (λ t k. test_name t ≡ helper_name (TestOf k)) refl refl refl refl refl refl refl refl
 
 -- a primitive type is neither one of arrays nor any
 pub primitive : (t : IrType) (k : Kind) → kind_of t ≡ Some k → HasFunction t
@@ -135,22 +142,11 @@ module _ (p : Place) (w : World) (s : ir.State) (u : js.State) (same : SameState
   text_told _ _ (same_char r c f) = impossible r
   text_told _ _ _ = refl
 
-  by_kind : (t : IrType) (own k : Kind) → ◌≡◌ {A = Option Kind} (Some own) (Some k) → TellsKind t own → TellsKind t k
-  by_kind t own k e told = let is : own ≡ k = cc in subst (TellsKind t) is told
-
-  kind_told : (t : IrType) (k : Kind) → kind_of t ≡ Some k → TellsKind t k
-  kind_told Undefined k e = by_kind Undefined kinds.Undefined k e undefined_told
-  kind_told Boolean k e = by_kind Boolean kinds.Boolean k e boolean_told
-  kind_told Char k e = by_kind Char kinds.Char k e char_told
-  kind_told Byte k e = by_kind Byte kinds.Byte k e byte_told
-  kind_told Short k e = by_kind Short kinds.Short k e short_told
-  kind_told Int k e = by_kind Int kinds.Int k e int_told
-  kind_told Long k e = by_kind Long kinds.Long k e long_told
-  kind_told String k e = by_kind String kinds.Text k e text_told
-  kind_told _ k e = absurd (cc)
+  pub kind_told : (t : IrType) (k : Kind) → kind_of t ≡ Some k → TellsKind t k
+  kind_told = each_kind TellsKind undefined_told boolean_told char_told byte_told short_told int_told long_told text_told
 
   -- the test of chars finds their class
-  boxes_there : (g : Name) → ReachesBoxes p g → BoxesStand p.program g (boxes p) u
+  pub boxes_there : (g : Name) → ReachesBoxes p g → BoxesStand p.program g (boxes p) u
   boxes_there g r = record { const = false; cell_is = ap (λ (o : Option Name). js_meaning.top_cell o (helper_name BoxedChar) u) r.reached ∙ same.tops r.user (a_helper BoxedChar) r.usable }
 
   -- a test of a value, and its function

@@ -1,11 +1,13 @@
 -- What the code of a program has of objects: members that run on receivers, constructors, classes, fields, static fields, the null check, divisions, objects that hold chars, tests
--- of primitive types and identity, each where code can use it.
+-- of primitive types, casts to them and identity, each where code can use it.
 use Rattle.std.specs.Prelude.{◌≡◌, ℕ, ◌≤◌, true, false, List, length, codes, Option, Some}
 use Rattle.built_forms.specs.Built.{has_static, can_box, divides, compares}
 use Rattle.dispatch_laws.specs.Targets.{IsTargetOf}
 use Rattle.helper_rules.specs.Helpers.{helper_name}
-use Rattle.helper_rules.specs.declared.kinds.Failure.TheVariants.{NullReceiver, Division}
-use Rattle.helper_rules.specs.declared.kinds.Helper.TheVariants.{NotNull, Throws}
+use Rattle.helper_rules.specs.declared.kinds.Failure.TheVariants.{NullReceiver, Division, Cast}
+use Rattle.helper_rules.specs.declared.kinds.Helper.TheVariants.{NotNull, TestOf, CastTo, Throws}
+use Rattle.helper_rules.specs.declared.kinds.Kind.{Kind}
+use Rattle.helper_rules.specs.declared.kinds.Kind.TheVariants as kinds
 use Rattle.ir_mean.specs.Dispatch.{chain_of}
 use Rattle.ir_mean.specs.Meaning.{with_message}
 use Rattle.ir_mean.specs.States as ir
@@ -16,15 +18,16 @@ use Rattle.js_tree.specs.Terms.{Name}
 use Rattle.sj_desugar.specs.Desugar.{member}
 use Rattle.piece_rules.specs.Pieces.{setter}
 use Rattle.sj_emit_expr.specs.Templates.{check_name, static_name, setter_name}
+use Rattle.sj_emit_expr.specs.Tests.{cast_name}
 use Rattle.sj_names.specs.declared.method_names.Member.{Member}
 use Rattle.sj_names.specs.declared.method_names.Namespace.TheVariants.{Constructor}
 use Rattle.sj_trees.specs.declared.operators.BinaryOp.{BinaryOp}
 use Rattle.sj_trees.specs.declared.types.IrType.{IrType}
-use Rattle.sj_plain.specs.Settings.{Place, SameState, SameStored, HasField, HasStatic, Reaches, a_static, a_setter, a_helper, division_helper, top_function, link_of, links_of, zeroed}
+use Rattle.sj_plain.specs.Settings.{Place, SameState, SameStored, HasField, HasStatic, Reaches, a_static, a_setter, a_cast, a_helper, division_helper, top_function, link_of, links_of, zeroed}
 use Rattle.body_rules.specs.Standing.{is_bare}
 use Rattle.sj_plain.specs.Worlds.{World}
 use Rattle.sj_trees.specs.Types.{class_type}
-use Rattle.sj_calls.specs.Helpers.{HelperStands, BoxStands, CanTest, CanCompare, code_of_item, helper_code, checking_code, division_code}
+use Rattle.sj_calls.specs.Helpers.{HelperStands, BoxStands, ReachesBoxes, CanTest, CanCompare, kind_of, code_of_item, helper_code, checking_code, division_code}
 use Rattle.sj_calls.specs.Made.{Makers}
 use Rattle.sj_calls.specs.Methods.{Linked}
 use Rattle.sj_calls.specs.Objects.{RunsOn, Constructs}
@@ -60,6 +63,23 @@ pub record CanDivide (p : Place) (o : BinaryOp) : Type 0 where
   pub built : (p.has (p.home (a_helper (Throws Division)))).built (member (codes "java.lang.ArithmeticException") Constructor with_message) ≡ true
   pub made : (p.has (p.home (a_helper (Throws Division)))).made (codes "java.lang.ArithmeticException") ≡ true
 
+-- the cast to a primitive type stands in its file, as the helper of its kind, and so does what it uses: the test of the kind, that of chars with the class of objects
+-- that hold them, and what is thrown
+pub record CanCast (p : Place) (t : IrType) : Type 0 where
+  pub kind : Kind
+  pub its_kind : kind_of t ≡ Some kind
+  pub cast : js_meaning.code_of p.program (p.home (a_cast t)) (cast_name t) ≡ Some (helper_code (CastTo kind))
+  pub test : HelperStands p (TestOf kind) (helper_code (TestOf kind))
+  pub boxes : kind ≡ kinds.Char → ReachesBoxes p (p.home (a_helper (TestOf kind)))
+  pub test_owned : owner p.program (p.home (a_cast t)) (helper_name (TestOf kind)) ≡ Some (p.home (a_helper (TestOf kind)))
+  pub test_held : (w : World) (s : ir.State) (u : js.State) → SameState p w s u → u.tops (p.home (a_helper (TestOf kind))) (helper_name (TestOf kind)) ≡ js.holds false (top_function p (a_helper (TestOf kind)))
+  pub failure : HelperStands p (Throws Cast) (helper_code (Throws Cast))
+  pub owned : owner p.program (p.home (a_cast t)) (helper_name (Throws Cast)) ≡ Some (p.home (a_helper (Throws Cast)))
+  pub held : (w : World) (s : ir.State) (u : js.State) → SameState p w s u → u.tops (p.home (a_helper (Throws Cast))) (helper_name (Throws Cast)) ≡ js.holds false (top_function p (a_helper (Throws Cast)))
+  pub reaches : Reaches p (p.home (a_helper (Throws Cast)))
+  pub built : (p.has (p.home (a_helper (Throws Cast)))).built (member (codes "java.lang.ClassCastException") Constructor with_message) ≡ true
+  pub made : (p.has (p.home (a_helper (Throws Cast)))).made (codes "java.lang.ClassCastException") ≡ true
+
 -- the function that sets a variable, by its item
 abbrev pub setter_code : List ℕ → List ℕ → js_meaning.Code
 setter_code c f = code_of_item (setter (setter_name c f) (static_name c f))
@@ -85,7 +105,7 @@ pub record HasObjects (p : Place) : Type 0 where
   pub divided : (f : Name) (o : BinaryOp) → divides (p.has f) o ≡ true → CanDivide p o
   pub boxes : (f : Name) → can_box (p.has f) ≡ true → BoxStands p
   pub tested : (f : Name) (t : IrType) → (p.has f).tests t ≡ true → CanTest p t
-  pub no_cast : (f : Name) (t : IrType) → (p.has f).casts t ≡ false
+  pub cast : (f : Name) (t : IrType) → (p.has f).casts t ≡ true → CanCast p t
   pub compared : (f : Name) → compares (p.has f) ≡ true → CanCompare p
   pub each : 2 ≤ p.room.each
   pub beyond : 1 ≤ p.room.beyond
