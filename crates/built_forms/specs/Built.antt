@@ -13,8 +13,7 @@ use Rattle.sj_trees.specs.declared.classes.MethodDef.{MethodDef}
 use Rattle.sj_trees.specs.declared.operators.BinaryOp.{BinaryOp}
 use Rattle.sj_trees.specs.declared.operators.BinaryOp.TheVariants.{StrictEqual, StrictNotEqual, IntDivide, IntRemainder, LongDivide, LongRemainder}
 use Rattle.sj_trees.specs.declared.types.IrType.{IrType}
-use Rattle.sj_trees.specs.declared.types.IrType.TheVariants.{Any}
-use Rattle.sj_names.specs.Same.{is_same_text}
+use Rattle.sj_trees.specs.declared.types.IrType.TheVariants.{Any, Undefined, Boolean, Char, Byte, Short, Int, Long, String}
 use Rattle.built_forms.specs.Boxes.{boxes, goal_of}
 
 -- a literal other than zero
@@ -182,9 +181,21 @@ abbrev pub has_no_value : Option TypeRef → Bool
 has_no_value (Some Void) = true
 has_no_value _ = false
 
--- whatever is made and used of objects, but for constructors with a value, tests, casts and identity
+-- a primitive type of one kind of values: each of these but null
+abbrev pub has_kind : IrType → Bool
+has_kind Undefined = true
+has_kind Boolean = true
+has_kind Char = true
+has_kind Byte = true
+has_kind Short = true
+has_kind Int = true
+has_kind Long = true
+has_kind String = true
+has_kind _ = false
+
+-- whatever is made and used of objects, but for constructors with a value, tests of classes and arrays, and casts
 abbrev pub any_object : Usable
-any_object = record { linked = λ m. true; target = λ m. m; received = λ m. true; built = λ m. has_no_value m.method.result; made = λ c. true; field = λ c f t. true; static_field = λ c f t. true; static_setter = λ c f t. true; tests = λ t. false; casts = λ t. false; helper = λ x. not (is_same_text x (codes "$eq")); objects = true }
+any_object = record { linked = λ m. true; target = λ m. m; received = λ m. true; built = λ m. has_no_value m.method.result; made = λ c. true; field = λ c f t. true; static_field = λ c f t. true; static_setter = λ c f t. true; tests = has_kind; casts = λ t. false; helper = λ x. true; objects = true }
 
 -- the body is of these forms, whatever it calls, makes and reads
 abbrev pub is_object_body : MethodDef → Term → Bool
