@@ -28,7 +28,7 @@ use Rattle.declared_pieces.specs.Linked.{has_function}
 use Rattle.object_folders.specs.PieceRulesPieces.{Parts, constants_piece, entry_member, variable_piece, setter_piece}
 use Rattle.declared_pieces.specs.Pieces.{piece_of_member, AreLinkedPieces}
 use Rattle.declared_pieces.specs.Running.{CanRun}
-use Rattle.declared_pieces.specs.Used.{used_of, is_among, is_received, is_constructor, is_constructor_without_value, uses_static, uses_helper}
+use Rattle.declared_pieces.specs.Used.{used_of, is_among, is_received, is_constructor, is_constructor_without_value, uses_static, uses_helper as written_helper}
 use Rattle.file_listings.specs.Listed.{AreBytes}
 use Rattle.helper_rules.specs.Helpers.{helper_name, helper_item, helper_piece, used_helpers, used_of_classes, failure_class, of}
 use Rattle.helper_rules.specs.Words.{object_class}
@@ -296,7 +296,7 @@ module _ (entries : List EntryPoint) (files : List SourceFile) (l : Linked) (all
   test_declared : (f : Name) (t : IrType) → (z.has f).tests t ≡ true → TestDeclared z f t
   test_declared f t h =
       let q = and_parts (there.tests t) (list_all (uses_in modules ps f) (test_uses t)) h in
-      let k = and_parts (has_kind t) (uses_helper p.helpers written (test_name t)) q.0 in
+      let k = and_parts (has_kind t) (written_helper p.helpers written (test_name t)) q.0 in
       let d = kind_declared (z.has f) t k.0 (and_from (there.helper (test_name t)) (uses_in modules ps f (object_binding (test_name t))) k.1 (kind_used (uses_in modules ps f) t k.0 q.1)) in
       record { kind = d.kind; its_kind = d.its_kind; helper = d.helper; home = ap home_of (kind_owned t k.0) }
 
@@ -344,7 +344,7 @@ module _ (entries : List EntryPoint) (files : List SourceFile) (l : Linked) (all
 
 pub modules_declare : ModulesDeclare
 modules_declare entries files l all live written modules ps front last declared bytes a bodies p are_live run owned covered together whole stand = record {
-  leads = λ f t h. leads_to entries files l all live written modules ps front last declared bytes a bodies p are_live run owned covered together whole stand f t (named_used (used_of l.world l.facts all live p.helpers written) (λ k i. (and_parts (has_kind k) (uses_helper p.helpers written (test_name k)) i).0) (λ k. refl) (uses_in modules ps f) t h);
+  leads = λ f t h. leads_to entries files l all live written modules ps front last declared bytes a bodies p are_live run owned covered together whole stand f t (named_used (used_of l.world l.facts all live p.helpers written) (λ k i. (and_parts (has_kind k) (written_helper p.helpers written (test_name k)) i).0) (λ k. refl) (uses_in modules ps f) t h);
   linked = linked_declared entries files l all live written modules ps front last declared bytes a bodies p are_live run owned covered together whole stand;
   received = received_declared entries files l all live written modules ps front last declared bytes a bodies p are_live run owned covered together whole stand;
   built = built_declared entries files l all live written modules ps front last declared bytes a bodies p are_live run owned covered together whole stand;
