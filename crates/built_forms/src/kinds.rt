@@ -4,7 +4,7 @@ ghost use Rattle.built_forms.specs.Built as built;
 
 use sj_trees::IrType;
 
-/// Whether a type is primitive and has values of its own: each primitive type but null.
+/// Whether the values of a type are of one kind: each primitive type but that of null.
 pub fn has_kind(tpe: &IrType) -> bool
     ensures { result ≡ built.has_kind tpe.now }
 {
