@@ -2,6 +2,7 @@ pub mod Boxes
 pub mod Given
 pub mod Standing
 pub mod Statics
+pub mod Tested
 pub mod Uses
 pub mod Written
 pub use Rattle.accepted_folders.proofs.Calls

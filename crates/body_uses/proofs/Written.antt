@@ -15,19 +15,20 @@ use Rattle.std.proofs.lemmas.Bool.{and_from}
 use Rattle.std.proofs.lemmas.List.Elements.{All-head, All-tail}
 use Rattle.std.proofs.lemmas.List.Folds.{list_any_at}
 use Rattle.accepted_folders.specs.Typing.{is_built_with}
-use Rattle.accepted_folders.specs.Built.{Usable, is_object_body, is_static, has_no_value}
+use Rattle.accepted_folders.specs.Built.{Usable, is_object_body, is_static, has_kind, has_no_value}
 use Rattle.accepted_folders.proofs.EachTyped.{in_all}
 use Rattle.accepted_folders.proofs.Undenied.{first_or_later}
 use Rattle.helper_rules.specs.Helpers.{helper_name}
 use Rattle.helper_rules.specs.declared.kinds.Helper.{Helper}
-use Rattle.helper_rules.specs.declared.kinds.Helper.TheVariants.{NotNull, IntQuotient, IntRemainder as IntRest, LongQuotient, LongRemainder as LongRest, BoxedChar, Equal}
+use Rattle.helper_rules.specs.declared.kinds.Helper.TheVariants.{NotNull, IntQuotient, IntRemainder as IntRest, LongQuotient, LongRemainder as LongRest, BoxedChar, Equal, TestOf}
+use Rattle.helper_rules.specs.declared.kinds.Kind.TheVariants as kinds
 use Rattle.js_tree.specs.declared.items.Binding.{Binding}
 use Rattle.accepted_folders.proofs.Derivations.{closed}
 use Rattle.accepted_folders.specs.Reachable.{Reachable}
 use Rattle.accepted_folders.specs.Rules.{Reads, of_call, of_new, asked_body, new_made, field_needed, resolved_class, resolved_body}
 use Rattle.sj_desugar.specs.Desugar.{member}
 use Rattle.sj_emit_expr.specs.Templates.{check_name}
-use Rattle.sj_emit_expr.specs.Tests.{same_name}
+use Rattle.sj_emit_expr.specs.Tests.{test_name, same_name}
 use Rattle.sj_emit_expr.specs.Uses.{object_binding, function_binding, class_use, static_use, setter_use}
 use Rattle.sj_infos.specs.Infos.{asks, asked_by_body, asked_in, of_receiver}
 use Rattle.sj_infos.specs.Sure.{sure_among}
@@ -35,7 +36,7 @@ use Rattle.sj_infos.specs.Trees.{trees}
 use Rattle.sj_infos.specs.declared.infos.Info.{Info}
 use Rattle.sj_infos.specs.declared.infos.Info.TheVariants.{New, Static, Field, Resolved}
 use Rattle.accepted_folders.proofs.Found.{here}
-use Rattle.sj_names.proofs.Same.{text-refl}
+use Rattle.sj_names.proofs.Same.{impossible, text-refl}
 use Rattle.sj_names.specs.Same.{is_same_text}
 use Rattle.sj_names.specs.WellKnown.{object}
 use Rattle.sj_names.specs.declared.entry_points.EntryPoint.{EntryPoint}
@@ -49,12 +50,12 @@ use Rattle.accepted_folders.specs.Linked.{has_function}
 use Rattle.sj_trees.proofs.SameTypes.{type-refl}
 use Rattle.sj_trees.specs.SameTypes.{is_same_type}
 use Rattle.sj_trees.specs.declared.positions.Position.{Position}
-use Rattle.sj_trees.specs.Term.{Term, new_object, select, select_static, apply_statically, apply_static, binary_op}
+use Rattle.sj_trees.specs.Term.{Term, new_object, select, select_static, apply_statically, apply_static, binary_op, is_instance_of}
 use Rattle.sj_trees.specs.declared.classes.ClassDef.{ClassDef}
 use Rattle.sj_trees.specs.declared.operators.BinaryOp.{BinaryOp}
 use Rattle.sj_trees.specs.declared.operators.BinaryOp.TheVariants.{IntDivide, IntRemainder, LongDivide, LongRemainder}
 use Rattle.sj_trees.specs.declared.types.IrType.{IrType}
-use Rattle.sj_trees.specs.declared.types.IrType.TheVariants.{Int, Long}
+use Rattle.sj_trees.specs.declared.types.IrType.TheVariants.{Undefined, Boolean, Char, Byte, Short, Int, Long, String}
 use Rattle.sj_world.specs.Known.{Name, Classes, class_of}
 use Rattle.sj_world.proofs.Searches.{contains_at}
 use Rattle.sj_world.specs.Paths.{stay}
@@ -67,7 +68,7 @@ use Rattle.accepted_folders.specs.Accepted.{IsAccepted}
 use Rattle.accepted_folders.specs.Bodies.{AreBodies}
 use Rattle.accepted_folders.proofs.Calls.{needed}
 use Rattle.accepted_folders.proofs.Members.{has_function-from, defined}
-use Rattle.linked_pieces.specs.Used.{used_of, is_among, is_its_field, has_field_in, is_its_static, has_static_in, needs_static, uses_static}
+use Rattle.linked_pieces.specs.Used.{used_of, is_among, is_its_field, has_field_in, is_its_static, has_static_in, needs_static, uses_static, uses_helper}
 use Rattle.body_uses.specs.Given.{Given, HelpersGiven, FitsDivision, HasType}
 use Rattle.body_uses.specs.Laws.{used_by, AcceptedBodiesUseWhatIsWritten}
 use Rattle.body_uses.specs.Written.{AreWrittenWith}
@@ -226,6 +227,25 @@ module _ (entries : List EntryPoint) (files : List SourceFile) (w : Classes) (fa
       go abstract s same = absurd (accepted.resolved (abstract_target (member c Public m)) (no_target_body c m r (present c m r) s))
       go missing s same = absurd (accepted.resolved (missing_method (member c Public m)) (no_target c m r (present c m r) s))
 
+  -- a helper by its name
+  helper_there : (h : Helper) → Contains used (object_binding (helper_name h)) → has.helper (helper_name h) ≡ true
+  helper_there h u = and_from (is_among written object) (list_any (λ (g : Helper). is_same_text (helper_name h) (helper_name g)) helpers) (in_written (object_binding (helper_name h)) u) (any_of (λ (g : Helper). is_same_text (helper_name h) (helper_name g)) helpers h (uses.helped e i here_written h u) (text-refl (helper_name h)))
+
+  is_helper : (h : Helper) (x : Name) → helper_name h ≡ x → Contains used (object_binding x) → has.helper x ≡ true
+  is_helper h x same u = subst (λ (y : Name). has.helper y ≡ true) same (helper_there h (subst (λ (y : Name). Contains used (object_binding y)) (sym same) u))
+
+  -- a test of a primitive type, by the helper of its kind
+  test_there : (t : IrType) → has_kind t ≡ true → Contains used (object_binding (test_name t)) → has.helper (test_name t) ≡ true
+  test_there Undefined h u = helper_there (TestOf kinds.Undefined) u
+  test_there Boolean h u = helper_there (TestOf kinds.Boolean) u
+  test_there Char h u = helper_there (TestOf kinds.Char) u
+  test_there Byte h u = helper_there (TestOf kinds.Byte) u
+  test_there Short h u = helper_there (TestOf kinds.Short) u
+  test_there Int h u = helper_there (TestOf kinds.Int) u
+  test_there Long h u = helper_there (TestOf kinds.Long) u
+  test_there String h u = helper_there (TestOf kinds.Text) u
+  test_there _ h u = impossible h
+
   tree_given : (t : Term) → Contains (trees e.its_body) t → Stands (MeetsThere w e.definition.namespace) t → Given has used t
   tree_given (apply_static p c n m ts t) among s = λ u. in_used (member c n m) (is_static n) (static_there n s.asked.0) (asked (apply_static p c n m ts t) among (Static (member c n m)) (here (Static (member c n m)) [])) u
   tree_given (apply_statically p d c Private m ts t) among s = λ u. in_used (member c Private m) true refl (asked (apply_statically p d c Private m ts t) among (Static (member c Private m)) (here (Static (member c Private m)) (of_receiver (sure_among [] (trees e.its_body)) d))) u
@@ -238,15 +258,9 @@ module _ (entries : List EntryPoint) (files : List SourceFile) (w : Classes) (fa
   tree_given (select_static p c f t) among s =
       let there = static_given c f t s.asked (asked (select_static p c f t) among (Field c f true) (here (Field c f true) [])) in
       (λ u. there (in_written (static_use c f) u), λ u. there (in_written (setter_use c f) u))
+  tree_given (is_instance_of p d t) among s = λ h u. and_from (has_kind t) (uses_helper helpers written (test_name t)) h (test_there t h u)
   tree_given (binary_op p o a b) among s = divisor w o a b s.asked
   tree_given t among s = tt
-
-  -- a helper by its name
-  helper_there : (h : Helper) → Contains used (object_binding (helper_name h)) → has.helper (helper_name h) ≡ true
-  helper_there h u = and_from (is_among written object) (list_any (λ (g : Helper). is_same_text (helper_name h) (helper_name g)) helpers) (in_written (object_binding (helper_name h)) u) (any_of (λ (g : Helper). is_same_text (helper_name h) (helper_name g)) helpers h (uses.helped e i here_written h u) (text-refl (helper_name h)))
-
-  is_helper : (h : Helper) (x : Name) → helper_name h ≡ x → Contains used (object_binding x) → has.helper x ≡ true
-  is_helper h x same u = subst (λ (y : Name). has.helper y ≡ true) same (helper_there h (subst (λ (y : Name). Contains used (object_binding y)) (sym same) u))
 
   helpers_given : HelpersGiven has used
   helpers_given x among u = elim (first_or_later check_name (codes "$id" ∷ codes "$im" ∷ codes "$ld" ∷ codes "$lm" ∷ codes "$C" ∷ same_name ∷ []) x among) [

@@ -8,13 +8,13 @@ use Rattle.sj_names.specs.declared.method_names.Namespace.TheVariants.{Public, P
 use Rattle.sj_names.specs.declared.references.TypeRef.{TypeRef}
 use Rattle.sj_names.specs.declared.references.TypeRef.TheVariants.{Void}
 use Rattle.sj_names.specs.declared.method_names.Member.{Member}
+use Rattle.sure_receivers.specs.Sure.{is_sure_type}
 use Rattle.sj_trees.specs.Term.{Term, Terms, no_terms, more_terms, Cases, no_cases, more_cases, var_def, skip, block_of, labeled, assign, return_to, if_then, while_loop, do_while, match_on, throw, new_object, select, select_static, apply_statically, this_ref, apply_static, unary_op, binary_op, is_instance_of, as_instance_of, undefined_literal, null_literal, boolean_literal, char_literal, byte_literal, short_literal, int_literal, long_literal, string_literal, var_ref, log_line}
 use Rattle.sj_trees.specs.declared.classes.MethodDef.{MethodDef}
 use Rattle.sj_trees.specs.declared.operators.BinaryOp.{BinaryOp}
 use Rattle.sj_trees.specs.declared.operators.BinaryOp.TheVariants.{StrictEqual, StrictNotEqual, IntDivide, IntRemainder, LongDivide, LongRemainder}
 use Rattle.sj_trees.specs.declared.types.IrType.{IrType}
 use Rattle.sj_trees.specs.declared.types.IrType.TheVariants.{Any}
-use Rattle.sj_names.specs.Same.{is_same_text}
 use Rattle.built_forms.specs.Boxes.{boxes, goal_of}
 
 -- a literal other than zero
@@ -182,9 +182,13 @@ abbrev pub has_no_value : Option TypeRef → Bool
 has_no_value (Some Void) = true
 has_no_value _ = false
 
--- whatever is made and used of objects, but for constructors with a value, tests, casts and identity
+-- the values of the type are of one kind: it is primitive, and isn't that of null
+abbrev pub has_kind : IrType → Bool
+has_kind = is_sure_type
+
+-- whatever is made and used of objects, but for constructors with a value, tests of classes and arrays, and casts
 abbrev pub any_object : Usable
-any_object = record { linked = λ m. true; target = λ m. m; received = λ m. true; built = λ m. has_no_value m.method.result; made = λ c. true; field = λ c f t. true; static_field = λ c f t. true; static_setter = λ c f t. true; tests = λ t. false; casts = λ t. false; helper = λ x. not (is_same_text x (codes "$eq")); objects = true }
+any_object = record { linked = λ m. true; target = λ m. m; received = λ m. true; built = λ m. has_no_value m.method.result; made = λ c. true; field = λ c f t. true; static_field = λ c f t. true; static_setter = λ c f t. true; tests = has_kind; casts = λ t. false; helper = λ x. true; objects = true }
 
 -- the body is of these forms, whatever it calls, makes and reads
 abbrev pub is_object_body : MethodDef → Term → Bool

@@ -3,6 +3,7 @@ use Rattle.std.specs.Prelude.{◌≡◌, ℕ, pos, Bool, true, false, List, [], 
 use Rattle.sj_names.specs.declared.method_names.MethodName.{MethodName}
 use Rattle.sj_names.specs.declared.method_names.Namespace.{Namespace}
 use Rattle.sj_names.specs.declared.method_names.Namespace.TheVariants.{Public, PublicStatic, Private, PrivateStatic, Constructor}
+use Rattle.sj_names.specs.declared.references.BaseRef.{BaseRef}
 use Rattle.sj_names.specs.declared.references.TypeRef.{TypeRef}
 use Rattle.sj_trees.specs.Erase.{nowhere}
 use Rattle.sj_trees.specs.Term.{Term, no_terms, more_terms, no_cases, more_cases, var_def, skip, block_of, labeled, assign, return_to, if_then, match_on, throw, new_object, select, select_static, apply, apply_statically, apply_static, this_ref, binary_op, is_instance_of, as_instance_of, char_literal, int_literal, long_literal, var_ref}
@@ -10,7 +11,7 @@ use Rattle.sj_trees.specs.declared.classes.MethodDef.{MethodDef}
 use Rattle.sj_trees.specs.declared.operators.BinaryOp.{BinaryOp}
 use Rattle.sj_trees.specs.declared.operators.BinaryOp.TheVariants.{StrictEqual, StrictNotEqual, IntDivide, IntEqual, LongRemainder}
 use Rattle.sj_trees.specs.declared.types.IrType.{IrType}
-use Rattle.sj_trees.specs.declared.types.IrType.TheVariants.{Any, Boolean, Char, Int, Long, String, NoType}
+use Rattle.sj_trees.specs.declared.types.IrType.TheVariants.{Any, Boolean, Char, Int, Long, String, Null, Class, Array, NoType}
 use Rattle.built_forms.specs.Built.{Usable, is_built, is_built_method, not_built, body_boxes}
 
 abbrev pub method_name : TypeRef → MethodName
@@ -141,10 +142,19 @@ pub record WorkedForms : Type 0 where
   pub sets_a_field_it_can_use : is_built with_fields (λ e. true) (setting Int (number 1)) ≡ true
   pub field_set_by_a_call : is_built with_fields (λ e. true) (setting Int (apply_static nowhere (codes "A") PublicStatic (method_name TypeRef.Int) (more_terms (number 1) no_terms) Int)) ≡ true
   pub field_of_an_unchecked_object : is_built with_fields (λ e. false) (setting Int (number 1)) ≡ false
-  pub identity : not_built (static (operation StrictEqual Any (number 1))) ≡ true
-  pub no_identity : not_built (static (operation StrictNotEqual Any (number 1))) ≡ true
+  pub identity : not_built (static (operation StrictEqual Any (number 1))) ≡ false
+  pub no_identity : not_built (static (operation StrictNotEqual Any (number 1))) ≡ false
+  pub identity_with_a_char : not_built (static (operation StrictEqual Any letter)) ≡ false
+  pub identity_with_what_is_not_built : not_built (static (operation StrictEqual Any unbuilt)) ≡ true
+  pub identity_without_a_helper : is_built with_fields (λ e. true) (operation StrictEqual Any (number 1)) ≡ false
   pub identity_it_can_use : is_built with_boxes (λ e. true) (operation StrictEqual Any (number 1)) ≡ true
-  pub test : not_built (static (tested String object)) ≡ true
+  pub test_of_an_int : not_built (static (tested Int object)) ≡ false
+  pub test_of_a_text : not_built (static (tested String object)) ≡ false
+  pub test_of_a_char : not_built (static (tested Char letter)) ≡ false
+  pub test_of_null : not_built (static (tested Null object)) ≡ true
+  pub test_of_a_class : not_built (static (tested (Class (codes "A")) object)) ≡ true
+  pub test_of_an_array : not_built (static (tested (Array (record { base = BaseRef.Int; dimensions = 1 })) object)) ≡ true
+  pub test_of_an_int_of_what_is_not_built : not_built (static (tested Int unbuilt)) ≡ true
   pub test_it_can_use : is_built with_tests (λ e. true) (tested String (number 1)) ≡ true
   pub test_of_what_is_not_built : is_built with_tests (λ e. true) (tested String unbuilt) ≡ false
   pub cast : not_built (static (casted String object)) ≡ true

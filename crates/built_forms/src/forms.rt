@@ -5,7 +5,7 @@ ghost use Rattle.sj_trees.specs.Term.{Term, Terms, apply_statically};
 ghost use Rattle.sj_trees.specs.declared.positions.Position.{Position};
 ghost use Rattle.sj_trees.specs.View.{view, terms_view, cases_view};
 
-use crate::operators::is_operation;
+use crate::kinds::has_kind;
 use sj_names::{MethodName, Namespace, TypeRef};
 use sj_trees::{IrType, MatchCase, Tree};
 
@@ -57,9 +57,8 @@ pub fn is_built(tree: &Tree) -> bool
         Tree::New(_, _, constructor, arguments) => {
             has_no_value(&constructor.result) && are_built(arguments)
         }
-        Tree::BinaryOp(_, op, left, right) => {
-            is_operation(*op, right) && is_built(left) && is_built(right)
-        }
+        Tree::BinaryOp(_, _, left, right) => is_built(left) && is_built(right),
+        Tree::IsInstanceOf(_, value, tpe) => has_kind(tpe) && is_built(value),
         Tree::AsInstanceOf(_, value, tpe) => matches!(tpe, IrType::Any) && is_built(value),
         Tree::TryCatch(_, _, _, _, _)
         | Tree::TryFinally(_, _, _)
@@ -69,8 +68,7 @@ pub fn is_built(tree: &Tree) -> bool
         | Tree::NewArray(_, _, _)
         | Tree::ArrayValue(_, _, _)
         | Tree::ArrayLength(_, _)
-        | Tree::ArraySelect(_, _, _, _)
-        | Tree::IsInstanceOf(_, _, _) => false,
+        | Tree::ArraySelect(_, _, _, _) => false,
     }
 }
 

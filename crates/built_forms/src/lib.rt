@@ -4,9 +4,9 @@
 #![tactic(auto)]
 
 mod forms;
+mod kinds;
 mod laws;
 mod methods;
-mod operators;
 
 pub use laws::worked_forms;
 pub use methods::not_built;

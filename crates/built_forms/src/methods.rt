@@ -8,8 +8,8 @@ use sj_trees::MethodDef;
 /// Whether the linker doesn't build the method yet: its body isn't of the forms that are built. A method without a body is built. It takes no memory.
 ///
 /// These forms are built: locals that are defined, read and assigned, blocks with and without labels, `Return`, `If`, both loops, `Match`, calls of static
-/// methods, of constructors and of private methods, `New`, `This`, fields of instances and static fields that are read and assigned, `Throw`, casts to any, operators,
-/// literals, and `Log`. Of these, no operator of identity is built. What a case without keys has isn't asked for.
+/// methods, of constructors and of private methods, `New`, `This`, fields of instances and static fields that are read and assigned, `Throw`, tests of primitive types,
+/// casts to any, operators, literals, and `Log`. What a case without keys has isn't asked for.
 pub fn not_built(m: &MethodDef) -> bool
     ensures { result ≡ built.not_built m.now }
 {

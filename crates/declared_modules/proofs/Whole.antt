@@ -4,20 +4,22 @@ use Rattle.std.specs.Prelude.{◌↔◌}
 use Rattle.std.specs.List.{Contains, list_all}
 use Rattle.std.proofs.lemmas.Bool.{and_parts, and_from, or_cases, or_left}
 use Rattle.std.proofs.lemmas.List.Elements.{Contains-append_left, Contains-append_right}
+use Rattle.declared_pieces.proofs.Tested.{kind_uses}
 use Rattle.declared_pieces.proofs.Written.{divisors_fit}
 use Rattle.class_code.proofs.Markers.{marked}
-use Rattle.declared_files.specs.Declared.{Spread, all_items, Leads, FunctionDeclared, ClassDeclared, ChainDeclared, extends_none, extends_one, MadeDeclared, StaticDeclared, Uses as UsesTop}
+use Rattle.declared_files.specs.Declared.{Spread, all_items, Leads, FunctionDeclared, ClassDeclared, ChainDeclared, extends_none, extends_one, MadeDeclared, StaticDeclared, TestDeclared, Uses as UsesTop}
 use Rattle.declared_files.specs.Placed.{placed}
 use Rattle.declared_pieces.proofs.Blocks.{method_there}
 use Rattle.declared_pieces.proofs.Chains.{Stands, whole_chain}
 use Rattle.declared_pieces.proofs.Fields.{field_there, fields_kept}
+use Rattle.declared_pieces.proofs.Tested.{kind_declared}
 use Rattle.declared_pieces.proofs.Live.{classes_kept}
 use Rattle.declared_pieces.proofs.Members.{same-class, defined}
 use Rattle.declared_pieces.proofs.Parts.{uses_superclass, uses_constants}
 use Rattle.declared_pieces.proofs.Whole.{static_alone, received_runs, constructor_is, no_value, own_fields, whole_fields, method_of, Good, free, own, its, is_named, constants_here, class_of_its, class_here, super_good, made_good, Needed, needed_static, variable_there, setter_there, IsWritten, helper_written, helper_had, helper_listed}
 use Rattle.declared_pieces.specs.Accepted.{IsAccepted}
 use Rattle.declared_pieces.specs.Bodies.{AreBodies}
-use Rattle.declared_pieces.specs.Built.{Usable, has_static, is_static, has_no_value, divides}
+use Rattle.declared_pieces.specs.Built.{Usable, has_static, is_static, has_kind, has_no_value, divides}
 use Rattle.declared_pieces.specs.Closed.{IsClosed}
 use Rattle.declared_pieces.specs.DeclaredProgramsDeclared.{Running, alone, on_receiver, completing, running, is_covered}
 use Rattle.declared_pieces.specs.Emitted.{EmittedMethod}
@@ -26,7 +28,7 @@ use Rattle.declared_pieces.specs.Linked.{has_function}
 use Rattle.object_folders.specs.PieceRulesPieces.{Parts, constants_piece, entry_member, variable_piece, setter_piece}
 use Rattle.declared_pieces.specs.Pieces.{piece_of_member, AreLinkedPieces}
 use Rattle.declared_pieces.specs.Running.{CanRun}
-use Rattle.declared_pieces.specs.Used.{used_of, is_among, is_received, is_constructor, is_constructor_without_value, uses_static}
+use Rattle.declared_pieces.specs.Used.{used_of, is_among, is_received, is_constructor, is_constructor_without_value, uses_static, uses_helper as written_helper}
 use Rattle.file_listings.specs.Listed.{AreBytes}
 use Rattle.helper_rules.specs.Helpers.{helper_name, helper_item, helper_piece, used_helpers, used_of_classes, failure_class, of}
 use Rattle.helper_rules.specs.Words.{object_class}
@@ -50,6 +52,7 @@ use Rattle.object_folders.proofs.Throwing.{exceptions, division}
 use Rattle.accepted_folders.specs.BodySoundnessRules.{RightMember}
 use Rattle.sj_desugar.specs.Desugar.{member}
 use Rattle.sj_emit_expr.specs.Templates.{check_name, static_name}
+use Rattle.sj_emit_expr.specs.Tests.{test_name}
 use Rattle.sj_emit_expr.specs.Uses.{object_binding, function_binding, class_use, static_use, setter_use, test_uses, cast_uses}
 use Rattle.sj_names.proofs.Same.{impossible}
 use Rattle.sj_names.specs.declared.entry_points.EntryPoint.{EntryPoint}
@@ -63,7 +66,7 @@ use Rattle.sj_trees.specs.declared.classes.FieldDef.{FieldDef}
 use Rattle.sj_trees.specs.declared.operators.BinaryOp.{BinaryOp}
 use Rattle.sj_trees.specs.declared.operators.BinaryOp.TheVariants.{IntDivide, IntRemainder, LongDivide, LongRemainder}
 use Rattle.sj_trees.specs.declared.types.IrType.{IrType}
-use Rattle.sj_trees.specs.declared.types.IrType.TheVariants.{NoType}
+use Rattle.sj_trees.specs.declared.types.IrType.TheVariants.{NoType, Class}
 use Rattle.sj_world.proofs.OnCycles.{among}
 use Rattle.sj_world.specs.Known.{Classes, class_of}
 use Rattle.sj_world.specs.Linked.{Linked}
@@ -74,18 +77,26 @@ use Rattle.declared_modules.specs.Spread.{owner_of, file_or_none, spread_of, All
 abbrev binding_of : Top → Binding
 binding_of t = record { owner = owner_of t; name = top_name t }
 
--- what the code of a file names it uses, where it can use no test and no cast
-named_used : (has : Usable) → ((t : IrType) → has.tests t ≡ false) → ((t : IrType) → has.casts t ≡ false) → (uses : Binding → Bool) (t : Top) → is_named_top (restricted has uses) t ≡ true → uses (binding_of t) ≡ true
-named_used has no_test no_cast uses (a_function m) h = (and_parts (has.linked m) (uses (function_binding m)) h).1
-named_used has no_test no_cast uses (a_method m) h = (and_parts (has.received m) (uses (function_binding m)) h).1
-named_used has no_test no_cast uses (a_constructor m) h = (and_parts (has.built m) (uses (function_binding m)) h).1
-named_used has no_test no_cast uses (a_class c) h = (and_parts (has.made c) (uses (class_use c)) h).1
-named_used has no_test no_cast uses (some_constants c) h = impossible h
-named_used has no_test no_cast uses (a_static c f t) h = (and_parts (has.static_field c f t) (uses (static_use c f)) h).1
-named_used has no_test no_cast uses (a_setter c f t) h = (and_parts (has.static_setter c f t) (uses (setter_use c f)) h).1
-named_used has no_test no_cast uses (a_test k) h = impossible (sym (no_test k) ∙ (and_parts (has.tests k) (list_all uses (test_uses k)) h).0)
-named_used has no_test no_cast uses (a_cast k) h = impossible (sym (no_cast k) ∙ (and_parts (has.casts k) (list_all uses (cast_uses k)) h).0)
-named_used has no_test no_cast uses (a_helper x) h = (and_parts (has.helper (helper_name x)) (uses (object_binding (helper_name x))) h).1
+-- the tests of primitive types are helpers
+kind_owned : (t : IrType) → has_kind t ≡ true → owner_of (a_test t) ≡ object_class
+kind_owned (Class c) h = impossible h
+kind_owned _ h = refl
+
+kind_used : (uses : Binding → Bool) (t : IrType) → has_kind t ≡ true → list_all uses (test_uses t) ≡ true → uses (object_binding (test_name t)) ≡ true
+kind_used uses t k h = (and_parts (uses (object_binding (test_name t))) true (subst (λ (bs : List Binding). list_all uses bs ≡ true) (kind_uses t k) h)).0
+
+-- what the code of a file names it uses, where it can use no test but those of primitive types, and no cast
+named_used : (has : Usable) → ((t : IrType) → has.tests t ≡ true → has_kind t ≡ true) → ((t : IrType) → has.casts t ≡ false) → (uses : Binding → Bool) (t : Top) → is_named_top (restricted has uses) t ≡ true → uses (binding_of t) ≡ true
+named_used has kinds no_cast uses (a_function m) h = (and_parts (has.linked m) (uses (function_binding m)) h).1
+named_used has kinds no_cast uses (a_method m) h = (and_parts (has.received m) (uses (function_binding m)) h).1
+named_used has kinds no_cast uses (a_constructor m) h = (and_parts (has.built m) (uses (function_binding m)) h).1
+named_used has kinds no_cast uses (a_class c) h = (and_parts (has.made c) (uses (class_use c)) h).1
+named_used has kinds no_cast uses (some_constants c) h = impossible h
+named_used has kinds no_cast uses (a_static c f t) h = (and_parts (has.static_field c f t) (uses (static_use c f)) h).1
+named_used has kinds no_cast uses (a_setter c f t) h = (and_parts (has.static_setter c f t) (uses (setter_use c f)) h).1
+named_used has kinds no_cast uses (a_test k) h = let q = and_parts (has.tests k) (list_all uses (test_uses k)) h in let is_kind = kinds k q.0 in subst (λ (c : Name). uses (record { owner = c; name = test_name k }) ≡ true) (sym (kind_owned k is_kind)) (kind_used uses k is_kind q.1)
+named_used has kinds no_cast uses (a_cast k) h = impossible (sym (no_cast k) ∙ (and_parts (has.casts k) (list_all uses (cast_uses k)) h).0)
+named_used has kinds no_cast uses (a_helper x) h = (and_parts (has.helper (helper_name x)) (uses (object_binding (helper_name x))) h).1
 
 module _ (entries : List EntryPoint) (files : List SourceFile) (l : Linked) (all : List EmittedMethod) (live written : List Name) (modules : List PlannedModule) (ps : List Piece) (front : List Name) (last : Name) (declared : List Item) (bytes : (file : SourceFile) → Contains files file → AreBytes file.bytes) (a : IsAccepted entries files l.world) (bodies : AreBodies l.world entries all) (p : AreLinkedPieces l all ps) (are_live : (c : Name) → Contains live c ↔ IsLive l.world l.facts c) (run : CanRun l.world entries l.facts all live p.helpers written) (owned : IsClosed ps written) (covered : (h : Helper) → Contains p.helpers h → is_covered h ≡ true) (together : StandTogether modules ps) (whole : AreWhole modules ps) (stand : AllStand modules ps written (spread_of modules ps l.world (used_of l.world l.facts all live p.helpers written) front last declared)) where
   abbrev w : Classes
@@ -281,6 +292,14 @@ module _ (entries : List EntryPoint) (files : List SourceFile) (l : Linked) (all
   helper_used : (f : Name) (h : Helper) → (z.has f).helper (helper_name h) ≡ true → HelperUsed h
   helper_used f h e = let q = and_parts (there.helper (helper_name h)) (uses_in modules ps f (object_binding (helper_name h))) e in record { is_written = helper_written entries files l all live written ps bytes a bodies p are_live run owned h q.0; in_file = owner_stands f (object_binding (helper_name h)) q.1 }
 
+  -- the test of a primitive type, at home with the helpers
+  test_declared : (f : Name) (t : IrType) → (z.has f).tests t ≡ true → TestDeclared z f t
+  test_declared f t h =
+      let q = and_parts (there.tests t) (list_all (uses_in modules ps f) (test_uses t)) h in
+      let k = and_parts (has_kind t) (written_helper p.helpers written (test_name t)) q.0 in
+      let d = kind_declared (z.has f) t k.0 (and_from (there.helper (test_name t)) (uses_in modules ps f (object_binding (test_name t))) k.1 (kind_used (uses_in modules ps f) t k.0 q.1)) in
+      record { kind = d.kind; its_kind = d.its_kind; helper = d.helper; home = ap home_of (kind_owned t k.0) }
+
   module _ (h : Helper) (u : HelperUsed h) where
     listed : Contains ps (helper_piece p.above h)
     listed = helper_listed entries files l all live written ps bytes a bodies p are_live run owned h u.is_written
@@ -325,14 +344,14 @@ module _ (entries : List EntryPoint) (files : List SourceFile) (l : Linked) (all
 
 pub modules_declare : ModulesDeclare
 modules_declare entries files l all live written modules ps front last declared bytes a bodies p are_live run owned covered together whole stand = record {
-  leads = λ f t h. leads_to entries files l all live written modules ps front last declared bytes a bodies p are_live run owned covered together whole stand f t (named_used (used_of l.world l.facts all live p.helpers written) (λ k. refl) (λ k. refl) (uses_in modules ps f) t h);
+  leads = λ f t h. leads_to entries files l all live written modules ps front last declared bytes a bodies p are_live run owned covered together whole stand f t (named_used (used_of l.world l.facts all live p.helpers written) (λ k i. (and_parts (has_kind k) (written_helper p.helpers written (test_name k)) i).0) (λ k. refl) (uses_in modules ps f) t h);
   linked = linked_declared entries files l all live written modules ps front last declared bytes a bodies p are_live run owned covered together whole stand;
   received = received_declared entries files l all live written modules ps front last declared bytes a bodies p are_live run owned covered together whole stand;
   built = built_declared entries files l all live written modules ps front last declared bytes a bodies p are_live run owned covered together whole stand;
   made = class_made entries files l all live written modules ps front last declared bytes a bodies p are_live run owned covered together whole stand;
   field = λ f. field_there l.world;
   static_field = static_declared entries files l all live written modules ps front last declared bytes a bodies p are_live run owned covered together whole stand;
-  tests = λ f t h. impossible h;
+  tests = test_declared entries files l all live written modules ps front last declared bytes a bodies p are_live run owned covered together whole stand;
   casts = λ f t h. impossible h;
   kept = fields_kept entries files l.world bytes a;
   ancestors = p.above;

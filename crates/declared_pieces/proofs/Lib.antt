@@ -28,8 +28,10 @@ pub use Rattle.object_folders.proofs.Verdict
 pub use Rattle.object_folders.proofs.Same
 pub use Rattle.object_folders.proofs.Objects
 pub use Rattle.body_uses.proofs.Given
+pub use Rattle.declared_programs.proofs.Tested
 pub use Rattle.body_uses.proofs.Standing
 pub use Rattle.body_uses.proofs.Uses
 pub use Rattle.object_folders.proofs.Fields as ObjectFoldersFields
 pub use Rattle.object_folders.proofs.Defined
 pub use Rattle.object_folders.proofs.Plain
+pub use Rattle.body_uses.proofs.Tested

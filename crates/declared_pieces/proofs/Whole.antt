@@ -11,7 +11,7 @@ use Rattle.object_folders.specs.Bodies.{AreBodies}
 use Rattle.object_folders.proofs.Plain.{class_found}
 use Rattle.object_folders.specs.Standing.{call_type}
 use Rattle.object_folders.proofs.Chains.{byte_not}
-use Rattle.object_folders.specs.Built.{Usable, has_static, is_static, has_no_value}
+use Rattle.object_folders.specs.Built.{Usable, has_static, is_static, has_kind, has_no_value}
 use Rattle.class_code.proofs.Markers.{marked}
 use Rattle.declared_pieces.proofs.Blocks.{to_items, OwnPieces, own_pieces, method_there, helper_there}
 use Rattle.declared_pieces.proofs.Chains.{Stands, whole_chain}
@@ -22,6 +22,7 @@ use Rattle.declared_pieces.proofs.Parts.{constants_there, class_there, statics_a
 use Rattle.declared_pieces.specs.Closed.{IsClosed, items_of}
 use Rattle.declared_pieces.specs.Laws.{PiecesDeclare}
 use Rattle.declared_programs.specs.Declared.{Running, alone, on_receiver, completing, running, FunctionDeclared, ClassDeclared, ChainDeclared, extends_none, extends_one, MadeDeclared, StaticDeclared}
+use Rattle.declared_programs.proofs.Tested.{kind_declared}
 use Rattle.object_folders.specs.Entries.{IsLive}
 use Rattle.file_listings.specs.Listed.{AreBytes}
 use Rattle.helper_rules.specs.Helpers.{helper_name, helper_item, helper_piece}
@@ -30,7 +31,7 @@ use Rattle.helper_rules.specs.declared.kinds.Helper.{Helper}
 use Rattle.js_tree.specs.Terms.{Item, Piece}
 use Rattle.object_folders.specs.Pieces.{piece_of_member, AreLinkedPieces}
 use Rattle.object_folders.proofs.Statics.{static_is}
-use Rattle.object_folders.specs.Used.{used_of, is_among, is_received, is_constructor, is_constructor_without_value, has_static_in, needs_static}
+use Rattle.object_folders.specs.Used.{used_of, is_among, is_received, is_constructor, is_constructor_without_value, has_static_in, needs_static, uses_helper}
 use Rattle.object_folders.specs.Settings.{IsStaticField}
 use Rattle.object_folders.proofs.Made as made
 use Rattle.object_folders.proofs.Methods.{right_method}
@@ -53,6 +54,7 @@ use Rattle.sj_names.specs.declared.references.TypeRef.TheVariants as References
 use Rattle.object_folders.specs.Emitted.{EmittedMethod}
 use Rattle.object_folders.proofs.Same.{has_function-is}
 use Rattle.object_folders.specs.Linked.{has_function}
+use Rattle.sj_emit_expr.specs.Tests.{test_name}
 use Rattle.sj_split.proofs.Members.{into_filter, from_filter}
 use Rattle.sj_trees.specs.declared.classes.FieldDef.{FieldDef}
 use Rattle.sj_trees.specs.declared.classes.ClassDef.{ClassDef}
@@ -337,7 +339,7 @@ pieces_declare entries files l all live written ps bytes a bodies p are_live run
   made = class_made entries files l all live written ps bytes a bodies p are_live run owned;
   field = field_there l.world;
   static_field = static_declared entries files l all live written ps bytes a bodies p are_live run owned;
-  tests = λ t h. impossible h;
+  tests = λ t h. let q = and_parts (has_kind t) (uses_helper p.helpers written (test_name t)) h in kind_declared (used_of l.world l.facts all live p.helpers written) t q.0 q.1;
   casts = λ t h. impossible h;
   kept = fields_kept entries files l.world bytes a;
   ancestors = p.above;

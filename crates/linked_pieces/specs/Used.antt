@@ -1,10 +1,11 @@
 -- What the code of a linked world can use, where the pieces of some of its classes are written.
 use Rattle.std.specs.Prelude.{Bool, true, false, ◌&&◌, not, List, Option, Some, None}
 use Rattle.std.specs.List.{list_any}
-use Rattle.built_forms.specs.Built.{Usable, is_static, has_no_value}
+use Rattle.built_forms.specs.Built.{Usable, is_static, has_kind, has_no_value}
 use Rattle.dispatch_laws.specs.Targets.{target_in}
 use Rattle.helper_rules.specs.Helpers.{helper_name}
 use Rattle.helper_rules.specs.declared.kinds.Helper.{Helper}
+use Rattle.sj_emit_expr.specs.Tests.{test_name}
 use Rattle.sj_names.specs.WellKnown.{object}
 use Rattle.sj_names.specs.Same.{is_same_text}
 use Rattle.sj_names.specs.declared.method_names.Member.{Member}
@@ -60,8 +61,13 @@ needs_static c f _ = false
 abbrev pub uses_static : Classes → List Fact → List Name → Name → Name → IrType → Bool
 uses_static w facts written c f t = is_among written c && (list_any (needs_static c f) facts && has_static_in (class_of w c) f t)
 
+-- one of these helpers has this name, and is written
+abbrev pub uses_helper : List Helper → List Name → Name → Bool
+uses_helper helpers written x = is_among written object && list_any (λ h. is_same_text x (helper_name h)) helpers
+
 -- what the code can use, of a world with these facts, methods, live classes and helpers, where the pieces of these classes are written: their members, a call of a public one running
--- its target, and their constructors that have no value, their objects, each instance field of the world, their static fields that are needed, and the helpers
+-- its target, and their constructors that have no value, their objects, each instance field of the world, their static fields that are needed, the helpers, and the tests of primitive
+-- types that are among them
 abbrev pub used_of : Classes → List Fact → List EmittedMethod → List Name → List Helper → List Name → Usable
 used_of w facts all live helpers written = record {
   linked = λ m. is_static m.namespace && (is_among written m.class && has_function all m);
@@ -72,8 +78,8 @@ used_of w facts all live helpers written = record {
   field = λ c f t. has_field_in (class_of w c) f t;
   static_field = uses_static w facts written;
   static_setter = uses_static w facts written;
-  tests = λ t. false;
+  tests = λ t. has_kind t && uses_helper helpers written (test_name t);
   casts = λ t. false;
-  helper = λ x. is_among written object && list_any (λ h. is_same_text x (helper_name h)) helpers;
+  helper = uses_helper helpers written;
   objects = true;
 }

@@ -1,0 +1,22 @@
+// The types whose values are of one kind.
+ghost use Rattle.std.specs.Prelude.{◌≡◌};
+ghost use Rattle.built_forms.specs.Built as built;
+
+use sj_trees::IrType;
+
+/// Whether the values of a type are of one kind: each primitive type but that of null.
+pub fn has_kind(tpe: &IrType) -> bool
+    ensures { result ≡ built.has_kind tpe.now }
+{
+    matches!(
+        tpe,
+        IrType::Undefined
+            | IrType::Boolean
+            | IrType::Char
+            | IrType::Byte
+            | IrType::Short
+            | IrType::Int
+            | IrType::Long
+            | IrType::String
+    )
+}
