@@ -34,4 +34,4 @@ pub use Rattle.body_uses.proofs.Uses
 pub use Rattle.object_folders.proofs.Fields as ObjectFoldersFields
 pub use Rattle.object_folders.proofs.Defined
 pub use Rattle.object_folders.proofs.Plain
-pub use Rattle.body_uses.proofs.Tested
+pub use Rattle.body_uses.proofs.Tested as BodyUsesTested
