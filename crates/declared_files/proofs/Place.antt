@@ -6,11 +6,11 @@ use Rattle.body_rules.proofs.Lists.{nothing_in, in_front_or_behind, at_front, fu
 use Rattle.body_rules.specs.Standing.{is_bare}
 use Rattle.built_forms.proofs.Statics.{set_static, static_among}
 use Rattle.built_forms.specs.Built.{has_static, can_box, divides, compares}
-use Rattle.declared_programs.proofs.Fields.{fields_differ, begins, statics_differ, static_begins}
-use Rattle.declared_programs.proofs.Items.{IsClassItem, alone as class_alone, extending, code_found, members_found}
-use Rattle.declared_programs.proofs.Place.{marker_held, same_classes, chain_length, zero_literal_is}
-use Rattle.declared_programs.specs.Declarations.{behind}
-use Rattle.declared_programs.specs.Declared.{Running, alone as by_itself, on_receiver, completing, running, is_covered}
+use Rattle.file_declarations.proofs.Fields.{fields_differ, begins, statics_differ, static_begins}
+use Rattle.file_declarations.proofs.Items.{IsClassItem, alone as class_alone, extending, code_found, members_found}
+use Rattle.file_declarations.proofs.Place.{marker_held, same_classes, chain_length, zero_literal_is}
+use Rattle.file_declarations.specs.Declarations.{behind}
+use Rattle.file_declarations.specs.Declared.{Running, alone as by_itself, on_receiver, completing, running, is_covered}
 use Rattle.file_tops.proofs.Run.{some_same}
 use Rattle.file_tops.specs.Tops.{literal_value, link}
 use Rattle.dispatch_laws.specs.Targets.{IsTargetOf}

@@ -5,9 +5,9 @@ use Rattle.std.proofs.lemmas.Bool.{and_parts, or_cases, or_left, or_right, not-t
 use Rattle.std.proofs.lemmas.List.Elements.{Contains-append_left, Contains-append_cases}
 use Rattle.body_rules.proofs.Equal.{equals, is-equal}
 use Rattle.body_rules.proofs.Lists.{nothing_in, in_front_or_behind, at_front, further_on}
-use Rattle.declared_programs.proofs.Items.{name_of, among, first_apart, rest_distinct, cell_found, front_distinct, not_both}
-use Rattle.declared_programs.proofs.Tops.{not_declared, known, properties_known, get_in_front, get_last, length_last, HeapKept, HasClass}
-use Rattle.declared_programs.specs.Declarations.{HoldsLiteral, behind}
+use Rattle.file_declarations.proofs.Items.{name_of, among, first_apart, rest_distinct, cell_found, front_distinct, not_both}
+use Rattle.file_declarations.proofs.Tops.{not_declared, known, properties_known, get_in_front, get_last, length_last, HeapKept, HasClass}
+use Rattle.file_declarations.specs.Declarations.{HoldsLiteral, behind}
 use Rattle.file_tops.proofs.Run.{each, some_same, others_stay}
 use Rattle.file_tops.specs.Tops.{literal_value, with_each, started, link, classes_in, after_item, after_items, after_files}
 use Rattle.js_mean.specs.Files.{module_among, items_in, is_good_file, is_good_module, owner}

@@ -1,18 +1,16 @@
 -- The three files declare what their code uses.
-use Rattle.std.proofs.Common.{◌≡◌, ◌<◌, ℕ, zero, suc, Bool, true, false, List, [], ◌∷◌, Some, None, codes, refl, sym, ap, subst, ⊎_elim, inl, inr, Contains, cond, slice_get, arith}
+use Rattle.std.proofs.Common.{◌≡◌, ◌<◌, ℕ, zero, suc, Bool, true, false, List, [], ◌∷◌, Some, None, codes, refl, sym, ap, subst, ⊎_elim, inl, inr, Contains, IsTrue, cond, slice_get, arith, ◌∙◌}
 use Rattle.outcomes.specs.Agreement.{Agree}
 use Rattle.body_rules.proofs.Equal.{is-equal}
 use Rattle.body_rules.proofs.Lists.{nothing_in, in_front_or_behind, at_front, further_on}
 use Rattle.body_rules.proofs.RulesGive.{no_division}
-use Rattle.body_soundness.proofs.Worked.{member-same, main_right as main_right_at_all, plain, object_laws}
+use Rattle.body_soundness.proofs.Worked.{member-same, main_right as main_right_at_all, each_class, plain, OneField, the_field, field_is, object_laws}
 use Rattle.body_soundness.specs.Laws.{null_pointer, arithmetic}
 use Rattle.body_soundness.specs.Rules.{RightMember}
 use Rattle.body_soundness.specs.Worked.{class_name, field_name, init_name, get_name, init_method, get_method, main_method, gets, gets_field, its_field, object_world, main_member, object_use}
 use Rattle.body_soundness.specs.Worked as worked
 use Rattle.built_forms.specs.Built.{Usable, has_static, members_alone, divides}
-use Rattle.declared_programs.proofs.Worked.{all_declared as declared_alone}
-use Rattle.declared_programs.specs.Declared.{alone, on_receiver, completing, is_covered}
-use Rattle.declared_programs.specs.Worked.{object_constants, object_class, its_constants, its_class, init_function, get_function, main_function}
+use Rattle.file_declarations.specs.Declared.{alone, on_receiver, completing, is_covered, FieldsAreKept}
 use Rattle.file_tops.proofs.Run.{some_same}
 use Rattle.helper_rules.specs.Helpers.{helper_name, helper_item, used_helpers}
 use Rattle.helper_rules.specs.declared.kinds.Failure.TheVariants.{NullReceiver, Division}
@@ -27,6 +25,7 @@ use Rattle.js_tree.specs.Terms.{Name}
 use Rattle.sj_desugar.specs.Desugar.{member}
 use Rattle.sj_emit_expr.specs.Templates.{check_name}
 use Rattle.sj_names.proofs.Same.{impossible}
+use Rattle.sj_names.specs.Grammar.{is_class_name, is_plain_name}
 use Rattle.sj_names.specs.declared.entry_points.EntryPoint.{EntryPoint}
 use Rattle.sj_names.specs.declared.method_names.Member.{Member}
 use Rattle.sj_names.specs.declared.method_names.Namespace.TheVariants.{Private, Constructor}
@@ -35,14 +34,15 @@ use Rattle.sj_proper.specs.Emitted.{initializer_member}
 use Rattle.sj_proper.specs.Methods.{KeepsRules}
 use Rattle.sj_trees.specs.Term.{skip}
 use Rattle.sj_trees.specs.declared.classes.FieldDef.{FieldDef}
+use Rattle.sj_trees.specs.declared.classes.ClassDef.{ClassDef}
 use Rattle.sj_trees.specs.declared.operators.BinaryOp.{BinaryOp}
 use Rattle.sj_trees.specs.declared.types.IrType.{IrType}
-use Rattle.sj_trees.specs.declared.types.IrType.TheVariants.{Int, NoType}
+use Rattle.sj_trees.specs.declared.types.IrType.TheVariants.{Int, Nothing, NoType}
 use Rattle.sj_world.specs.Subtypes.{equal}
 use Rattle.typing_rules.specs.Rules.{nothing_wanted, fitting, HasFieldType}
 use Rattle.declared_files.specs.Declared.{Leads, Stands, Uses, FunctionDeclared, ClassDeclared, extends_none, extends_one, MadeDeclared, StaticDeclared, Declared, IsAmong, IsPublic, IsLawful, all_items, TestDeclared, CastDeclared}
 use Rattle.declared_files.specs.Placed.{Placed, placed}
-use Rattle.declared_files.specs.Worked.{main_file, class_file, object_file, main_use, class_use, use_of, three_files, spread}
+use Rattle.declared_files.specs.Worked.{object_constants, object_class, its_constants, its_class, init_function, get_function, main_function, main_file, class_file, object_file, main_use, class_use, use_of, three_files, spread}
 use Rattle.declared_files.proofs.Whole.{files_agree}
 
 -- what holds of the code of each file, and of code that uses nothing, holds of that of any
@@ -182,6 +182,30 @@ its_declared = record {
   no_char = refl;
 }
 
+the_field_is : IsField object_world class_name field_name Int
+the_field_is = record { definition = worked.its_class; field = its_field; found = refl; among = at_front its_field []; of_objects = refl; named = refl; typed = refl }
+
+field_declared : (c f : Name) (t : IrType) → OneField c f t → IsField object_world c f t
+field_declared c f t (the_field d e g) = subst (λ (x : Name). IsField object_world x f t) (sym d) (subst (λ (x : Name). IsField object_world class_name x t) (sym e) (subst (λ (u : IrType). IsField object_world class_name field_name u) (sym g) the_field_is))
+
+-- each class has no field, or one
+abbrev OfFields : (FieldDef → Type 0) → ClassDef → Type 0
+OfFields P d = (f : FieldDef) → Contains d.fields f → P f
+
+each_field : (P : FieldDef → Type 0) → P its_field → (d : ClassDef) → Contains object_world d → OfFields P d
+each_field P p = each_class (OfFields P) (λ f h. nothing_in f h) (λ f h. subst P (own_field f h) p)
+
+the_only_field : (d : ClassDef) → Contains object_world d → (f : FieldDef) → Contains d.fields f → its_field ≡ f
+the_only_field = each_field (λ f. its_field ≡ f) refl
+
+fields_kept : FieldsAreKept object_world
+fields_kept = record {
+  class_names = each_class (λ d. IsTrue (is_class_name d.name)) refl refl;
+  field_names = λ d f i h. each_field (λ x. IsTrue (is_plain_name x.name)) refl d i f h;
+  once = λ d f g i h k s e. sym (the_only_field d i f h) ∙ the_only_field d i g k;
+  values = λ d f i h e. let none : Int ≡ Nothing = ap (λ (x : FieldDef). x.tpe) (the_only_field d i f h) ∙ e in cc;
+}
+
 main_makes : (c : Name) → class_name ≡ c → MadeDeclared spread c
 main_makes c e = subst (MadeDeclared spread) e (record { above = object_name ∷ []; chain = refl; classes = extends_one class_name object_name [] its_declared refl (extends_none object_name object_declared) })
 
@@ -195,11 +219,11 @@ all_declared = record {
   received = by_file (λ f u. (m : Member) → u.received m ≡ true → FunctionDeclared spread (a_method m) on_receiver m) (λ m h. subst (λ k. FunctionDeclared spread (a_method k) on_receiver k) (sym (member-same m (member class_name Private get_name) h)) get_declared) (λ m h. impossible h) (λ f m h. impossible h);
   built = by_file (λ f u. (m : Member) → u.built m ≡ true → Completes m) (λ m h. subst Completes (sym (member-same m (member class_name Constructor init_name) h)) (init_declared, refl)) (λ m h. impossible h) (λ f m h. impossible h);
   made = by_file (λ f u. (c : Name) → u.made c ≡ true → MadeDeclared spread c) (λ c h. main_makes c (is-equal class_name c h)) (λ c h. class_makes c (is-equal object_name c h)) (λ f c h. impossible h);
-  field = by_file (λ f u. (c g : Name) (t : IrType) → u.field c g t ≡ true → IsField object_world c g t) (λ c g t h. impossible h) (λ c g t h. declared_alone.field c g t h) (λ f c g t h. impossible h);
+  field = by_file (λ f u. (c g : Name) (t : IrType) → u.field c g t ≡ true → IsField object_world c g t) (λ c g t h. impossible h) (λ c g t h. field_declared c g t (field_is c g t h)) (λ f c g t h. impossible h);
   static_field = by_file (λ f u. (c g : Name) (t : IrType) → has_static u c g t ≡ true → StaticDeclared spread c g t) (λ c g t h. impossible h) (λ c g t h. impossible h) (λ f c g t h. impossible h);
   tests = by_file (λ f u. (t : IrType) → u.tests t ≡ true → TestDeclared spread f t) (λ t h. impossible h) (λ t h. impossible h) (λ f t h. impossible h);
   casts = by_file (λ f u. (t : IrType) → u.casts t ≡ true → CastDeclared spread f t) (λ t h. impossible h) (λ t h. impossible h) (λ f t h. impossible h);
-  kept = declared_alone.kept;
+  kept = fields_kept;
   ancestors = λ k. [];
   helper = by_file (λ f u. (h : Helper) → u.helper (helper_name h) ≡ true → (is_covered h ≡ true) × Stands spread (a_helper h) (helper_item (λ k. []) h)) (λ h l. impossible l) (λ h l. impossible l) (λ f h l. impossible l);
   helpers = by_file (λ f u. (h k : Helper) → u.helper (helper_name h) ≡ true → Contains (used_helpers h) k → Uses spread (a_helper h) (a_helper k)) (λ h k l c. impossible l) (λ h k l c. impossible l) (λ f h k l c. impossible l);

@@ -4,7 +4,7 @@ use Rattle.std.specs.List.{Contains, list_all}
 use Rattle.body_soundness.specs.Laws.{ObjectLaws, null_pointer, arithmetic, class_cast}
 use Rattle.body_soundness.specs.Rules.{RightMember}
 use Rattle.built_forms.specs.Built.{Usable, has_static, divides}
-use Rattle.declared_programs.specs.Declared.{Running, alone, on_receiver, completing, running, is_covered, FieldsAreKept}
+use Rattle.file_declarations.specs.Declared.{Running, alone, on_receiver, completing, running, is_covered, FieldsAreKept}
 use Rattle.helper_rules.specs.Helpers.{Above, helper_name, helper_item, used_helpers}
 use Rattle.helper_rules.specs.Words.{marker}
 use Rattle.helper_rules.specs.declared.kinds.Failure.TheVariants.{NullReceiver, Division, Cast}

@@ -1,7 +1,7 @@
 -- The items of files that run one behind another, and what the binding of each holds once they have run.
 use Rattle.std.specs.Prelude.{◌≡◌, ℕ, Bool, true, false, ◌&&◌, List, [], ◌∷◌, ◌++◌, map, Option, Some, None}
 use Rattle.std.specs.List.{Contains, list_all, list_any}
-use Rattle.declared_programs.specs.Declarations.{declares as declares_alone, Holds as HoldsAlone, behind}
+use Rattle.file_declarations.specs.Declarations.{declares as declares_alone, Holds as HoldsAlone, behind}
 use Rattle.file_tops.specs.Tops.{after_items, after_files, link}
 use Rattle.js_mean.specs.Files.{module_among, items_in, is_good_file, owner, running_order}
 use Rattle.js_mean.specs.Meaning.{opening}

@@ -1,13 +1,13 @@
 -- The worked world with objects, `new A().get()`, as three files: one has `java.lang.Object`, one has the class, and one has `main` and calls it.
-use Rattle.std.specs.Prelude.{List, [], ◌∷◌, map, codes, false, true, ◌&&◌, if◌then◌else◌, Some}
+use Rattle.std.specs.Prelude.{List, [], ◌∷◌, map, pos, codes, false, true, ◌&&◌, if◌then◌else◌, Some}
 use Rattle.body_soundness.specs.Worked.{class_name, field_name, init_name, get_name, object_world, main_member, is_member}
 use Rattle.built_forms.specs.Built.{Usable, members_alone}
-use Rattle.declared_programs.specs.Worked.{object_constants, object_class, its_constants, its_class, init_function, get_function, main_function}
 use Rattle.ir_mean.specs.Rows.{object_name, once}
 use Rattle.js_mean.specs.Shows.{file_of}
 use Rattle.js_mean.specs.States.{Program}
 use Rattle.js_tree.specs.Names.{is_same_text}
-use Rattle.js_tree.specs.Terms.{Name, Module}
+use Rattle.js_tree.specs.Terms.{Name, number_literal, text_literal, name_use, this_use, property_of, call_of, new_of, Expression, no_expressions, expression, expression_statement, assign_property, super_call, return_of, Statement, Property, constructor_of, Item, object_item, function_item, class_item, subclass_item, Module}
+use Rattle.js_tree.specs.Views.{statements_of}
 use Rattle.sj_desugar.specs.Desugar.{member}
 use Rattle.sj_names.specs.declared.method_names.Namespace.TheVariants.{Private, Constructor}
 use Rattle.sj_plain.specs.Settings.{Top, a_function, a_class, some_constants}
@@ -15,6 +15,49 @@ use Rattle.sj_proper.specs.Emitted.{call_item_of}
 use Rattle.sj_trees.specs.SameTypes.{is_same_type}
 use Rattle.sj_trees.specs.declared.types.IrType.TheVariants.{Int}
 use Rattle.declared_files.specs.Declared.{Spread}
+
+-- `s: "x"`, and `x: 1`
+abbrev pub own_mark : Name → Property
+own_mark x = record { name = codes "s"; value = text_literal x }
+
+abbrev pub mark : Name → Property
+mark x = record { name = x; value = number_literal (pos 1) }
+
+-- `this.x = e;`
+abbrev pub sets : Name → Expression → Statement
+sets x e = assign_property this_use x e
+
+-- `const k_java_lang_Object = {s: "i_java_lang_Object", i_java_lang_Object: 1};`
+abbrev pub object_constants : Item
+object_constants = object_item (codes "k_java_lang_Object") (own_mark (codes "i_java_lang_Object") ∷ mark (codes "i_java_lang_Object") ∷ [])
+
+-- `class c_java_lang_Object { constructor() { this.k = k_java_lang_Object; } }`
+abbrev pub object_class : Item
+object_class = class_item (codes "c_java_lang_Object") (constructor_of [] (statements_of (sets (codes "k") (name_use (codes "k_java_lang_Object")) ∷ [])) ∷ [])
+
+-- `const k_A = {s: "i_A", i_A: 1, i_java_lang_Object: 1};`
+abbrev pub its_constants : Item
+its_constants = object_item (codes "k_A") (own_mark (codes "i_A") ∷ mark (codes "i_A") ∷ mark (codes "i_java_lang_Object") ∷ [])
+
+-- `class c_A extends c_java_lang_Object { constructor() { super(); this.k = k_A; this.f_A__f = 0; } }`
+abbrev pub its_class : Item
+its_class = subclass_item (codes "c_A") (codes "c_java_lang_Object") (constructor_of [] (statements_of (super_call ∷ sets (codes "k") (name_use (codes "k_A")) ∷ sets (codes "f_A__f") (number_literal (pos 0)) ∷ [])) ∷ [])
+
+-- `function ct_A__$3cinit$3e$$V($this) { return $this; }`
+abbrev pub init_function : Item
+init_function = function_item (codes "ct_A__$3cinit$3e$$V") (codes "$this" ∷ []) (statements_of (return_of (name_use (codes "$this")) ∷ []))
+
+-- `function p_A__get$$I($this) { return $this.f_A__f; }`
+abbrev pub get_function : Item
+get_function = function_item (codes "p_A__get$$I") (codes "$this" ∷ []) (statements_of (return_of (property_of (name_use (codes "$this")) (codes "f_A__f")) ∷ []))
+
+-- `ct_A__$3cinit$3e$$V(new c_A())`
+abbrev pub new_object : Expression
+new_object = call_of (codes "ct_A__$3cinit$3e$$V") (expression (new_of (codes "c_A") no_expressions) no_expressions)
+
+-- `function s_java_lang_Object__main$$V() { p_A__get$$I(ct_A__$3cinit$3e$$V(new c_A())); }`
+abbrev pub main_function : Item
+main_function = function_item (codes "s_java_lang_Object__main$$V") [] (statements_of (expression_statement (call_of (codes "p_A__get$$I") (expression new_object no_expressions)) ∷ []))
 
 abbrev pub main_file : Name
 main_file = file_of (codes "main")

@@ -21,7 +21,7 @@ use Rattle.declared_pieces.specs.Accepted.{IsAccepted}
 use Rattle.declared_pieces.specs.Bodies.{AreBodies}
 use Rattle.declared_pieces.specs.Built.{Usable, has_static, is_static, has_kind, has_no_value, divides}
 use Rattle.declared_pieces.specs.Closed.{IsClosed}
-use Rattle.declared_pieces.specs.DeclaredProgramsDeclared.{Running, alone, on_receiver, completing, running, is_covered}
+use Rattle.declared_pieces.specs.FileDeclarations.{Running, alone, on_receiver, completing, running, is_covered}
 use Rattle.declared_pieces.specs.Emitted.{EmittedMethod}
 use Rattle.declared_pieces.specs.Entries.{IsLive}
 use Rattle.declared_pieces.specs.Linked.{has_function}

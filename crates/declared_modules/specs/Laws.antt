@@ -5,7 +5,7 @@ use Rattle.declared_files.specs.Declared.{Declared}
 use Rattle.declared_pieces.specs.Accepted.{IsAccepted}
 use Rattle.declared_pieces.specs.Bodies.{AreBodies}
 use Rattle.declared_pieces.specs.Closed.{IsClosed}
-use Rattle.declared_pieces.specs.DeclaredProgramsDeclared.{is_covered}
+use Rattle.declared_pieces.specs.FileDeclarations.{is_covered}
 use Rattle.declared_pieces.specs.Emitted.{EmittedMethod}
 use Rattle.declared_pieces.specs.Entries.{IsLive}
 use Rattle.declared_pieces.specs.Pieces.{AreLinkedPieces}

@@ -3,7 +3,6 @@ use Rattle.std.proofs.Common.{◌≡◌, ◌⊎◌, ◌++◌, Bool, true, false,
 use Rattle.std.specs.Prelude.{is_some}
 use Rattle.std.specs.List.{Contains}
 use Rattle.std.proofs.lemmas.List.Elements.{Contains-append_left, Contains-append_right}
-use Rattle.declared_pieces.specs.Closed.{items_of}
 use Rattle.object_folders.proofs.EachTyped.{in_all}
 use Rattle.helper_rules.specs.Helpers.{helper_piece}
 use Rattle.helper_rules.specs.declared.kinds.Helper.{Helper}
@@ -11,7 +10,6 @@ use Rattle.js_tree.specs.Terms.{Name, Piece}
 use Rattle.object_folders.specs.Pieces.{piece_of_member, Block, IsBlock, AreBlocks, pieces_of_block, with_helpers, AreLinkedPieces}
 use Rattle.object_folders.specs.Classes.{AreClassPieces, AreParts, absent, present}
 use Rattle.object_folders.specs.PieceRulesPieces.{Parts, pieces}
-use Rattle.proper_pieces.specs.Modules.{item_of, is_owned}
 use Rattle.sj_names.specs.WellKnown.{is_object, object}
 use Rattle.object_folders.specs.Emitted.{EmittedMethod}
 use Rattle.sj_split.proofs.Members.{at_first, further, cons_cases, into_map, into_filter}
@@ -20,10 +18,6 @@ use Rattle.sj_world.proofs.OnCycles.{among}
 use Rattle.sj_world.specs.Known.{Classes, class_of}
 use Rattle.sj_world.specs.Linked.{Linked}
 use Rattle.worklist.proofs.Inserted.{nothing_in}
-
--- the item of a piece that one of these classes owns
-pub to_items : (written : List Name) (ps : List Piece) (q : Piece) → Contains ps q → Contains written q.owner → Contains (items_of written ps) q.item
-to_items written ps q i h = into_map item_of _ q (into_filter (is_owned written) ps q i ((among written q.owner).1 h))
 
 pub in_block : (w : Classes) (hs : List Piece) (b : Block) (q : Piece) → Contains (pieces_of_block w b) q → Contains (with_helpers w hs b) q
 in_block w hs b q i = go (is_object b.class)

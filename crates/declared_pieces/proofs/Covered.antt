@@ -2,8 +2,8 @@
 use Rattle.std.proofs.Common.{◌≡◌, true, List, [], ◌∷◌, map, refl}
 use Rattle.std.specs.Prelude.{is_some}
 use Rattle.std.specs.List.{list_all}
-use Rattle.declared_programs.specs.Declarations.{declares}
-use Rattle.declared_programs.specs.Declared.{is_covered}
+use Rattle.file_declarations.specs.Declarations.{declares}
+use Rattle.file_declarations.specs.Declared.{is_covered}
 use Rattle.file_tops.specs.Tops.{literal_value}
 use Rattle.helper_rules.specs.Helpers.{Above, helper_name, marker_property, constants, helper_item}
 use Rattle.helper_rules.specs.Words.{kind_class}

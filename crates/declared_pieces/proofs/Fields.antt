@@ -6,7 +6,7 @@ use Rattle.object_folders.proofs.Members.{same-class}
 use Rattle.object_folders.proofs.AcceptedFoldersWorlds.{judged}
 use Rattle.object_folders.specs.Accepted.{IsAccepted}
 use Rattle.object_folders.specs.Locals.{HasValue}
-use Rattle.declared_programs.specs.Declared.{FieldsAreKept}
+use Rattle.file_declarations.specs.Declared.{FieldsAreKept}
 use Rattle.file_listings.proofs.ListedClasses.{file_is_listed}
 use Rattle.file_listings.specs.Listed.{AreBytes}
 use Rattle.object_folders.proofs.LinkedPiecesFields.{fields_apart}

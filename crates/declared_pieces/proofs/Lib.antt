@@ -14,7 +14,6 @@ pub use Rattle.object_folders.proofs.Calls
 pub use Rattle.object_folders.proofs.Members
 pub use Rattle.object_folders.proofs.Assembled
 pub use Rattle.body_uses.proofs.Written
-pub use Rattle.declared_programs.proofs.Whole as DeclaredProgramsWhole
 pub use Rattle.object_folders.proofs.EachTyped
 pub use Rattle.object_folders.proofs.Made
 pub use Rattle.object_folders.proofs.Worlds as ObjectFoldersWorlds
@@ -28,7 +27,6 @@ pub use Rattle.object_folders.proofs.Verdict
 pub use Rattle.object_folders.proofs.Same
 pub use Rattle.object_folders.proofs.Objects
 pub use Rattle.body_uses.proofs.Given
-pub use Rattle.declared_programs.proofs.Tested
 pub use Rattle.body_uses.proofs.Standing
 pub use Rattle.body_uses.proofs.Uses
 pub use Rattle.object_folders.proofs.Fields as ObjectFoldersFields

@@ -11,8 +11,8 @@ use Rattle.declared_pieces.proofs.Live.{next_is, live_next, classes_kept, live_f
 use Rattle.declared_pieces.proofs.Parts.{class_there, uses_superclass}
 use Rattle.declared_pieces.specs.Closed.{IsClosed, items_of}
 use Rattle.declared_pieces.specs.Laws.{PiecesAreDeclarations}
-use Rattle.declared_programs.specs.Declarations.{with_class, declares, declare}
-use Rattle.declared_programs.specs.Declared.{is_covered}
+use Rattle.file_declarations.specs.Declarations.{with_class, declares, declare}
+use Rattle.file_declarations.specs.Declared.{is_covered}
 use Rattle.object_folders.specs.Entries.{IsLive}
 use Rattle.file_listings.specs.Listed.{AreBytes}
 use Rattle.helper_rules.specs.Helpers.{Above, helper_piece}

@@ -1,4 +1,4 @@
--- The items of the pieces that some classes own declare all that code can use there.
+-- What the code of the written classes can use has its pieces.
 use Rattle.std.proofs.Common.{◌≡◌, ◌&&◌, not, Bool, true, false, List, [], ◌∷◌, Option, Some, None, IsTrue, codes, map, refl, sym, ap, subst, ◌∙◌}
 use Rattle.std.specs.Prelude.{◌↔◌}
 use Rattle.std.specs.List.{Contains, filter, list_any}
@@ -13,16 +13,15 @@ use Rattle.object_folders.specs.Standing.{call_type}
 use Rattle.object_folders.proofs.Chains.{byte_not}
 use Rattle.object_folders.specs.Built.{Usable, has_static, is_static, has_kind, has_no_value}
 use Rattle.class_code.proofs.Markers.{marked}
-use Rattle.declared_pieces.proofs.Blocks.{to_items, OwnPieces, own_pieces, method_there, helper_there}
+use Rattle.declared_pieces.proofs.Blocks.{OwnPieces, own_pieces, method_there, helper_there}
 use Rattle.declared_pieces.proofs.Chains.{Stands, whole_chain}
 use Rattle.declared_pieces.proofs.Fields.{field_there, static_there, class_named, fields_kept}
 use Rattle.declared_pieces.proofs.HelperNames.{one_helper}
 use Rattle.declared_pieces.proofs.Live.{next_is, live_next, classes_kept, live_free, live_there}
 use Rattle.declared_pieces.proofs.Parts.{constants_there, class_there, statics_among, in_statics, is_reached, uses_superclass}
-use Rattle.declared_pieces.specs.Closed.{IsClosed, items_of}
-use Rattle.declared_pieces.specs.Laws.{PiecesDeclare}
-use Rattle.declared_programs.specs.Declared.{Running, alone, on_receiver, completing, running, FunctionDeclared, ClassDeclared, ChainDeclared, extends_none, extends_one, MadeDeclared, StaticDeclared}
-use Rattle.declared_programs.proofs.Tested.{kind_declared}
+use Rattle.declared_pieces.specs.Closed.{IsClosed}
+use Rattle.declared_pieces.specs.Laws.{WhatIsUsedHasPieces}
+use Rattle.file_declarations.specs.Declared.{alone, on_receiver, running}
 use Rattle.object_folders.specs.Entries.{IsLive}
 use Rattle.file_listings.specs.Listed.{AreBytes}
 use Rattle.helper_rules.specs.Helpers.{helper_name, helper_item, helper_piece}
@@ -132,21 +131,7 @@ module _ (entries : List EntryPoint) (files : List SourceFile) (l : Linked) (all
   abbrev has : Usable
   has = used_of w l.facts all live p.helpers written
 
-  abbrev items : List Item
-  items = items_of written ps
-
   -- members
-
-  module _ (e : EmittedMethod) (i : Contains all e) (here : Contains written e.member.class) (r : Running) (runs : running e.member.namespace ≡ r) where
-    its_definition : IsMethodOf w e.member e.definition
-    its_definition = defined w e.member e.definition (bodies.found e i).found
-
-    abbrev function_of : FunctionDeclared w has items r e.member
-    function_of = record {
-      right = right_method entries files w bytes a all bodies has e i (run.are_built e i here);
-      runs = ap running its_definition.first.has.namespace_is ∙ runs;
-      function = to_items written ps (piece_of_member l.world e) (method_there l all ps p e i its_definition.class its_definition.is_class) here;
-    }
 
   -- a method of a class that is written, of this member
   pub record Method (m : Member) : Type 0 where
@@ -160,25 +145,6 @@ module _ (entries : List EntryPoint) (files : List SourceFile) (l : Linked) (all
       let q = and_parts (is_among written m.class) (has_function all m) h in
       let f = has_function-is all m q.1 in
       record { method = f.method; listed = f.listed; is = f.is; here = subst (λ (k : Member). Contains written k.class) (sym f.is) ((among written m.class).0 q.0) }
-
-  member_declared : (test : Namespace → Bool) (r : Running) → ((n : Namespace) → test n ≡ true → running n ≡ r) → (m : Member) → (test m.namespace && (is_among written m.class && has_function all m)) ≡ true → FunctionDeclared w has items r m
-  member_declared test r runs m h =
-      let q = and_parts (test m.namespace) (is_among written m.class && has_function all m) h in
-      let f = method_of m q.1 in
-      subst (FunctionDeclared w has items r) f.is (function_of f.method f.listed f.here r (subst (λ (k : Member). running k.namespace ≡ r) (sym f.is) (runs m.namespace q.0)))
-
-  abbrev Completes : Member → Type 0
-  Completes m = (b : FunctionDeclared w has items completing m) × (b.right.definition.result ≡ NoType)
-
-  constructor_declared : (m : Member) → (is_constructor_without_value m && (is_among written m.class && has_function all m)) ≡ true → Completes m
-  constructor_declared m h =
-      let q = and_parts (is_constructor_without_value m) (is_among written m.class && has_function all m) h in
-      let its = and_parts (is_constructor m.namespace) (has_no_value m.method.result) q.0 in
-      let f = method_of m q.1 in
-      let constructs : f.method.member.namespace ≡ Constructor = ap (λ (k : Member). k.namespace) f.is ∙ constructor_is m.namespace its.0 in
-      let declared : FunctionDeclared w has items completing f.method.member = function_of f.method f.listed f.here completing (ap running constructs) in
-      let none : has_no_value f.method.member.method.result ≡ true = subst (λ (k : Member). has_no_value k.method.result ≡ true) (sym f.is) its.1 in
-      subst Completes f.is (declared, declared.right.result_is ∙ no_value f.method.member.method.result none)
 
   -- classes
 
@@ -214,44 +180,16 @@ module _ (entries : List EntryPoint) (files : List SourceFile) (l : Linked) (all
     pub class_here : Contains ps class_of_its
     class_here = subst (λ (n : Name). Contains ps (class_piece n its.class.superclass its.entries its.fields)) named (own.there (class_piece its.class.name its.class.superclass its.entries its.fields) (class_there its (own.are.live.1 c_live)))
 
-    class_declared : ClassDeclared w has items c its.class.superclass
-    class_declared = record {
-      made = and_from (is_among written c) (is_among live c) ((among written c).1 good.is_written) ((among live c).1 good.is_live);
-      definition = its.class;
-      found = same-class w c ∙ own.are.class_is;
-      fields = its.fields;
-      own = own_fields its.class.fields its.fields own.are.fields;
-      whole = whole_fields its.class.fields its.fields own.are.fields;
-      ancestors = its.ancestors;
-      constants = to_items written ps (constants_piece c its.ancestors) constants_here good.is_written;
-      others = map entry_member its.entries;
-      class = to_items written ps class_of_its class_here good.is_written;
-      marked = marked c is_named;
-      no_char = byte_not c free (codes "java.lang.Character") refl;
-    }
-
     pub super_good : (d : Name) → its.class.superclass ≡ Some d → Good d
     super_good d super =
         let next : IsNext w c d = next_is w c its.class own.are.class_is free ∙ super in
         record { is_live = (are_live d).1 (live_next w l.facts c d c_live next); is_written = owned class_of_its class_here good.is_written (bound d (class_name d)) (uses_superclass c d its.class.superclass its.entries super) }
 
-    abbrev stands : Stands w Good c
+    abbrev pub stands : Stands w Good c
     stands = record { class = its.class; found = own.are.class_is; free = free; up = super_good }
-
-  abbrev Chain : List Name → Type 0
-  Chain = ChainDeclared w has items
-
-  chain_ends : (c : Name) (good : Good c) → (its c good).class.superclass ≡ None → Chain (c ∷ [])
-  chain_ends c good e = extends_none c (subst (ClassDeclared w has items c) e (class_declared c good))
-
-  chain_goes_on : (c d : Name) (ds : List Name) (good : Good c) → (its c good).class.superclass ≡ Some d → Chain (d ∷ ds) → Chain (c ∷ d ∷ ds)
-  chain_goes_on c d ds good e rest = extends_one c d ds (subst (ClassDeclared w has items c) e (class_declared c good)) rest
 
   pub made_good : (c : Name) → (is_among written c && is_among live c) ≡ true → Good c
   made_good c h = let q = and_parts (is_among written c) (is_among live c) h in record { is_live = (among live c).0 q.1; is_written = (among written c).0 q.0 }
-
-  class_made : (c : Name) → (is_among written c && is_among live c) ≡ true → MadeDeclared w has items c
-  class_made c h = let chain = whole_chain w (classes_kept entries files w bytes a) a.world.no_cycle Good stands Chain chain_ends chain_goes_on c (made_good c h) in record { above = chain.above; chain = chain.is_chain; classes = chain.classes }
 
   -- static fields
 
@@ -298,12 +236,6 @@ module _ (entries : List EntryPoint) (files : List SourceFile) (l : Linked) (all
     pub setter_there : Contains ps (setter_piece c d)
     setter_there = subst (λ (n : Name). Contains ps (setter_piece n d)) name_is (pieces_of_it.there (setter_piece parts.class.name d) (statics_among parts (setter_piece parts.class.name d) there.1))
 
-    its_static : StaticDeclared w items c f t
-    its_static = record { field = need.field; variable = to_items written ps (variable_piece c d) variable_there need.here; setter = to_items written ps (setter_piece c d) setter_there need.here }
-
-  static_declared : (c f : Name) (t : IrType) → has_static has c f t ≡ true → StaticDeclared w items c f t
-  static_declared c f t h = its_static c f t (needed_static c f t h)
-
   -- helpers
 
   abbrev IsNamed : Name → Helper → Bool
@@ -328,24 +260,22 @@ module _ (entries : List EntryPoint) (files : List SourceFile) (l : Linked) (all
   pub helper_listed : (h : Helper) → IsWritten h → Contains ps (helper_piece p.above h)
   helper_listed h i = let k = made.present w entries a.resolved (classes_kept entries files w bytes a) object (closed w entries (NeededClass object) the_object) in helper_there l all ps p k.0 k.1 h i.among_helpers
 
-  helper_here : (h : Helper) → IsWritten h → Contains items (helper_item p.above h)
-  helper_here h i = to_items written ps (helper_piece p.above h) (helper_listed h i) i.with_object
-
-pub pieces_declare : PiecesDeclare
-pieces_declare entries files l all live written ps bytes a bodies p are_live run owned covered = record {
-  linked = member_declared entries files l all live written ps bytes a bodies p are_live run owned is_static alone static_alone;
-  received = member_declared entries files l all live written ps bytes a bodies p are_live run owned is_received on_receiver received_runs;
-  built = constructor_declared entries files l all live written ps bytes a bodies p are_live run owned;
-  made = class_made entries files l all live written ps bytes a bodies p are_live run owned;
-  field = field_there l.world;
-  static_field = static_declared entries files l all live written ps bytes a bodies p are_live run owned;
-  tests = λ t h. let q = and_parts (has_kind t) (uses_helper p.helpers written (test_name t)) h in kind_declared (used_of l.world l.facts all live p.helpers written) t q.0 q.1;
-  casts = λ t h. impossible h;
-  kept = fields_kept entries files l.world bytes a;
-  ancestors = p.above;
-  helper = λ h e. let i = written_there h e in (covered h i.among_helpers, helper_here entries files l all live written ps bytes a bodies p are_live run owned h i);
-  helpers = λ h k e used. let i = written_there h e in helper_had entries files l all live written ps bytes a bodies p are_live run owned k (record { among_helpers = run.closed h k i.among_helpers used; with_object = i.with_object });
+pub has_pieces : WhatIsUsedHasPieces
+has_pieces entries files l all live written ps bytes a bodies p are_live run owned = record {
+  methods = λ m h.
+      let f = method_of entries files l all live written ps bytes a bodies p are_live run owned m h in
+      let d = defined l.world f.method.member f.method.definition (bodies.found f.method f.listed).found in
+      record { method = f.method; listed = f.listed; is = f.is; function = method_there l all ps p f.method f.listed d.class d.is_class };
+  classes = λ c h. let good = made_good entries files l all live written ps bytes a bodies p are_live run owned c h in record {
+    parts = its entries files l all live written ps bytes a bodies p are_live run owned c good;
+    are = (own entries files l all live written ps bytes a bodies p are_live run owned c good).are;
+    constants = constants_here entries files l all live written ps bytes a bodies p are_live run owned c good;
+    class = class_here entries files l all live written ps bytes a bodies p are_live run owned c good;
+  };
+  statics = λ c f t h. let need = needed_static entries files l all live written ps bytes a bodies p are_live run owned c f t h in record {
+    field = need.field;
+    variable = variable_there entries files l all live written ps bytes a bodies p are_live run owned c f t need;
+    setter = setter_there entries files l all live written ps bytes a bodies p are_live run owned c f t need;
+  };
+  helpers = λ h e. helper_listed entries files l all live written ps bytes a bodies p are_live run owned h (helper_written entries files l all live written ps bytes a bodies p are_live run owned h e);
 }
-  where
-    written_there : (h : Helper) → (used_of l.world l.facts all live p.helpers written).helper (helper_name h) ≡ true → IsWritten entries files l all live written ps bytes a bodies p are_live run owned h
-    written_there h e = helper_written entries files l all live written ps bytes a bodies p are_live run owned h e

@@ -1,29 +1,64 @@
 -- Laws of the pieces that some classes of a linked world own.
-use Rattle.std.specs.Prelude.{◌≡◌, ◌↔◌, true, List, []}
+use Rattle.std.specs.Prelude.{◌≡◌, ◌↔◌, ◌&&◌, true, List, []}
 use Rattle.std.specs.List.{Contains}
-use Rattle.object_folders.specs.Accepted.{IsAccepted}
-use Rattle.object_folders.specs.Bodies.{AreBodies}
 use Rattle.declared_pieces.specs.Closed.{IsClosed, items_of}
-use Rattle.declared_programs.specs.Declarations.{declare}
-use Rattle.declared_programs.specs.Declared.{Declared, is_covered}
-use Rattle.object_folders.specs.Entries.{IsLive}
+use Rattle.file_declarations.specs.Declarations.{declare}
+use Rattle.file_declarations.specs.Declared.{is_covered}
 use Rattle.file_listings.specs.Listed.{AreBytes}
+use Rattle.helper_rules.specs.Helpers.{helper_name, helper_piece}
 use Rattle.helper_rules.specs.declared.kinds.Helper.{Helper}
 use Rattle.js_tree.specs.Terms.{Piece}
-use Rattle.object_folders.specs.Pieces.{AreLinkedPieces}
-use Rattle.object_folders.specs.Used.{used_of}
-use Rattle.object_folders.specs.Running.{CanRun}
+use Rattle.object_folders.specs.Accepted.{IsAccepted}
+use Rattle.object_folders.specs.Bodies.{AreBodies}
+use Rattle.object_folders.specs.Built.{has_static}
+use Rattle.object_folders.specs.Classes.{AreParts}
+use Rattle.object_folders.specs.Emitted.{EmittedMethod}
+use Rattle.object_folders.specs.Entries.{IsLive}
+use Rattle.object_folders.specs.Linked.{has_function}
+use Rattle.object_folders.specs.PieceRulesPieces.{Parts, constants_piece, class_piece, variable_piece, setter_piece}
+use Rattle.object_folders.specs.Pieces.{piece_of_member, AreLinkedPieces}
 use Rattle.object_folders.specs.Reachable.{Reachable}
+use Rattle.object_folders.specs.Running.{CanRun}
+use Rattle.object_folders.specs.Settings.{IsStaticField}
+use Rattle.object_folders.specs.Used.{used_of, is_among}
 use Rattle.sj_names.specs.declared.entry_points.EntryPoint.{EntryPoint}
 use Rattle.sj_names.specs.declared.folders.SourceFile.{SourceFile}
-use Rattle.object_folders.specs.Emitted.{EmittedMethod}
-use Rattle.sj_world.specs.Known.{Name}
+use Rattle.sj_names.specs.declared.method_names.Member.{Member}
+use Rattle.sj_trees.specs.declared.types.IrType.{IrType}
+use Rattle.sj_world.specs.Known.{Name, Classes}
 use Rattle.sj_world.specs.Linked.{Linked}
 use Rattle.sj_world.specs.declared.facts.Fact.{Fact}
 
--- where what is written can run, and uses nothing but what is written, its items declare all that code can use there
-abbrev pub PiecesDeclare : Type 0
-PiecesDeclare = (entries : List EntryPoint) (files : List SourceFile) (l : Linked) (all : List EmittedMethod) (live written : List Name) (ps : List Piece)
+-- a member with a body, and the piece of its function
+pub record MethodThere (w : Classes) (all : List EmittedMethod) (ps : List Piece) (m : Member) : Type 0 where
+  pub method : EmittedMethod
+  pub listed : Contains all method
+  pub is : method.member ≡ m
+  pub function : Contains ps (piece_of_member w method)
+
+-- a class whose objects can be made, with its parts in the linked world, and the pieces of its constants and of itself
+pub record ClassThere (l : Linked) (ps : List Piece) (c : Name) : Type 0 where
+  pub parts : Parts
+  pub are : AreParts l c parts
+  pub constants : Contains ps (constants_piece c parts.ancestors)
+  pub class : Contains ps (class_piece c parts.class.superclass parts.entries parts.fields)
+
+-- a static field, and the pieces of its variable and of the function that sets it
+pub record StaticThere (w : Classes) (ps : List Piece) (c f : Name) (t : IrType) : Type 0 where
+  pub field : IsStaticField w c f t
+  pub variable : Contains ps (variable_piece c field.field)
+  pub setter : Contains ps (setter_piece c field.field)
+
+-- what the code of the written classes can use has its pieces
+pub record HasPieces (l : Linked) (all : List EmittedMethod) (live written : List Name) (ps : List Piece) (p : AreLinkedPieces l all ps) : Type 0 where
+  pub methods : (m : Member) → (is_among written m.class && has_function all m) ≡ true → MethodThere l.world all ps m
+  pub classes : (c : Name) → (used_of l.world l.facts all live p.helpers written).made c ≡ true → ClassThere l ps c
+  pub statics : (c f : Name) (t : IrType) → has_static (used_of l.world l.facts all live p.helpers written) c f t ≡ true → StaticThere l.world ps c f t
+  pub helpers : (h : Helper) → (used_of l.world l.facts all live p.helpers written).helper (helper_name h) ≡ true → Contains ps (helper_piece p.above h)
+
+-- where what is written can run, and uses nothing but what is written, what its code can use has its pieces
+abbrev pub WhatIsUsedHasPieces : Type 0
+WhatIsUsedHasPieces = (entries : List EntryPoint) (files : List SourceFile) (l : Linked) (all : List EmittedMethod) (live written : List Name) (ps : List Piece)
     → ((file : SourceFile) → Contains files file → AreBytes file.bytes)
     → IsAccepted entries files l.world
     → AreBodies l.world entries all
@@ -31,10 +66,9 @@ PiecesDeclare = (entries : List EntryPoint) (files : List SourceFile) (l : Linke
     → ((c : Name) → Contains live c ↔ IsLive l.world l.facts c)
     → CanRun l.world entries l.facts all live p.helpers written
     → IsClosed ps written
-    → ((h : Helper) → Contains p.helpers h → is_covered h ≡ true)
-    → Declared l.world (used_of l.world l.facts all live p.helpers written) (items_of written ps)
+    → HasPieces l all live written ps p
 
--- and they do nothing but declare
+-- the items of what is written do nothing but declare
 abbrev pub PiecesAreDeclarations : Type 0
 PiecesAreDeclarations = (entries : List EntryPoint) (files : List SourceFile) (l : Linked) (all : List EmittedMethod) (written : List Name) (ps : List Piece)
     → ((file : SourceFile) → Contains files file → AreBytes file.bytes)

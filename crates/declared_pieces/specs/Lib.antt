@@ -16,8 +16,7 @@ pub use Rattle.object_folders.specs.LinkedPiecesLaws
 pub use Rattle.object_folders.specs.Used
 pub use Rattle.object_folders.specs.Files
 pub use Rattle.body_uses.specs.Written
-pub use Rattle.declared_programs.specs.Declared as DeclaredProgramsDeclared
-pub use Rattle.declared_programs.specs.Files as DeclaredProgramsFiles
+pub use Rattle.file_declarations.specs.Declared as FileDeclarations
 pub use Rattle.object_folders.specs.Running
 pub use Rattle.proper_pieces.specs.Laws as ProperPiecesLaws
 pub use Rattle.object_folders.specs.Rules

@@ -1,4 +1,3 @@
-pub mod Planned
 pub mod Live
 pub mod Links
 pub mod One

@@ -1,4 +1,4 @@
--- The written pieces are closed under what they use, so their file agrees with the classes.
+-- What is written of the pieces of an accepted folder can run.
 use Rattle.std.proofs.Common.{◌≡◌, ◌↔◌, ◌⊎◌, ◌++◌, ℕ, Bool, true, false, List, [], ◌∷◌, Option, Some, inl, inr, refl, sym, subst, map, Contains, if◌then◌else◌}
 use Rattle.std.specs.List.{flat_map}
 use Rattle.std.specs.Prelude.{not, is_some}
@@ -9,20 +9,14 @@ use Rattle.declared_pieces.proofs.Members.{defined}
 use Rattle.declared_pieces.proofs.Worlds.{judged}
 use Rattle.declared_pieces.specs.Accepted.{IsAccepted}
 use Rattle.declared_pieces.specs.Bodies.{AreBodies}
-use Rattle.declared_pieces.proofs.Assembled.{laws_of}
 use Rattle.declared_pieces.proofs.Written.{accepted_bodies}
 use Rattle.declared_pieces.specs.Written.{AreWrittenWith}
 use Rattle.declared_pieces.specs.Built.{Usable, is_object_body, has_built_body, not_built}
 use Rattle.declared_pieces.proofs.Blocks.{method_there, helper_there}
-use Rattle.declared_pieces.proofs.Order.{pieces_are_declarations}
-use Rattle.declared_pieces.proofs.Whole.{pieces_declare}
-use Rattle.declared_pieces.specs.Closed.{IsClosed, items_of}
-use Rattle.declared_pieces.proofs.DeclaredProgramsWhole.{programs_agree}
-use Rattle.declared_pieces.specs.DeclaredProgramsDeclared.{is_covered}
-use Rattle.declared_pieces.specs.DeclaredProgramsFiles.{module_declaring, program_declaring}
+use Rattle.declared_pieces.specs.Closed.{IsClosed}
+use Rattle.declared_pieces.specs.FileDeclarations.{is_covered}
 use Rattle.declared_pieces.specs.Entries.{IsLive}
 use Rattle.file_listings.specs.Listed.{AreBytes}
-use Rattle.declared_pieces.proofs.EachTyped.{in_map}
 use Rattle.helper_rules.specs.Helpers.{failure_class, helper_piece, init_name, of, used_helpers}
 use Rattle.helper_rules.specs.Words.{bound, class_name}
 use Rattle.helper_rules.specs.declared.kinds.Failure.{Failure}
@@ -30,28 +24,18 @@ use Rattle.helper_rules.specs.declared.kinds.Helper.{Helper}
 use Rattle.helper_rules.specs.declared.kinds.Helper.TheVariants as helpers
 use Rattle.helper_rules.specs.declared.kinds.Kind.TheVariants as kinds
 use Rattle.ir_mean.specs.Shows.{initializers}
-use Rattle.js_mean.specs.Proper.{is_proper_module}
-use Rattle.js_mean.specs.Shows as js_showing
-use Rattle.js_mean.specs.Shows.{File, file_of}
-use Rattle.js_tree.specs.Spelling.{Spells}
 use Rattle.js_tree.specs.Terms.{Piece}
 use Rattle.declared_pieces.specs.Pieces.{piece_of_member, Block, AreBlocks, pieces_of_block, by_piece, by_helper, AreLinkedPieces}
 use Rattle.declared_pieces.specs.Used.{used_of, is_among}
 use Rattle.declared_pieces.proofs.Made as made
-use Rattle.declared_pieces.proofs.ObjectFoldersWorlds.{carry}
 use Rattle.declared_pieces.specs.Running.{CanBeThrown, CanRun}
 use Rattle.object_helpers.proofs.Pieces.{of_objects, reached}
 use Rattle.object_helpers.specs.Helpers.{is_object_helper}
-use Rattle.declared_pieces.proofs.Modules.{modules_of_pieces_are_proper}
 use Rattle.declared_pieces.specs.ProperPiecesLaws.{AreNamed}
-use Rattle.declared_pieces.specs.Modules.{module_of}
 use Rattle.declared_pieces.proofs.Derivations.{closed}
 use Rattle.declared_pieces.specs.Reachable.{Reachable}
 use Rattle.declared_pieces.specs.Rules.{message_constructor, the_object}
-use Rattle.sj_agree.specs.Agrees.{Agrees}
-use Rattle.sj_graph.specs.References.{reference, reference_by}
 use Rattle.declared_pieces.proofs.Found.{OwnerOf, owner_of}
-use Rattle.declared_pieces.proofs.Judged.{judged_plain}
 use Rattle.declared_pieces.proofs.Classes.{class-keeps}
 use Rattle.declared_pieces.proofs.Methods.{body_keeps}
 use Rattle.sj_names.proofs.Same.{impossible}
@@ -63,7 +47,6 @@ use Rattle.declared_pieces.specs.Emitted.{EmittedMethod, initializer_member}
 use Rattle.declared_pieces.specs.Once.{DefinesOnce}
 use Rattle.declared_pieces.specs.Linked.{has_function}
 use Rattle.sj_split.proofs.Members.{at_first, further, cons_cases, into_map}
-use Rattle.sj_split.specs.Walks.{Refers}
 use Rattle.sj_trees.specs.Term.{Term}
 use Rattle.sj_trees.specs.declared.classes.ClassDef.{ClassDef}
 use Rattle.sj_trees.specs.declared.classes.MethodDef.{MethodDef}
@@ -73,24 +56,11 @@ use Rattle.sj_world.specs.Linked.{Linked}
 use Rattle.sj_world.specs.declared.facts.Fact.{Fact}
 use Rattle.sj_world.specs.declared.facts.Fact.TheVariants.{Needed, Made}
 use Rattle.worklist.proofs.Inserted.{nothing_in}
-use Rattle.worklist.specs.Paths.{stay, on}
 use Rattle.sj_world.specs.Paths as climbs
 use Rattle.declared_pieces.proofs.Fields.{class_named}
 use Rattle.declared_pieces.proofs.Live.{classes_kept}
-use Rattle.linked_folders.specs.Link.{ArePieces, IsOneModule}
-use Rattle.linked_folders.specs.Edits.{AreBuilt}
 use Rattle.linked_folders.proofs.Live.{live, are_live}
-use Rattle.linked_folders.proofs.Planned.{one_file}
-use Rattle.linked_folders.specs.Laws.{WrittenPiecesAreClosed, InitializersAreWritten, LinkedFilesAgree}
-
-pub pieces_closed : WrittenPiecesAreClosed
-pieces_closed entries ps written are p i here b u =
-    let r = (are.exact p.owner).0 here in
-    let step : Refers are.graph.references p.owner b.owner = (are.is_graph.references (reference p.owner b.owner)).1 (record { piece = p; among = i; refers = Contains-append_left (map (reference_by p.owner) p.uses) (reference p.owner object ∷ []) (reference p.owner b.owner) (in_map (reference_by p.owner) p.uses b u) }) in
-    (are.exact b.owner).1 (record { entry = r.entry; among = r.among; walk = on p.owner b.owner r.walk step })
-
-pub initializers_written : InitializersAreWritten
-initializers_written entries ps written e are i = (are.exact e.class).1 (record { entry = e; among = i; walk = stay })
+use Rattle.linked_folders.specs.Laws.{WrittenPiecesRun}
 
 pub initializers_among : (id : List ℕ) (es : List EntryPoint) (e : EntryPoint) → Contains (initializers es id) e → Contains es e
 initializers_among id [] e h = nothing_in e h
@@ -211,16 +181,6 @@ module _ (entries : List EntryPoint) (files : List SourceFile) (l : Linked) (all
   pub starts : (e : EntryPoint) → Contains entries e → Contains written e.class → has.linked (initializer_member e) ≡ true
   starts e i here = and_from (is_among written e.class) (has_function all (initializer_member e)) ((among written e.class).1 here) (entry w entries all bodies e i)
 
-  proper : (id : List ℕ) → is_proper_module (module_of written ps (initializers entries id)) ≡ true
-  proper id = modules_of_pieces_are_proper l all ps written (initializers entries id) named once p
-
-  file_agrees : ((e : EntryPoint) → Contains entries e → Contains written e.class) → (id text : List ℕ) → Spells (module_of written ps (initializers entries id)) text → Agrees w entries (record { name = file_of id; bytes = text } ∷ []) id
-  file_agrees begins id text spelled = record {
-    program = program_declaring id (items_of written ps) (initializers entries id);
-    read = js_showing.one_more (record { name = file_of id; bytes = text }) (Some (module_declaring (items_of written ps) (initializers entries id))) [] [] spelled js_showing.no_files;
-    agree = programs_agree w (judged_plain w (judged entries files w bytes a)) entries id has (items_of written ps) (proper id) (pieces_are_declarations entries files l all written ps bytes a holds p owned all_covered) (pieces_declare entries files l all its_live written ps bytes a bodies p lives run owned all_covered) (laws_of w has (carry entries files w l.facts all its_live p.helpers written bytes a bodies run)) (λ e i. let j = initializers_among id entries e i in starts e j (begins e j));
-  }
-
 not_false : (b : Bool) → not b ≡ false → b ≡ true
 not_false true e = refl
 not_false false e = sym e
@@ -229,20 +189,9 @@ not_false false e = sym e
 pub body_built : (d : MethodDef) (t : Term) → d.body ≡ Some t → not_built d ≡ false → is_object_body d t ≡ true
 body_built d t has h = subst (λ (o : Option Term). has_built_body d o ≡ true) has (not_false (has_built_body d d.body) h)
 
--- what is shown of the classes that these pieces are of
-abbrev Agreed : List EntryPoint → List SourceFile → List ℕ → List ℕ → List EmittedMethod → List Fact → Classes → Type 0
-Agreed entries files id text all facts w = IsAccepted entries files w → AreBuilt w entries → AreBodies w entries all → ((f : Fact) → Contains facts f ↔ Reachable w entries f) → Agrees w entries (record { name = file_of id; bytes = text } ∷ []) id
-
-module_agrees : (entries : List EntryPoint) (files : List SourceFile) (w : Classes) (id text : List ℕ) → ((file : SourceFile) → Contains files file → AreBytes file.bytes) → IsAccepted entries files w → AreBuilt w entries → IsOneModule w entries id text → Agrees w entries (record { name = file_of id; bytes = text } ∷ []) id
-module_agrees entries files w id text bytes a built link = subst (Agreed entries files id text pieces.all pieces.facts) pieces.is_linked.world at_linked a built pieces.bodies pieces.are_facts
-  where
-    pieces : ArePieces w entries link.pieces
-    pieces = link.are_pieces
-
-    at_linked : Agreed entries files id text pieces.all pieces.facts pieces.linked.world
-    at_linked accepted forms bodies facts = file_agrees entries files pieces.linked pieces.all link.pieces bytes accepted bodies (subst (λ (fs : List Fact). (f : Fact) → Contains fs f ↔ Reachable pieces.linked.world entries f) (sym pieces.is_linked.facts_are) facts) (λ e i. body_built e.definition e.its_body (bodies.found e i).has_body (forms e.member e.definition (needed pieces.linked.world entries pieces.all bodies e i) (defined pieces.linked.world e.member e.definition (bodies.found e i).found))) pieces.are link.written (pieces_closed entries link.pieces link.written link.are_written) (λ e i. initializers_written entries link.pieces link.written e link.are_written i) id text link.spelled
-
-pub agree : LinkedFilesAgree
-agree entries files w id links bytes a one built link =
-    let f = one_file w entries id links one link in
-    subst (λ (fs : List File). Agrees w entries fs id) (sym f.1) (module_agrees entries files w id f.0 bytes a built f.2)
+pub runs : WrittenPiecesRun
+runs entries files l all ps bytes a bodies exact objects p written owned = record {
+  live = its_live entries files l all ps bytes a bodies exact objects p written owned;
+  are_live = lives entries files l all ps bytes a bodies exact objects p written owned;
+  can_run = run entries files l all ps bytes a bodies exact objects p written owned;
+}

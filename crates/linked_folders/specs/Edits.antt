@@ -1,5 +1,5 @@
--- Where the needed bodies of classes are of the forms that are built, and entries of one public module.
-use Rattle.std.specs.Prelude.{◌≡◌, ℕ, false, List}
+-- Where the needed bodies of classes are of the forms that are built.
+use Rattle.std.specs.Prelude.{◌≡◌, false, List}
 use Rattle.sj_names.specs.declared.entry_points.EntryPoint.{EntryPoint}
 use Rattle.sj_names.specs.declared.method_names.Member.{Member}
 use Rattle.sj_trees.specs.declared.classes.MethodDef.{MethodDef}
@@ -8,12 +8,7 @@ use Rattle.sj_world.specs.Members.{IsMethodOf}
 use Rattle.sj_world.specs.declared.facts.Fact.TheVariants.{Body}
 use Rattle.declared_pieces.specs.Reachable.{Reachable}
 use Rattle.declared_pieces.specs.Built.{not_built}
-use Rattle.linked_folders.specs.Link.{AreOfOne}
 
 -- each body that is needed is of the forms that are built
 abbrev pub AreBuilt : Classes → List EntryPoint → Type 0
 AreBuilt w entries = (member : Member) (definition : MethodDef) → Reachable w entries (Body member) → IsMethodOf w member definition → not_built definition ≡ false
-
--- all entries are of one public module
-abbrev pub HaveOneModule : List EntryPoint → Type 0
-HaveOneModule entries = (id : List ℕ) × AreOfOne entries id

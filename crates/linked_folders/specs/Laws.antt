@@ -1,40 +1,43 @@
--- Laws of linked folders.
-use Rattle.std.specs.Prelude.{◌≡◌, ℕ, List, [], ◌∷◌}
+-- Laws of the pieces of accepted folders.
+use Rattle.std.specs.Prelude.{◌≡◌, ◌↔◌, true, List}
 use Rattle.std.specs.List.{Contains}
 use Rattle.file_listings.specs.Listed.{AreBytes}
+use Rattle.declared_pieces.specs.Accepted.{IsAccepted}
+use Rattle.declared_pieces.specs.Bodies.{AreBodies}
+use Rattle.declared_pieces.specs.Built.{is_object_body}
 use Rattle.declared_pieces.specs.Closed.{IsClosed}
-use Rattle.js_mean.specs.Shows.{File, file_of}
+use Rattle.declared_pieces.specs.Emitted.{EmittedMethod}
+use Rattle.declared_pieces.specs.Entries.{IsLive}
+use Rattle.declared_pieces.specs.Pieces.{AreLinkedPieces}
+use Rattle.declared_pieces.specs.Reachable.{Reachable}
+use Rattle.declared_pieces.specs.Running.{CanRun}
 use Rattle.js_tree.specs.Terms.{Piece}
-use Rattle.sj_agree.specs.Agrees.{Agrees}
 use Rattle.sj_names.specs.declared.entry_points.EntryPoint.{EntryPoint}
 use Rattle.sj_names.specs.declared.folders.SourceFile.{SourceFile}
 use Rattle.sj_world.specs.Known.{Name, Classes}
-use Rattle.declared_pieces.specs.Accepted.{IsAccepted}
-use Rattle.linked_folders.specs.Link.{IsLink, AreOfOne, AreWritten, IsOneModule}
-use Rattle.linked_folders.specs.Edits.{AreBuilt, HaveOneModule}
+use Rattle.sj_world.specs.Linked.{Linked}
+use Rattle.sj_world.specs.declared.facts.Fact.{Fact}
+use Rattle.linked_folders.specs.Link.{ArePieces}
 
--- what the written pieces use is written
-abbrev pub WrittenPiecesAreClosed : Type 0
-WrittenPiecesAreClosed = (entries : List EntryPoint) (ps : List Piece) (written : List Name) → AreWritten entries ps written → IsClosed ps written
+-- the classes of an accepted folder have one list of pieces at most
+abbrev pub PiecesAreOne : Type 0
+PiecesAreOne = (entries : List EntryPoint) (files : List SourceFile) (w : Classes) (ps qs : List Piece) → IsAccepted entries files w → ArePieces w entries ps → ArePieces w entries qs → ps ≡ qs
 
--- the classes of the initializers are written
-abbrev pub InitializersAreWritten : Type 0
-InitializersAreWritten = (entries : List EntryPoint) (ps : List Piece) (written : List Name) (e : EntryPoint) → AreWritten entries ps written → Contains entries e → Contains written e.class
+-- the live classes, and that what is written can run
+pub record Runs (entries : List EntryPoint) (l : Linked) (all : List EmittedMethod) (ps : List Piece) (p : AreLinkedPieces l all ps) (written : List Name) : Type 0 where
+  pub live : List Name
+  pub are_live : (c : Name) → Contains live c ↔ IsLive l.world l.facts c
+  pub can_run : CanRun l.world entries l.facts all live p.helpers written
 
--- where all entries are of one public module, the classes are linked to its file alone
-abbrev pub LinksAreOneFile : Type 0
-LinksAreOneFile = (w : Classes) (entries : List EntryPoint) (id : List ℕ) (files : List File) → AreOfOne entries id → IsLink w entries files → (bytes : List ℕ) × (files ≡ record { name = file_of id; bytes = bytes } ∷ []) × IsOneModule w entries id bytes
-
--- the files that an accepted folder is linked to show of a public module, the only one, what the folder's classes show, where each needed body is built
-abbrev pub LinkedFilesAgree : Type 0
-LinkedFilesAgree = (entries : List EntryPoint) (files : List SourceFile) (w : Classes) (id : List ℕ) (links : List File)
+-- of the pieces of an accepted folder whose needed bodies are of the forms that are built, what is written can run, where it uses nothing but what is written
+abbrev pub WrittenPiecesRun : Type 0
+WrittenPiecesRun = (entries : List EntryPoint) (files : List SourceFile) (l : Linked) (all : List EmittedMethod) (ps : List Piece)
     → ((file : SourceFile) → Contains files file → AreBytes file.bytes)
-    → IsAccepted entries files w
-    → AreOfOne entries id
-    → AreBuilt w entries
-    → IsLink w entries links
-    → Agrees w entries links id
-
--- the classes of an accepted folder are linked to one list of files at most, where all entries are of one public module
-abbrev pub LinkIsOne : Type 0
-LinkIsOne = (entries : List EntryPoint) (files : List SourceFile) (w : Classes) (one other : List File) → IsAccepted entries files w → HaveOneModule entries → IsLink w entries one → IsLink w entries other → one ≡ other
+    → IsAccepted entries files l.world
+    → AreBodies l.world entries all
+    → ((f : Fact) → Contains l.facts f ↔ Reachable l.world entries f)
+    → ((e : EmittedMethod) → Contains all e → is_object_body e.definition e.its_body ≡ true)
+    → (p : AreLinkedPieces l all ps)
+    → (written : List Name)
+    → IsClosed ps written
+    → Runs entries l all ps p written

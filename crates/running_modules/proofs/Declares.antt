@@ -14,8 +14,8 @@ use Rattle.closed_pieces.proofs.Fields.{class_named}
 use Rattle.closed_pieces.proofs.Order.{pieces_are_declarations}
 use Rattle.closed_pieces.proofs.Worlds.{judged}
 use Rattle.closed_pieces.specs.Closed.{IsClosed, items_of}
-use Rattle.declared_programs.specs.Declarations.{declare}
-use Rattle.declared_programs.specs.Declared.{is_covered}
+use Rattle.file_declarations.specs.Declarations.{declare}
+use Rattle.file_declarations.specs.Declared.{is_covered}
 use Rattle.file_listings.specs.Listed.{AreBytes}
 use Rattle.helper_rules.specs.declared.kinds.Helper.{Helper}
 use Rattle.js_mean.specs.Files.{module_among, items_in, owner, running_order}

@@ -3,7 +3,7 @@ use Rattle.std.proofs.Common.{◌≡◌, ◌||◌, ◌++◌, Bool, true, false, 
 use Rattle.std.proofs.lemmas.List.Elements.{Contains-append_cases}
 use Rattle.closed_pieces.proofs.Places.{Stands, own, method, helps, stands}
 use Rattle.closed_pieces.proofs.Parts.{uses_superclass}
-use Rattle.declared_programs.specs.Declared.{is_covered}
+use Rattle.file_declarations.specs.Declared.{is_covered}
 use Rattle.helper_rules.specs.Helpers.{Above, helper_piece}
 use Rattle.helper_rules.specs.Words.{all_kinds, bound, class_name}
 use Rattle.helper_rules.specs.declared.kinds.Helper.{Helper}

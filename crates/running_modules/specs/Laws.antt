@@ -1,7 +1,7 @@
 -- Laws of the files of the public modules of a plan, as they run.
 use Rattle.std.specs.Prelude.{◌≡◌, true, List, [], ◌∷◌, ◌++◌, Contains, map, filter}
 use Rattle.declared_files.specs.Placed.{items_until, declare}
-use Rattle.declared_programs.specs.Declared.{is_covered}
+use Rattle.file_declarations.specs.Declared.{is_covered}
 use Rattle.file_listings.specs.Listed.{AreBytes}
 use Rattle.helper_rules.specs.declared.kinds.Helper.{Helper}
 use Rattle.ir_mean.specs.Shows.{initializers}

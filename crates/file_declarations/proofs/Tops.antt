@@ -15,8 +15,8 @@ use Rattle.js_mean.specs.Proper.{is_among, are_distinct, item_names}
 use Rattle.js_mean.specs.States.{Value, object, function, class, ClassLink, Cell, holds, Stored, plain, State, Program}
 use Rattle.js_tree.specs.Names.{is_same_text}
 use Rattle.js_tree.specs.Terms.{Name, Expression, Statements, Property, Item, const_item, object_item, let_item, expression_item, function_item, class_item, subclass_item, Module}
-use Rattle.declared_programs.specs.Declarations.{with_class, declares, declare, HoldsLiteral, Holds, behind, AllHold, DeclarationsHold}
-use Rattle.declared_programs.proofs.Items.{name_of, among, among_first, among_step, rest_distinct, first_apart, differs, cell_found, front_distinct}
+use Rattle.file_declarations.specs.Declarations.{with_class, declares, declare, HoldsLiteral, Holds, behind, AllHold, DeclarationsHold}
+use Rattle.file_declarations.proofs.Items.{name_of, among, among_first, among_step, rest_distinct, first_apart, differs, cell_found, front_distinct}
 
 -- a name that isn't among the names of items
 not_there : (b : Bool) → b ≡ true → b ≡ false → ⊥

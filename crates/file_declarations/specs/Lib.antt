@@ -1,4 +1,2 @@
 pub mod Declarations
 pub mod Declared
-pub mod Files
-pub mod Worked

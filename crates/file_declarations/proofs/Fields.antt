@@ -27,7 +27,7 @@ use Rattle.sj_trees.specs.declared.classes.ClassDef.{ClassDef}
 use Rattle.sj_trees.specs.declared.classes.FieldDef.{FieldDef}
 use Rattle.sj_trees.specs.declared.types.IrType.{IrType}
 use Rattle.sj_trees.specs.declared.types.IrType.TheVariants.{Nothing}
-use Rattle.declared_programs.specs.Declared.{FieldsAreKept}
+use Rattle.file_declarations.specs.Declared.{FieldsAreKept}
 
 -- a class that is found stands in the world under its name
 record Found (w : World) (c : Name) (d : ClassDef) : Type 0 where

@@ -1,0 +1,53 @@
+-- What constants and variables begin with, and how long chains of classes are.
+use Rattle.std.proofs.Common.{◌≡◌, ◌≤◌, ℕ, zero, suc, Bool, true, false, List, [], ◌∷◌, length, map, sym, ap, refl, Option, Some, None, cond, codes, arith}
+use Rattle.std.specs.Prelude.{pos}
+use Rattle.std.specs.List.{list_any}
+use Rattle.file_tops.proofs.Run.{some_same}
+use Rattle.file_tops.specs.Tops.{literal_value, literal_properties}
+use Rattle.helper_rules.specs.Helpers.{constants, marker_property}
+use Rattle.helper_rules.specs.Words.{marker}
+use Rattle.ir_mean.specs.Dispatch.{chain_from}
+use Rattle.ir_mean.specs.World as ir_world
+use Rattle.js_mean.specs.Objects.{with_property, no_properties}
+use Rattle.js_mean.specs.States as js
+use Rattle.js_tree.specs.Terms.{Name}
+use Rattle.piece_rules.specs.Pieces.{zero_of as zero_literal}
+use Rattle.sj_calls.specs.Made.{zero_value}
+use Rattle.sj_mangling.specs.Bindings.{class_binding}
+use Rattle.sj_mangling.specs.declared.bindings.ClassBinding.TheVariants.{Marker}
+use Rattle.sj_trees.specs.declared.types.IrType.{IrType}
+use Rattle.sj_trees.specs.declared.types.IrType.TheVariants.{Undefined, Boolean, Char, Byte, Short, Int, Long, String}
+use Rattle.sj_world.specs.Ancestors.{next_on_chain}
+use Rattle.sj_world.specs.Known.{is_same}
+
+-- the marker of a class is the first of its constants, and none behind it hides it
+markers_stay : (names : List Name) (own all : Name → Option js.Value) → literal_properties (map marker_property names) own ≡ Some all → all (codes "s") ≡ own (codes "s")
+markers_stay [] own all h = ap (λ (o : Name → Option js.Value). o (codes "s")) (sym (some_same own all h))
+markers_stay (a ∷ names) own all h = markers_stay names (with_property (marker a) (js.number (pos 1)) own) all h
+
+pub marker_held : (c : Name) (names : List Name) (all : Name → Option js.Value) → literal_properties (constants c names) no_properties ≡ Some all → all (codes "s") ≡ Some (js.text (class_binding Marker c))
+marker_held c names all h = markers_stay names (with_property (codes "s") (js.text (marker c)) no_properties) all h
+
+pub same_classes : (a b : List js.ClassLink) → js.holds false (js.class a) ≡ js.holds false (js.class b) → a ≡ b
+same_classes a b e = cc
+
+pub chain_length : (w : ir_world.World) (k : ℕ) (seen : List Name) (c : Name) → length (chain_from w k seen c) ≤ k
+chain_length w zero seen c = omega arith
+chain_length w (suc k) seen c = go (list_any (is_same c) seen) (next_on_chain w c) (λ d. chain_length w k (c ∷ seen) d)
+  where
+    go : (b : Bool) (o : Option Name) → ((d : Name) → length (chain_from w k (c ∷ seen) d) ≤ k) → length (cond b [] (c ∷ elim o as (λ o. List Name) [ None ↦ [] | Some d ↦ chain_from w k (c ∷ seen) d ])) ≤ suc k
+    go true o below = omega arith
+    go false None below = omega arith
+    go false (Some d) below = let h : length (chain_from w k (c ∷ seen) d) ≤ k = below d in omega (arith, h)
+
+-- what the variable of a static field begins with
+pub zero_literal_is : (t : IrType) → literal_value (zero_literal t) ≡ Some (zero_value t)
+zero_literal_is Boolean = refl
+zero_literal_is Char = refl
+zero_literal_is Byte = refl
+zero_literal_is Short = refl
+zero_literal_is Int = refl
+zero_literal_is Long = refl
+zero_literal_is String = refl
+zero_literal_is Undefined = refl
+zero_literal_is _ = refl

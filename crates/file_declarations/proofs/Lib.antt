@@ -1,0 +1,4 @@
+pub mod Begun
+pub mod Fields
+pub mod Items
+pub mod Tops
