@@ -27,7 +27,7 @@ use Rattle.accepted_folders.proofs.Undenied.{first_or_later}
 use Rattle.body_uses.specs.Given.{Given, HelpersGiven}
 use Rattle.body_uses.specs.Laws.{BodiesUseWhatIsGiven, used_by}
 use Rattle.body_uses.proofs.Boxes.{box_used}
-use Rattle.body_uses.proofs.Tested.{helper_used}
+use Rattle.body_uses.proofs.Tested.{helper_used, cast_helper_used}
 use Rattle.body_uses.proofs.Uses.{Gives, GivesReceived, in_helpers, followed_parts, or_first, or_second, tree}
 
 pub same_binding : (a b : Binding) → is_same_binding a b ≡ true → a ≡ b
@@ -90,7 +90,7 @@ module _ (has : Usable) (used : List Binding) where
   gives (select p e c f t) g = λ h. g
   gives (select_static p c f t) g = (λ h u. g.0 u, λ h u. g.1 u)
   gives (is_instance_of p e t) g = λ h u. g h (helper_used U t h u)
-  gives (as_instance_of p e t) g = λ h u. impossible h
+  gives (as_instance_of p e t) g = λ h u. g h (cast_helper_used U t h u)
   gives (binary_op p o e d) g = λ h. g
   gives t g = tt
 

@@ -20,7 +20,7 @@ use Rattle.accepted_folders.proofs.EachTyped.{in_all}
 use Rattle.accepted_folders.proofs.Undenied.{first_or_later}
 use Rattle.helper_rules.specs.Helpers.{helper_name}
 use Rattle.helper_rules.specs.declared.kinds.Helper.{Helper}
-use Rattle.helper_rules.specs.declared.kinds.Helper.TheVariants.{NotNull, IntQuotient, IntRemainder as IntRest, LongQuotient, LongRemainder as LongRest, BoxedChar, Equal, TestOf}
+use Rattle.helper_rules.specs.declared.kinds.Helper.TheVariants.{NotNull, IntQuotient, IntRemainder as IntRest, LongQuotient, LongRemainder as LongRest, BoxedChar, Equal, TestOf, CastTo}
 use Rattle.helper_rules.specs.declared.kinds.Kind.TheVariants as kinds
 use Rattle.js_tree.specs.declared.items.Binding.{Binding}
 use Rattle.accepted_folders.proofs.Derivations.{closed}
@@ -28,7 +28,7 @@ use Rattle.accepted_folders.specs.Reachable.{Reachable}
 use Rattle.accepted_folders.specs.Rules.{Reads, of_call, of_new, asked_body, new_made, field_needed, resolved_class, resolved_body}
 use Rattle.sj_desugar.specs.Desugar.{member}
 use Rattle.sj_emit_expr.specs.Templates.{check_name}
-use Rattle.sj_emit_expr.specs.Tests.{test_name, same_name}
+use Rattle.sj_emit_expr.specs.Tests.{test_name, cast_name, same_name}
 use Rattle.sj_emit_expr.specs.Uses.{object_binding, function_binding, class_use, static_use, setter_use}
 use Rattle.sj_infos.specs.Infos.{asks, asked_by_body, asked_in, of_receiver}
 use Rattle.sj_infos.specs.Sure.{sure_among}
@@ -50,7 +50,7 @@ use Rattle.accepted_folders.specs.Linked.{has_function}
 use Rattle.sj_trees.proofs.SameTypes.{type-refl}
 use Rattle.sj_trees.specs.SameTypes.{is_same_type}
 use Rattle.sj_trees.specs.declared.positions.Position.{Position}
-use Rattle.sj_trees.specs.Term.{Term, new_object, select, select_static, apply_statically, apply_static, binary_op, is_instance_of}
+use Rattle.sj_trees.specs.Term.{Term, new_object, select, select_static, apply_statically, apply_static, binary_op, is_instance_of, as_instance_of}
 use Rattle.sj_trees.specs.declared.classes.ClassDef.{ClassDef}
 use Rattle.sj_trees.specs.declared.operators.BinaryOp.{BinaryOp}
 use Rattle.sj_trees.specs.declared.operators.BinaryOp.TheVariants.{IntDivide, IntRemainder, LongDivide, LongRemainder}
@@ -246,6 +246,18 @@ module _ (entries : List EntryPoint) (files : List SourceFile) (w : Classes) (fa
   test_there String h u = helper_there (TestOf kinds.Text) u
   test_there _ h u = impossible h
 
+  -- and a cast to one
+  cast_there : (t : IrType) → has_kind t ≡ true → Contains used (object_binding (cast_name t)) → has.helper (cast_name t) ≡ true
+  cast_there Undefined h u = helper_there (CastTo kinds.Undefined) u
+  cast_there Boolean h u = helper_there (CastTo kinds.Boolean) u
+  cast_there Char h u = helper_there (CastTo kinds.Char) u
+  cast_there Byte h u = helper_there (CastTo kinds.Byte) u
+  cast_there Short h u = helper_there (CastTo kinds.Short) u
+  cast_there Int h u = helper_there (CastTo kinds.Int) u
+  cast_there Long h u = helper_there (CastTo kinds.Long) u
+  cast_there String h u = helper_there (CastTo kinds.Text) u
+  cast_there _ h u = impossible h
+
   tree_given : (t : Term) → Contains (trees e.its_body) t → Stands (MeetsThere w e.definition.namespace) t → Given has used t
   tree_given (apply_static p c n m ts t) among s = λ u. in_used (member c n m) (is_static n) (static_there n s.asked.0) (asked (apply_static p c n m ts t) among (Static (member c n m)) (here (Static (member c n m)) [])) u
   tree_given (apply_statically p d c Private m ts t) among s = λ u. in_used (member c Private m) true refl (asked (apply_statically p d c Private m ts t) among (Static (member c Private m)) (here (Static (member c Private m)) (of_receiver (sure_among [] (trees e.its_body)) d))) u
@@ -259,6 +271,7 @@ module _ (entries : List EntryPoint) (files : List SourceFile) (w : Classes) (fa
       let there = static_given c f t s.asked (asked (select_static p c f t) among (Field c f true) (here (Field c f true) [])) in
       (λ u. there (in_written (static_use c f) u), λ u. there (in_written (setter_use c f) u))
   tree_given (is_instance_of p d t) among s = λ h u. and_from (has_kind t) (uses_helper helpers written (test_name t)) h (test_there t h u)
+  tree_given (as_instance_of p d t) among s = λ h u. and_from (has_kind t) (uses_helper helpers written (cast_name t)) h (cast_there t h u)
   tree_given (binary_op p o a b) among s = divisor w o a b s.asked
   tree_given t among s = tt
 

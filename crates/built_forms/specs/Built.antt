@@ -186,9 +186,9 @@ has_no_value _ = false
 abbrev pub has_kind : IrType → Bool
 has_kind = is_sure_type
 
--- whatever is made and used of objects, but for constructors with a value, tests of classes and arrays, and casts
+-- whatever is made and used of objects, but for constructors with a value, and tests of classes and arrays and casts to them
 abbrev pub any_object : Usable
-any_object = record { linked = λ m. true; target = λ m. m; received = λ m. true; built = λ m. has_no_value m.method.result; made = λ c. true; field = λ c f t. true; static_field = λ c f t. true; static_setter = λ c f t. true; tests = has_kind; casts = λ t. false; helper = λ x. true; objects = true }
+any_object = record { linked = λ m. true; target = λ m. m; received = λ m. true; built = λ m. has_no_value m.method.result; made = λ c. true; field = λ c f t. true; static_field = λ c f t. true; static_setter = λ c f t. true; tests = has_kind; casts = has_kind; helper = λ x. true; objects = true }
 
 -- the body is of these forms, whatever it calls, makes and reads
 abbrev pub is_object_body : MethodDef → Term → Bool

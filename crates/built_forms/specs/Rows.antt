@@ -157,7 +157,13 @@ pub record WorkedForms : Type 0 where
   pub test_of_an_int_of_what_is_not_built : not_built (static (tested Int unbuilt)) ≡ true
   pub test_it_can_use : is_built with_tests (λ e. true) (tested String (number 1)) ≡ true
   pub test_of_what_is_not_built : is_built with_tests (λ e. true) (tested String unbuilt) ≡ false
-  pub cast : not_built (static (casted String object)) ≡ true
+  pub cast_to_an_int : not_built (static (casted Int object)) ≡ false
+  pub cast_to_a_text : not_built (static (casted String object)) ≡ false
+  pub cast_of_a_char : not_built (static (casted Char letter)) ≡ false
+  pub cast_to_null : not_built (static (casted Null object)) ≡ true
+  pub cast_to_a_class : not_built (static (casted (Class (codes "A")) object)) ≡ true
+  pub cast_to_an_array : not_built (static (casted (Array (record { base = BaseRef.Int; dimensions = 1 })) object)) ≡ true
+  pub cast_to_an_int_of_what_is_not_built : not_built (static (casted Int unbuilt)) ≡ true
   pub cast_to_any : not_built (static (casted Any object)) ≡ false
   pub cast_of_a_char_to_any : not_built (static (casted Any letter)) ≡ false
   pub cast_to_any_of_what_is_not_built : not_built (static (casted Any unbuilt)) ≡ true

@@ -5,7 +5,7 @@ ghost use Rattle.sj_trees.specs.Term.{Term, Terms, apply_statically};
 ghost use Rattle.sj_trees.specs.declared.positions.Position.{Position};
 ghost use Rattle.sj_trees.specs.View.{view, terms_view, cases_view};
 
-use crate::kinds::has_kind;
+use crate::kinds::{can_cast, has_kind};
 use sj_names::{MethodName, Namespace, TypeRef};
 use sj_trees::{IrType, MatchCase, Tree};
 
@@ -59,7 +59,7 @@ pub fn is_built(tree: &Tree) -> bool
         }
         Tree::BinaryOp(_, _, left, right) => is_built(left) && is_built(right),
         Tree::IsInstanceOf(_, value, tpe) => has_kind(tpe) && is_built(value),
-        Tree::AsInstanceOf(_, value, tpe) => matches!(tpe, IrType::Any) && is_built(value),
+        Tree::AsInstanceOf(_, value, tpe) => can_cast(tpe) && is_built(value),
         Tree::TryCatch(_, _, _, _, _)
         | Tree::TryFinally(_, _, _)
         | Tree::LoadModule(_, _)

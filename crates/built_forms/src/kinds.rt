@@ -20,3 +20,10 @@ pub fn has_kind(tpe: &IrType) -> bool
             | IrType::String
     )
 }
+
+/// Whether a cast to a type is built: one to any, which calls nothing, or to a type whose values are of one kind.
+pub fn can_cast(tpe: &IrType) -> bool
+    ensures { result ≡ built.can_cast built.any_object tpe.now }
+{
+    matches!(tpe, IrType::Any) || has_kind(tpe)
+}

@@ -9,7 +9,7 @@ use sj_trees::MethodDef;
 ///
 /// These forms are built: locals that are defined, read and assigned, blocks with and without labels, `Return`, `If`, both loops, `Match`, calls of static
 /// methods, of constructors and of private methods, `New`, `This`, fields of instances and static fields that are read and assigned, `Throw`, tests of primitive types,
-/// casts to any, operators, literals, and `Log`. What a case without keys has isn't asked for.
+/// casts to these and to any, operators, literals, and `Log`. What a case without keys has isn't asked for.
 pub fn not_built(m: &MethodDef) -> bool
     ensures { result ≡ built.not_built m.now }
 {

@@ -1,4 +1,5 @@
 pub mod Calls
+pub mod Kinds
 pub mod Once
 pub mod Order
 pub mod Place

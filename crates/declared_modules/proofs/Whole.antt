@@ -4,15 +4,15 @@ use Rattle.std.specs.Prelude.{◌↔◌}
 use Rattle.std.specs.List.{Contains, list_all}
 use Rattle.std.proofs.lemmas.Bool.{and_parts, and_from, or_cases, or_left}
 use Rattle.std.proofs.lemmas.List.Elements.{Contains-append_left, Contains-append_right}
-use Rattle.declared_pieces.proofs.BodyUsesTested.{kind_uses}
+use Rattle.declared_pieces.proofs.BodyUsesTested.{kind_uses, cast_kind_uses}
 use Rattle.declared_pieces.proofs.Written.{divisors_fit}
 use Rattle.class_code.proofs.Markers.{marked}
-use Rattle.declared_files.specs.Declared.{Spread, all_items, Leads, FunctionDeclared, ClassDeclared, ChainDeclared, extends_none, extends_one, MadeDeclared, StaticDeclared, TestDeclared, Uses as UsesTop}
+use Rattle.declared_files.proofs.Kinds.{helpers_of}
+use Rattle.declared_files.specs.Declared.{Spread, all_items, Leads, FunctionDeclared, ClassDeclared, ChainDeclared, extends_none, extends_one, MadeDeclared, StaticDeclared, TestDeclared, CastDeclared, Uses as UsesTop}
 use Rattle.declared_files.specs.Placed.{placed}
 use Rattle.declared_pieces.proofs.Blocks.{method_there}
 use Rattle.declared_pieces.proofs.Chains.{Stands, whole_chain}
 use Rattle.declared_pieces.proofs.Fields.{field_there, fields_kept}
-use Rattle.declared_pieces.proofs.Tested.{kind_declared}
 use Rattle.declared_pieces.proofs.Live.{classes_kept}
 use Rattle.declared_pieces.proofs.Members.{same-class, defined}
 use Rattle.declared_pieces.proofs.Parts.{uses_superclass, uses_constants}
@@ -33,7 +33,7 @@ use Rattle.file_listings.specs.Listed.{AreBytes}
 use Rattle.helper_rules.specs.Helpers.{helper_name, helper_item, helper_piece, used_helpers, used_of_classes, failure_class, of}
 use Rattle.helper_rules.specs.Words.{object_class}
 use Rattle.helper_rules.specs.declared.kinds.Failure.{Failure}
-use Rattle.helper_rules.specs.declared.kinds.Failure.TheVariants.{NullReceiver, Division}
+use Rattle.helper_rules.specs.declared.kinds.Failure.TheVariants.{NullReceiver, Division, Cast}
 use Rattle.helper_rules.specs.declared.kinds.Helper.{Helper}
 use Rattle.helper_rules.specs.declared.kinds.Helper.TheVariants as helpers
 use Rattle.ir_mean.specs.Meaning.{with_message}
@@ -48,11 +48,11 @@ use Rattle.module_uses.proofs.InFiles.{used_there}
 use Rattle.module_uses.specs.Used.{restricted, uses_in}
 use Rattle.object_folders.proofs.Chains.{byte_not}
 use Rattle.object_folders.proofs.Methods.{right_method}
-use Rattle.object_folders.proofs.Throwing.{exceptions, division}
+use Rattle.object_folders.proofs.Throwing.{exceptions, division, cast_to_kind}
 use Rattle.accepted_folders.specs.BodySoundnessRules.{RightMember}
 use Rattle.sj_desugar.specs.Desugar.{member}
 use Rattle.sj_emit_expr.specs.Templates.{check_name, static_name}
-use Rattle.sj_emit_expr.specs.Tests.{test_name}
+use Rattle.sj_emit_expr.specs.Tests.{test_name, cast_name}
 use Rattle.sj_emit_expr.specs.Uses.{object_binding, function_binding, class_use, static_use, setter_use, test_uses, cast_uses}
 use Rattle.sj_names.proofs.Same.{impossible}
 use Rattle.sj_names.specs.declared.entry_points.EntryPoint.{EntryPoint}
@@ -85,18 +85,26 @@ kind_owned _ h = refl
 kind_used : (uses : Binding → Bool) (t : IrType) → has_kind t ≡ true → list_all uses (test_uses t) ≡ true → uses (object_binding (test_name t)) ≡ true
 kind_used uses t k h = (and_parts (uses (object_binding (test_name t))) true (subst (λ (bs : List Binding). list_all uses bs ≡ true) (kind_uses t k) h)).0
 
--- what the code of a file names it uses, where it can use no test but those of primitive types, and no cast
-named_used : (has : Usable) → ((t : IrType) → has.tests t ≡ true → has_kind t ≡ true) → ((t : IrType) → has.casts t ≡ false) → (uses : Binding → Bool) (t : Top) → is_named_top (restricted has uses) t ≡ true → uses (binding_of t) ≡ true
-named_used has kinds no_cast uses (a_function m) h = (and_parts (has.linked m) (uses (function_binding m)) h).1
-named_used has kinds no_cast uses (a_method m) h = (and_parts (has.received m) (uses (function_binding m)) h).1
-named_used has kinds no_cast uses (a_constructor m) h = (and_parts (has.built m) (uses (function_binding m)) h).1
-named_used has kinds no_cast uses (a_class c) h = (and_parts (has.made c) (uses (class_use c)) h).1
-named_used has kinds no_cast uses (some_constants c) h = impossible h
-named_used has kinds no_cast uses (a_static c f t) h = (and_parts (has.static_field c f t) (uses (static_use c f)) h).1
-named_used has kinds no_cast uses (a_setter c f t) h = (and_parts (has.static_setter c f t) (uses (setter_use c f)) h).1
-named_used has kinds no_cast uses (a_test k) h = let q = and_parts (has.tests k) (list_all uses (test_uses k)) h in let is_kind = kinds k q.0 in subst (λ (c : Name). uses (record { owner = c; name = test_name k }) ≡ true) (sym (kind_owned k is_kind)) (kind_used uses k is_kind q.1)
-named_used has kinds no_cast uses (a_cast k) h = impossible (sym (no_cast k) ∙ (and_parts (has.casts k) (list_all uses (cast_uses k)) h).0)
-named_used has kinds no_cast uses (a_helper x) h = (and_parts (has.helper (helper_name x)) (uses (object_binding (helper_name x))) h).1
+-- and the casts to them
+cast_owned : (t : IrType) → has_kind t ≡ true → owner_of (a_cast t) ≡ object_class
+cast_owned (Class c) h = impossible h
+cast_owned _ h = refl
+
+cast_kind_used : (uses : Binding → Bool) (t : IrType) → has_kind t ≡ true → list_all uses (cast_uses t) ≡ true → uses (object_binding (cast_name t)) ≡ true
+cast_kind_used uses t k h = (and_parts (uses (object_binding (cast_name t))) true (subst (λ (bs : List Binding). list_all uses bs ≡ true) (cast_kind_uses t k) h)).0
+
+-- what the code of a file names it uses, where it can use no test but those of primitive types, and no cast but those to them
+named_used : (has : Usable) → ((t : IrType) → has.tests t ≡ true → has_kind t ≡ true) → ((t : IrType) → has.casts t ≡ true → has_kind t ≡ true) → (uses : Binding → Bool) (t : Top) → is_named_top (restricted has uses) t ≡ true → uses (binding_of t) ≡ true
+named_used has kinds casts uses (a_function m) h = (and_parts (has.linked m) (uses (function_binding m)) h).1
+named_used has kinds casts uses (a_method m) h = (and_parts (has.received m) (uses (function_binding m)) h).1
+named_used has kinds casts uses (a_constructor m) h = (and_parts (has.built m) (uses (function_binding m)) h).1
+named_used has kinds casts uses (a_class c) h = (and_parts (has.made c) (uses (class_use c)) h).1
+named_used has kinds casts uses (some_constants c) h = impossible h
+named_used has kinds casts uses (a_static c f t) h = (and_parts (has.static_field c f t) (uses (static_use c f)) h).1
+named_used has kinds casts uses (a_setter c f t) h = (and_parts (has.static_setter c f t) (uses (setter_use c f)) h).1
+named_used has kinds casts uses (a_test k) h = let q = and_parts (has.tests k) (list_all uses (test_uses k)) h in let is_kind = kinds k q.0 in subst (λ (c : Name). uses (record { owner = c; name = test_name k }) ≡ true) (sym (kind_owned k is_kind)) (kind_used uses k is_kind q.1)
+named_used has kinds casts uses (a_cast k) h = let q = and_parts (has.casts k) (list_all uses (cast_uses k)) h in let is_kind = casts k q.0 in subst (λ (c : Name). uses (record { owner = c; name = cast_name k }) ≡ true) (sym (cast_owned k is_kind)) (cast_kind_used uses k is_kind q.1)
+named_used has kinds casts uses (a_helper x) h = (and_parts (has.helper (helper_name x)) (uses (object_binding (helper_name x))) h).1
 
 module _ (entries : List EntryPoint) (files : List SourceFile) (l : Linked) (all : List EmittedMethod) (live written : List Name) (modules : List PlannedModule) (ps : List Piece) (front : List Name) (last : Name) (declared : List Item) (bytes : (file : SourceFile) → Contains files file → AreBytes file.bytes) (a : IsAccepted entries files l.world) (bodies : AreBodies l.world entries all) (p : AreLinkedPieces l all ps) (are_live : (c : Name) → Contains live c ↔ IsLive l.world l.facts c) (run : CanRun l.world entries l.facts all live p.helpers written) (owned : IsClosed ps written) (covered : (h : Helper) → Contains p.helpers h → is_covered h ≡ true) (together : StandTogether modules ps) (whole : AreWhole modules ps) (stand : AllStand modules ps written (spread_of modules ps l.world (used_of l.world l.facts all live p.helpers written) front last declared)) where
   abbrev w : Classes
@@ -297,8 +305,8 @@ module _ (entries : List EntryPoint) (files : List SourceFile) (l : Linked) (all
   test_declared f t h =
       let q = and_parts (there.tests t) (list_all (uses_in modules ps f) (test_uses t)) h in
       let k = and_parts (has_kind t) (written_helper p.helpers written (test_name t)) q.0 in
-      let d = kind_declared (z.has f) t k.0 (and_from (there.helper (test_name t)) (uses_in modules ps f (object_binding (test_name t))) k.1 (kind_used (uses_in modules ps f) t k.0 q.1)) in
-      record { kind = d.kind; its_kind = d.its_kind; helper = d.helper; home = ap home_of (kind_owned t k.0) }
+      let d = helpers_of t k.0 in
+      record { kind = d.kind; its_kind = d.its_kind; helper = subst (λ (x : Name). (z.has f).helper x ≡ true) d.test (and_from (there.helper (test_name t)) (uses_in modules ps f (object_binding (test_name t))) k.1 (kind_used (uses_in modules ps f) t k.0 q.1)); home = ap home_of (kind_owned t k.0) }
 
   module _ (h : Helper) (u : HelperUsed h) where
     listed : Contains ps (helper_piece p.above h)
@@ -342,9 +350,19 @@ module _ (entries : List EntryPoint) (files : List SourceFile) (l : Linked) (all
   division_thrown f LongRemainder e = thrown_by Division helpers.LongRemainder (at_first (helpers.Throws Division) []) (division w entries l.facts all live p.helpers written run LongRemainder) f e
   division_thrown f o e = impossible e
 
+  -- the cast to a primitive type, at home with the helpers, and what it throws
+  cast_declared : (f : Name) (t : IrType) → (z.has f).casts t ≡ true → CastDeclared z f t
+  cast_declared f t h =
+      let q = and_parts (there.casts t) (list_all (uses_in modules ps f) (cast_uses t)) h in
+      let k = and_parts (has_kind t) (written_helper p.helpers written (cast_name t)) q.0 in
+      let d = helpers_of t k.0 in
+      let its_helper = subst (λ (x : Name). (z.has f).helper x ≡ true) d.cast (and_from (there.helper (cast_name t)) (uses_in modules ps f (object_binding (cast_name t))) k.1 (cast_kind_used (uses_in modules ps f) t k.0 q.1)) in
+      let thrown = thrown_by Cast (helpers.CastTo d.kind) (further (helpers.TestOf d.kind) (helpers.Throws Cast) (helpers.Throws Cast ∷ []) (at_first (helpers.Throws Cast) [])) (λ e. cast_to_kind w entries l.facts all live p.helpers written run t k.0 k.1) f its_helper in
+      record { kind = d.kind; its_kind = d.its_kind; helper = its_helper; home = ap home_of (cast_owned t k.0); made = thrown.0; built = thrown.1 }
+
 pub modules_declare : ModulesDeclare
 modules_declare entries files l all live written modules ps front last declared bytes a bodies p are_live run owned covered together whole stand = record {
-  leads = λ f t h. leads_to entries files l all live written modules ps front last declared bytes a bodies p are_live run owned covered together whole stand f t (named_used (used_of l.world l.facts all live p.helpers written) (λ k i. (and_parts (has_kind k) (written_helper p.helpers written (test_name k)) i).0) (λ k. refl) (uses_in modules ps f) t h);
+  leads = λ f t h. leads_to entries files l all live written modules ps front last declared bytes a bodies p are_live run owned covered together whole stand f t (named_used (used_of l.world l.facts all live p.helpers written) (λ k i. (and_parts (has_kind k) (written_helper p.helpers written (test_name k)) i).0) (λ k i. (and_parts (has_kind k) (written_helper p.helpers written (cast_name k)) i).0) (uses_in modules ps f) t h);
   linked = linked_declared entries files l all live written modules ps front last declared bytes a bodies p are_live run owned covered together whole stand;
   received = received_declared entries files l all live written modules ps front last declared bytes a bodies p are_live run owned covered together whole stand;
   built = built_declared entries files l all live written modules ps front last declared bytes a bodies p are_live run owned covered together whole stand;
@@ -352,7 +370,7 @@ modules_declare entries files l all live written modules ps front last declared 
   field = λ f. field_there l.world;
   static_field = static_declared entries files l all live written modules ps front last declared bytes a bodies p are_live run owned covered together whole stand;
   tests = test_declared entries files l all live written modules ps front last declared bytes a bodies p are_live run owned covered together whole stand;
-  casts = λ f t h. impossible h;
+  casts = cast_declared entries files l all live written modules ps front last declared bytes a bodies p are_live run owned covered together whole stand;
   kept = fields_kept entries files l.world bytes a;
   ancestors = p.above;
   helper = λ f h e. let u = its_helper f h e in (covered h u.is_written.among_helpers, helper_stands entries files l all live written modules ps front last declared bytes a bodies p are_live run owned covered together whole stand h u);

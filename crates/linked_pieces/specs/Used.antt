@@ -5,7 +5,7 @@ use Rattle.built_forms.specs.Built.{Usable, is_static, has_kind, has_no_value}
 use Rattle.dispatch_laws.specs.Targets.{target_in}
 use Rattle.helper_rules.specs.Helpers.{helper_name}
 use Rattle.helper_rules.specs.declared.kinds.Helper.{Helper}
-use Rattle.sj_emit_expr.specs.Tests.{test_name}
+use Rattle.sj_emit_expr.specs.Tests.{test_name, cast_name}
 use Rattle.sj_names.specs.WellKnown.{object}
 use Rattle.sj_names.specs.Same.{is_same_text}
 use Rattle.sj_names.specs.declared.method_names.Member.{Member}
@@ -67,7 +67,7 @@ uses_helper helpers written x = is_among written object && list_any (λ h. is_sa
 
 -- what the code can use, of a world with these facts, methods, live classes and helpers, where the pieces of these classes are written: their members, a call of a public one running
 -- its target, and their constructors that have no value, their objects, each instance field of the world, their static fields that are needed, the helpers, and the tests of primitive
--- types that are among them
+-- types and the casts to them that are among them
 abbrev pub used_of : Classes → List Fact → List EmittedMethod → List Name → List Helper → List Name → Usable
 used_of w facts all live helpers written = record {
   linked = λ m. is_static m.namespace && (is_among written m.class && has_function all m);
@@ -79,7 +79,7 @@ used_of w facts all live helpers written = record {
   static_field = uses_static w facts written;
   static_setter = uses_static w facts written;
   tests = λ t. has_kind t && uses_helper helpers written (test_name t);
-  casts = λ t. false;
+  casts = λ t. has_kind t && uses_helper helpers written (cast_name t);
   helper = uses_helper helpers written;
   objects = true;
 }

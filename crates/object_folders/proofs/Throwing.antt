@@ -4,12 +4,12 @@ use Rattle.std.specs.List.{list_any}
 use Rattle.std.proofs.lemmas.Bool.{and_parts, and_from}
 use Rattle.std.proofs.lemmas.List.Folds.{Any-from_list_any}
 use Rattle.accepted_folders.proofs.Members.{has_function-from}
-use Rattle.accepted_folders.proofs.Lists.{at_front}
-use Rattle.accepted_folders.specs.BodySoundnessLaws.{null_pointer, arithmetic}
-use Rattle.accepted_folders.specs.Built.{Usable, divides}
+use Rattle.accepted_folders.proofs.Lists.{at_front, further_on}
+use Rattle.accepted_folders.specs.BodySoundnessLaws.{null_pointer, arithmetic, class_cast}
+use Rattle.accepted_folders.specs.Built.{Usable, divides, has_kind}
 use Rattle.helper_rules.specs.Helpers.{helper_name, used_helpers, failure_class}
 use Rattle.helper_rules.specs.declared.kinds.Failure.{Failure}
-use Rattle.helper_rules.specs.declared.kinds.Failure.TheVariants.{NullReceiver, Division}
+use Rattle.helper_rules.specs.declared.kinds.Failure.TheVariants.{NullReceiver, Division, Cast}
 use Rattle.helper_rules.specs.declared.kinds.Helper.{Helper}
 use Rattle.helper_rules.specs.declared.kinds.Helper.TheVariants.{TestOf, CastTo, ConstantsOf, NotNull, IntQuotient, IntRemainder, LongQuotient, LongRemainder, Throws}
 use Rattle.ir_mean.specs.Meaning.{with_message}
@@ -17,6 +17,7 @@ use Rattle.linked_pieces.specs.Used.{used_of, is_among}
 use Rattle.object_folders.specs.Running.{CanRun, CanBeThrown}
 use Rattle.sj_desugar.specs.Desugar.{member}
 use Rattle.sj_emit_expr.specs.Templates.{check_name}
+use Rattle.sj_emit_expr.specs.Tests.{cast_name}
 use Rattle.sj_names.proofs.Same.{impossible, text-same}
 use Rattle.sj_names.specs.Same.{is_same_text}
 use Rattle.sj_names.specs.WellKnown.{object}
@@ -26,6 +27,8 @@ use Rattle.accepted_folders.specs.Emitted.{EmittedMethod}
 use Rattle.accepted_folders.specs.Linked.{has_function}
 use Rattle.sj_trees.specs.declared.operators.BinaryOp.{BinaryOp}
 use Rattle.sj_trees.specs.declared.operators.BinaryOp.TheVariants.{IntDivide, IntRemainder as IntRest, LongDivide, LongRemainder as LongRest}
+use Rattle.sj_trees.specs.declared.types.IrType.{IrType}
+use Rattle.sj_trees.specs.declared.types.IrType.TheVariants.{Undefined, Boolean, Char, Byte, Short, Int, Long, String}
 use Rattle.sj_world.proofs.OnCycles.{among}
 use Rattle.sj_world.specs.Known.{Name, Classes}
 use Rattle.sj_world.specs.declared.facts.Fact.{Fact}
@@ -38,6 +41,10 @@ is_check = is_same_text check_name
 abbrev is_division : Name → Bool
 is_division x = list_any (is_same_text x) (codes "$id" ∷ codes "$im" ∷ codes "$ld" ∷ codes "$lm" ∷ [])
 
+-- and the casts to primitive types
+abbrev is_cast : Name → Bool
+is_cast x = list_any (is_same_text x) (codes "$asV" ∷ codes "$asZ" ∷ codes "$asC" ∷ codes "$asB" ∷ codes "$asS" ∷ codes "$asI" ∷ codes "$asJ" ∷ codes "$asT" ∷ [])
+
 no_check : (f : Failure) → is_check (helper_name (Throws f)) ≡ false
 no_check NullReceiver = refl
 no_check _ = refl
@@ -45,6 +52,10 @@ no_check _ = refl
 no_division : (f : Failure) → is_division (helper_name (Throws f)) ≡ false
 no_division NullReceiver = refl
 no_division _ = refl
+
+no_cast : (f : Failure) → is_cast (helper_name (Throws f)) ≡ false
+no_cast NullReceiver = refl
+no_cast _ = refl
 
 -- the helper of this name uses the one that throws
 checks : (h : Helper) → is_check (helper_name h) ≡ true → Contains (used_helpers h) (Throws NullReceiver)
@@ -65,6 +76,25 @@ divisions (CastTo k) e = impossible e
 divisions (ConstantsOf k) e = impossible e
 divisions (Throws f) e = impossible (sym (no_division f) ∙ e)
 divisions _ e = impossible e
+
+casts : (h : Helper) → is_cast (helper_name h) ≡ true → Contains (used_helpers h) (Throws Cast)
+casts (CastTo k) e = further_on (TestOf k) (Throws Cast ∷ []) (Throws Cast) (at_front (Throws Cast) [])
+casts (TestOf k) e = impossible e
+casts (ConstantsOf k) e = impossible e
+casts (Throws f) e = impossible (sym (no_cast f) ∙ e)
+casts _ e = impossible e
+
+-- the name of the cast to a primitive type
+is_cast_name : (t : IrType) → has_kind t ≡ true → is_cast (cast_name t) ≡ true
+is_cast_name Undefined k = refl
+is_cast_name Boolean k = refl
+is_cast_name Char k = refl
+is_cast_name Byte k = refl
+is_cast_name Short k = refl
+is_cast_name Int k = refl
+is_cast_name Long k = refl
+is_cast_name String k = refl
+is_cast_name _ k = impossible k
 
 module _ (w : Classes) (entries : List EntryPoint) (facts : List Fact) (all : List EmittedMethod) (live : List Name) (helpers : List Helper) (written : List Name) (run : CanRun w entries facts all live helpers written) where
   abbrev has : Usable
@@ -98,3 +128,6 @@ module _ (w : Classes) (entries : List EntryPoint) (facts : List Fact) (all : Li
   division LongDivide h = dividing (codes "$ld") refl h
   division LongRest h = dividing (codes "$lm") refl h
   division _ h = impossible h
+
+  pub cast_to_kind : (t : IrType) → has_kind t ≡ true → has.helper (cast_name t) ≡ true → Makes class_cast
+  cast_to_kind t k h = throwing Cast (cast_name t) (λ g e. casts g (subst (λ (y : Name). is_cast y ≡ true) (sym e) (is_cast_name t k))) h
