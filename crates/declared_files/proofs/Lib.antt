@@ -1,5 +1,6 @@
 pub mod Calls
 pub mod Kinds
+pub mod Made
 pub mod Once
 pub mod Order
 pub mod Place

@@ -8,14 +8,16 @@ use Rattle.built_forms.proofs.Statics.{set_static, static_among}
 use Rattle.built_forms.specs.Built.{has_static, can_box, divides, compares}
 use Rattle.file_declarations.proofs.Fields.{fields_differ, begins, statics_differ, static_begins}
 use Rattle.file_declarations.proofs.Items.{IsClassItem, alone as class_alone, extending, code_found, members_found}
-use Rattle.file_declarations.proofs.Place.{marker_held, same_classes, chain_length, zero_literal_is}
+use Rattle.class_casts.specs.Classes.{class_cast_code, hijacked_test_code}
+use Rattle.class_tests.specs.Tests.{class_test_code}
+use Rattle.file_declarations.proofs.Begun.{marker_held, same_classes, chain_length, zero_literal_is}
 use Rattle.file_declarations.specs.Declarations.{behind}
 use Rattle.file_declarations.specs.Declared.{Running, alone as by_itself, on_receiver, completing, running, is_covered}
 use Rattle.file_tops.proofs.Run.{some_same}
 use Rattle.file_tops.specs.Tops.{literal_value, link}
 use Rattle.dispatch_laws.specs.Targets.{IsTargetOf}
 use Rattle.helper_rules.specs.Helpers.{helper_name, helper_item, used_helpers, constants, box_constructor}
-use Rattle.helper_rules.specs.Words.{class_name, constants_name}
+use Rattle.helper_rules.specs.Words.{class_name, constants_name, kind_class}
 use Rattle.helper_rules.specs.declared.kinds.Failure.TheVariants.{NullReceiver, Division, Cast}
 use Rattle.helper_rules.specs.declared.kinds.Helper.{Helper}
 use Rattle.helper_rules.specs.declared.kinds.Helper.TheVariants as helpers
@@ -32,18 +34,18 @@ use Rattle.js_tree.specs.Terms.{Name, Statements, Member, constructor_of, Item, 
 use Rattle.js_tree.specs.Views.{statements_of}
 use Rattle.outcomes.specs.Agreement.{Room}
 use Rattle.outcomes.specs.Shown as shown_ends
-use Rattle.piece_rules.specs.Pieces.{class_item_of, constructor_body, setter, zero_of as zero_literal}
+use Rattle.piece_rules.specs.Pieces.{class_item_of, constructor_body, setter, test_piece, cast_piece, zero_of as zero_literal}
 use Rattle.sj_calls.proofs.Shapes.{stands_there, zero_alike}
 use Rattle.sj_calls.specs.Chains as chains
 use Rattle.sj_calls.proofs.Casting.{cast_named}
 use Rattle.sj_calls.proofs.Testing.{test_named}
-use Rattle.sj_calls.specs.Helpers.{ReachesBoxes, CanTest, CanCompare, helper_code, HelperStands, BoxStands, failing_code, checking_code, division_code}
+use Rattle.sj_calls.specs.Helpers.{ReachesBoxes, ReachesTest, ClassTest, by_marker, by_kind, CanTest, Tested, of_kind, of_class, CanCompare, helper_code, HelperStands, BoxStands, failing_code, checking_code, division_code}
 use Rattle.sj_calls.specs.Made.{zero_value}
 use Rattle.sj_calls.specs.Methods.{Linked, parameters_in, function_of}
 use Rattle.sj_calls.specs.Names.{emitted_in}
 use Rattle.sj_calls.specs.Objects.{RunsOn, Constructs, function_on, body_of}
 use Rattle.sj_calls.specs.Objects as on_objects
-use Rattle.sj_calls.specs.Worlds.{IsMade, CanCheck, CanDivide, CanCast, StaticStands, setter_code, HasObjects}
+use Rattle.sj_calls.specs.Worlds.{IsMade, CanCheck, CanDivide, ThrowsCast, CanCast, CanCastClass, Casted, to_kind, to_class, StaticStands, setter_code, HasObjects}
 use Rattle.sj_core.specs.Terms.{named, receiver}
 use Rattle.sj_desugar.specs.Desugar.{is_mutable_in, names_of, body_code, completed, desugared_member}
 use Rattle.sj_emit_expr.specs.Members.{with_receiver, member_piece}
@@ -67,8 +69,9 @@ use Rattle.sj_trees.specs.declared.types.IrType.{IrType}
 use Rattle.sj_trees.specs.declared.types.IrType.TheVariants.{Any, Class}
 use Rattle.built_forms.specs.Built.{Usable}
 use Rattle.declared_files.specs.Declared as declared
-use Rattle.declared_files.specs.Declared.{Spread, all_items, Stands, FunctionDeclared, ClassDeclared, ChainDeclared, Declared, IsLawful}
-use Rattle.declared_files.specs.Placed.{Placed, placed, Holds, AllHold, RunInOrder}
+use Rattle.declared_files.specs.Declared.{Spread, all_items, Stands, FunctionDeclared, ClassDeclared, ChainDeclared, KindTestDeclared, ClassTestDeclared, TestDeclared, CastThrows, KindCastDeclared, ClassCastDeclared, CastDeclared, Declared, IsLawful}
+use Rattle.declared_files.specs.Placed.{Placed, placed, Holds, AllHold, OfPlaced, RunInOrder}
+use Rattle.declared_files.proofs.Made.{marks_ancestors}
 use Rattle.declared_files.proofs.Tops.{good_module, stands_in, all_pass, HasModule}
 use Rattle.js_mean.specs.Files.{is_good_file}
 
@@ -80,7 +83,7 @@ held_among p t (m ∷ ms) n h l c = ⊎_elim (λ same. (n, subst (λ (o : Placed
 module _ (z : Spread) where
   -- each chain has room, and so has a helper
   abbrev pub room : Room
-  room = record { each = 2; beyond = suc (longest z.classes) }
+  room = record { each = 3; beyond = suc (longest z.classes) }
 
   abbrev pub place : Place
   place = emitted_in z.classes z.program z.home z.has room
@@ -265,35 +268,69 @@ module _ (z : Spread) where
       test_boxes_here : (f : Name) (k : Kind) → (z.has f).helper (helper_name (helpers.TestOf k)) ≡ true → k ≡ kinds.Char → ReachesBoxes place (z.home (a_helper (helpers.TestOf k)))
       test_boxes_here f k l e = boxes_here (z.home (a_helper (helpers.TestOf k))) (can.helpers f (helpers.TestOf k) helpers.BoxedChar l (subst (λ k. Contains (used_helpers (helpers.TestOf k)) helpers.BoxedChar) (sym e) (at_front helpers.BoxedChar [])))
 
-      tested_here : (f : Name) (t : IrType) → (z.has f).tests t ≡ true → CanTest place t
-      tested_here f t l = let d = can.tests f t l in record {
+      -- the test of a kind is reached from a file whose code can use it
+      reaches_test : (g : Name) (k : Kind) → (z.has g).helper (helper_name (helpers.TestOf k)) ≡ true → ReachesTest place g k
+      reaches_test g k l = record { test = kind_test_here g k l; boxes = test_boxes_here g k l; owned = reaches g (a_helper (helpers.TestOf k)) l; user = g; usable = l }
+
+      class_test_here : (c : Name) → ClassTestDeclared z c → ClassTest place c
+      class_test_here _ (declared.by_marker c kinds plain instances item uses) = let g = z.home (a_test (Class c)) in by_marker c kinds plain instances (function_there g (test_name (Class c)) (class_test_code c kinds).parameters (class_test_code c kinds).body item) (λ k i. reaches_test g k (uses k i))
+      class_test_here _ (declared.by_kind k kinds item uses) = let c = kind_class k in let g = z.home (a_test (Class c)) in by_kind k (function_there g (test_name (Class c)) (hijacked_test_code k).parameters (hijacked_test_code k).body item) (reaches_test g k uses)
+
+      kind_tested_here : (f : Name) (t : IrType) → KindTestDeclared z f t → CanTest place t
+      kind_tested_here f t d = record {
         kind = d.kind;
         its_kind = d.its_kind;
         test = ap (js_meaning.code_of z.program (z.home (a_test t))) (test_named t d.kind d.its_kind) ∙ ap (λ x. js_meaning.code_of z.program x (helper_name (helpers.TestOf d.kind))) d.home ∙ kind_test_here f d.kind d.helper;
         boxes = λ e. subst (ReachesBoxes place) (sym d.home) (test_boxes_here f d.kind d.helper e);
       }
 
-      cast_here : (f : Name) (t : IrType) → (z.has f).casts t ≡ true → CanCast place t
-      cast_here f t l =
-          let d = can.casts f t l in
+      tested_here : (f : Name) (t : IrType) → (z.has f).tests t ≡ true → Tested place t
+      tested_here f t l = by_declaration t (can.tests f t l)
+        where
+          by_declaration : (t : IrType) → TestDeclared z f t → Tested place t
+          by_declaration _ (declared.of_kind t d) = of_kind t (kind_tested_here f t d)
+          by_declaration _ (declared.of_class c d) = of_class c (class_test_here c d)
+
+      throws_cast : (g : Name) → (z.has g).helper (helper_name (helpers.Throws Cast)) ≡ true → CastThrows z → ThrowsCast place g
+      throws_cast g l can_throw = record {
+        failure = function_there (z.home (a_helper (helpers.Throws Cast))) (helper_name (helpers.Throws Cast)) (helper_code (helpers.Throws Cast)).parameters (helper_code (helpers.Throws Cast)).body (helper_there g (helpers.Throws Cast) l);
+        owned = reaches g (a_helper (helpers.Throws Cast)) l;
+        user = g;
+        usable = l;
+        reaches = reaches (z.home (a_helper (helpers.Throws Cast)));
+        built = can_throw.built;
+        made = can_throw.made;
+      }
+
+      kind_cast_here : (f : Name) (t : IrType) → KindCastDeclared z f t → CanCast place t
+      kind_cast_here f t d =
           let g = z.home (a_helper (helpers.CastTo d.kind)) in
           let its_test = can.helpers f (helpers.CastTo d.kind) (helpers.TestOf d.kind) d.helper (at_front (helpers.TestOf d.kind) (helpers.Throws Cast ∷ [])) in
-          let throws = can.helpers f (helpers.CastTo d.kind) (helpers.Throws Cast) d.helper (further_on (helpers.TestOf d.kind) (helpers.Throws Cast ∷ []) (helpers.Throws Cast) (at_front (helpers.Throws Cast) [])) in
+          let thrower = can.helpers f (helpers.CastTo d.kind) (helpers.Throws Cast) d.helper (further_on (helpers.TestOf d.kind) (helpers.Throws Cast ∷ []) (helpers.Throws Cast) (at_front (helpers.Throws Cast) [])) in
           record {
             kind = d.kind;
             its_kind = d.its_kind;
             cast = ap (js_meaning.code_of z.program (z.home (a_cast t))) (cast_named t d.kind d.its_kind) ∙ ap (λ x. js_meaning.code_of z.program x (helper_name (helpers.CastTo d.kind))) d.home ∙ function_there g (helper_name (helpers.CastTo d.kind)) (helper_code (helpers.CastTo d.kind)).parameters (helper_code (helpers.CastTo d.kind)).body (helper_there f (helpers.CastTo d.kind) d.helper);
-            test = kind_test_here g d.kind its_test;
-            boxes = test_boxes_here g d.kind its_test;
-            test_owned = ap (λ x. owner z.program x (helper_name (helpers.TestOf d.kind))) d.home ∙ reaches g (a_helper (helpers.TestOf d.kind)) its_test;
-            test_held = λ y s u same. same.tops g (a_helper (helpers.TestOf d.kind)) its_test;
-            failure = function_there (z.home (a_helper (helpers.Throws Cast))) (helper_name (helpers.Throws Cast)) (helper_code (helpers.Throws Cast)).parameters (helper_code (helpers.Throws Cast)).body (helper_there g (helpers.Throws Cast) throws);
-            owned = ap (λ x. owner z.program x (helper_name (helpers.Throws Cast))) d.home ∙ reaches g (a_helper (helpers.Throws Cast)) throws;
-            held = λ y s u same. same.tops g (a_helper (helpers.Throws Cast)) throws;
-            reaches = reaches (z.home (a_helper (helpers.Throws Cast)));
-            built = d.built;
-            made = d.made;
+            tests = subst (λ (x : Name). ReachesTest place x d.kind) (sym d.home) (reaches_test g d.kind its_test);
+            throws = subst (ThrowsCast place) (sym d.home) (throws_cast g thrower d.throws);
           }
+
+      class_cast_here : (c : Name) → ClassCastDeclared z c → CanCastClass place c
+      class_cast_here c d = let g = z.home (a_cast (Class c)) in record {
+        cast = function_there g (cast_name (Class c)) (class_cast_code c).parameters (class_cast_code c).body d.cast;
+        test = class_test_here c d.test;
+        owned = reaches g (a_test (Class c)) d.tests;
+        user = g;
+        usable = d.tests;
+        throws = throws_cast g d.thrower d.throws;
+      }
+
+      cast_here : (f : Name) (t : IrType) → (z.has f).casts t ≡ true → Casted place t
+      cast_here f t l = by_declaration t (can.casts f t l)
+        where
+          by_declaration : (t : IrType) → CastDeclared z f t → Casted place t
+          by_declaration _ (declared.to_kind t d) = to_kind t (kind_cast_here f t d)
+          by_declaration _ (declared.to_class c d) = to_class c (class_cast_here c d)
 
       compared_here : (f : Name) → compares (z.has f) ≡ true → CanCompare place
       compared_here f l = let g = z.home (a_helper helpers.Equal) in record {
@@ -309,7 +346,7 @@ module _ (z : Spread) where
       has_objects = record { linked = linked_here; received = runs_here; targets = target_here; built = constructs_here; made = made_here; objects = object_here; field = field_here; statics = static_here; checked = check_here; divided = divided_here; boxes = box_here; tested = tested_here; cast = cast_here; compared = compared_here; each = omega arith; beyond = omega arith }
 
     -- the state behind the declarations
-    module _ (t : js.State) (hold : AllHold z.program t 0 (all_items z)) where
+    module _ (t : js.State) (hold : AllHold z.program t 0 (all_items z)) (made : (a : ℕ) (y : js.Stored) → slice_get t.heap a ≡ Some y → OfPlaced (all_items z) y) where
       held_in : (f : Name) (i : Item) → Contains (all_items z) (placed f i) → (k : ℕ) × Holds z.program t k f i
       held_in f i h = held_among z.program t (all_items z) 0 hold (placed f i) h
 
@@ -329,6 +366,7 @@ module _ (z : Spread) where
         apart = λ i a o e g. none_there a e;
         unborn = λ i a o e g. none_there a e;
         separate = λ a o b e g. none_there b g;
+        marked = λ a constants e. marks_ancestors z.classes (all_items z) can.marked constants (made a (js.plain [] constants) e);
         boxes = refl;
       }
 
@@ -359,6 +397,25 @@ module _ (z : Spread) where
       helper_held helpers.ArrayClass covered i = impossible covered
       helper_held h covered i = (held_in (z.home (a_helper h)) (helper_item can.ancestors h) i).1
 
+      -- tests and casts
+      abbrev HoldsFunction : Top → Type 0
+      HoldsFunction x = t.tops (z.home x) (top_name x) ≡ js.holds false (js.function (z.home x) (top_name x))
+
+      named_helper_held : (f : Name) (x : Top) (h : Helper) → (z.has f).helper (helper_name h) ≡ true → HoldsFunction (a_helper h) → z.home x ≡ z.home (a_helper h) → top_name x ≡ helper_name h → HoldsFunction x
+      named_helper_held f x h l held home name = subst (λ g. t.tops g (top_name x) ≡ js.holds false (js.function g (top_name x))) (sym home) (subst (λ y. t.tops (z.home (a_helper h)) y ≡ js.holds false (js.function (z.home (a_helper h)) y)) (sym name) held)
+
+      class_test_held : (c : Name) → ClassTestDeclared z c → HoldsFunction (a_test (Class c))
+      class_test_held _ (declared.by_marker c kinds plain instances item uses) = (held_in (z.home (a_test (Class c))) (test_piece c kinds None).item item).1
+      class_test_held _ (declared.by_kind k kinds item uses) = (held_in (z.home (a_test (Class (kind_class k)))) (test_piece (kind_class k) kinds (Some k)).item item).1
+
+      test_held : (f : Name) (k : IrType) → TestDeclared z f k → HoldsFunction (a_test k)
+      test_held f _ (declared.of_kind k d) = let h = can.helper f (helpers.TestOf d.kind) d.helper in named_helper_held f (a_test k) (helpers.TestOf d.kind) d.helper (helper_held (helpers.TestOf d.kind) h.0 h.1) d.home (test_named k d.kind d.its_kind)
+      test_held f _ (declared.of_class c d) = class_test_held c d
+
+      cast_held : (f : Name) (k : IrType) → CastDeclared z f k → HoldsFunction (a_cast k)
+      cast_held f _ (declared.to_kind k d) = let h = can.helper f (helpers.CastTo d.kind) d.helper in named_helper_held f (a_cast k) (helpers.CastTo d.kind) d.helper (helper_held (helpers.CastTo d.kind) h.0 h.1) d.home (cast_named k d.kind d.its_kind)
+      cast_held f _ (declared.to_class c d) = (held_in (z.home (a_cast (Class c))) (cast_piece c).item d.cast).1
+
       top_held : (f : Name) (x : Top) → is_usable (z.has f) x ≡ true → TopHolds place begun.owned x (t.tops (z.home x) (top_name x))
       top_held f (a_function m) l = let d = can.linked f m l in (held_in (z.home (a_function m)) (member_item d) d.function).1
       top_held f (a_method m) l = let d = can.received f m l in (held_in (z.home (a_method m)) (member_item d) d.function).1
@@ -367,8 +424,8 @@ module _ (z : Spread) where
       top_held f (some_constants c) l = let k = can.made f c l in first_constants c k.above k.classes
       top_held f (a_static c g k) l = tt
       top_held f (a_setter c g k) l = let its = can.static_field f c g k (set_static (z.has f) c g k l) in (held_in (z.home (a_setter c g k)) (setter (setter_name c g) (static_name c g)) (subst (λ n. Stands z (a_setter c g k) (setter (setter_name c n) (static_name c n))) its.field.named its.setter)).1
-      top_held f (a_test k) l = let d = can.tests f k l in let h = can.helper f (helpers.TestOf d.kind) d.helper in subst (λ g. t.tops g (test_name k) ≡ js.holds false (js.function g (test_name k))) (sym d.home) (subst (λ x. t.tops (z.home (a_helper (helpers.TestOf d.kind))) x ≡ js.holds false (js.function (z.home (a_helper (helpers.TestOf d.kind))) x)) (sym (test_named k d.kind d.its_kind)) (helper_held (helpers.TestOf d.kind) h.0 h.1))
-      top_held f (a_cast k) l = let d = can.casts f k l in let h = can.helper f (helpers.CastTo d.kind) d.helper in subst (λ g. t.tops g (cast_name k) ≡ js.holds false (js.function g (cast_name k))) (sym d.home) (subst (λ x. t.tops (z.home (a_helper (helpers.CastTo d.kind))) x ≡ js.holds false (js.function (z.home (a_helper (helpers.CastTo d.kind))) x)) (sym (cast_named k d.kind d.its_kind)) (helper_held (helpers.CastTo d.kind) h.0 h.1))
+      top_held f (a_test k) l = test_held f k (can.tests f k l)
+      top_held f (a_cast k) l = cast_held f k (can.casts f k l)
       top_held f (a_helper h) l = let k = can.helper f h l in helper_held h k.0 k.1
 
       -- the variable of a static field holds the zero of its type

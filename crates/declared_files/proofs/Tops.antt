@@ -1,5 +1,5 @@
 -- Declarations of files come to a state in which each binding holds what it is to hold.
-use Rattle.std.proofs.Common.{◌≡◌, Bool, true, false, List, [], ◌∷◌, ◌++◌, ◌||◌, ◌&&◌, not, map, length, Option, Some, None, is_some, refl, sym, ap, ◌∙◌, subst, Contains, ◌⊎◌, inl, inr, ⊎_elim, cond}
+use Rattle.std.proofs.Common.{◌≡◌, ℕ, slice_get, Bool, true, false, List, [], ◌∷◌, ◌++◌, ◌||◌, ◌&&◌, not, map, length, Option, Some, None, is_some, refl, sym, ap, ◌∙◌, subst, Contains, ◌⊎◌, inl, inr, ⊎_elim, cond}
 use Rattle.std.specs.List.{list_all}
 use Rattle.std.proofs.lemmas.Bool.{and_parts, or_cases, or_left, or_right, not-true}
 use Rattle.std.proofs.lemmas.List.Elements.{Contains-append_left, Contains-append_cases}
@@ -14,10 +14,11 @@ use Rattle.js_mean.specs.Files.{module_among, items_in, is_good_file, is_good_mo
 use Rattle.js_mean.specs.Meaning.{opening, module_cell, top_cell, binding}
 use Rattle.js_mean.specs.Objects.{no_properties, allocated, next_address}
 use Rattle.js_mean.specs.Proper.{is_among, are_distinct, item_names, imported_names, top_names, is_proper_item, is_proper_module}
-use Rattle.js_mean.specs.States.{Value, object, function, class, ClassLink, holds, plain, State, Program}
+use Rattle.js_mean.specs.States.{Value, object, function, class, ClassLink, holds, Stored, plain, State, Program}
 use Rattle.js_tree.specs.Names.{is_same_text}
 use Rattle.js_tree.specs.Terms.{Name, Expression, Statements, Item, const_item, object_item, let_item, expression_item, function_item, class_item, subclass_item, Module}
-use Rattle.declared_files.specs.Placed.{Placed, placed, items_until, with_class, is_one_of, leads_to, declares, declare, Holds, AllHold, DeclarationsOfFilesHold}
+use Rattle.declared_files.specs.Placed.{Placed, placed, items_until, with_class, is_one_of, leads_to, declares, declare, Holds, AllHold, OfPlaced, DeclarationsOfFilesHold}
+use Rattle.declared_files.proofs.Made.{made_by_files}
 
 -- none of these items declares the name in the file
 abbrev Free : List Placed → Name → Name → Type 0
@@ -224,7 +225,7 @@ stands_in p (g ∷ fs) f is rest items l h = ⊎_elim own (λ later. let k = sta
     own h = let k = from_map g (items_in (module_among p g)) l h in (subst (λ y. Contains (g ∷ fs ++ f ∷ []) y) (sym k.0) (at_front g (fs ++ f ∷ [])), subst (λ y. Contains (items_in (module_among p y)) l.item) (sym k.0) k.1)
 
 pub declarations_of_files_hold : DeclarationsOfFilesHold
-declarations_of_files_hold p fs f is rest run d = record { front = ran.0; runs = ran.1; end = all.end; runs_last = ran.2; hold = all.hold }
+declarations_of_files_hold p fs f is rest run d = record { front = ran.0; runs = ran.1; end = all.end; runs_last = ran.2; hold = all.hold; made = λ a y h. made a y (made_by_files p fs f is (opening p) ran.0 all.end ran.1 ran.2 a y h) }
   where
     module_of : (g : Name) → Contains (fs ++ f ∷ []) g → HasModule p g
     module_of g c = good_module p g (all_pass (is_good_file p) (fs ++ f ∷ []) g run.good c)
@@ -249,3 +250,7 @@ declarations_of_files_hold p fs f is rest run d = record { front = ran.0; runs =
 
     ran : (u : State) × (after_files p fs (opening p) ≡ Some u) × (after_items p f is u ≡ Some all.end)
     ran = files_run p fs f is (opening p) all.end all.runs
+
+    made : (a : ℕ) (y : Stored) → (slice_get (opening p).heap a ≡ Some y) ⊎ OfPlaced (items_until p fs f is) y → OfPlaced (items_until p fs f is) y
+    made a y (inl before) = absurd (cc)
+    made a y (inr its) = its

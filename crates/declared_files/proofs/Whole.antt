@@ -49,7 +49,7 @@ module _ (z : Spread) (all : Usable) (entries : List EntryPoint) (id : List ℕ)
   order_is = ap (running_order z.program) (sym public.last) ∙ public.order
 
   alike : (d : Direction) (n k : ℕ) → Enough (room z) 0 d n k → Sim d ◌≡◌ (ir_showing.ir_shows z.classes entries id n) (js_showing.js_shows z.program id k)
-  alike d n k h = subst (λ fs. Sim d ◌≡◌ (ir_showing.ir_shows z.classes entries id n) (order_shows (place z) z.last (reaches z calls runs can z.last) agree z.front z.declared es runs.good runs.items tops.front tops.end tops.runs tops.runs_last k fs)) (sym order_is) (files_alike (place z) z.last (reaches z calls runs can z.last) agree z.front z.declared es runs.good runs.items tops.front tops.end tops.runs tops.runs_last (begun z calls runs can tops.end tops.hold) (same_begins z calls runs can tops.end tops.hold) public.linked d n k h)
+  alike d n k h = subst (λ fs. Sim d ◌≡◌ (ir_showing.ir_shows z.classes entries id n) (order_shows (place z) z.last (reaches z calls runs can z.last) agree z.front z.declared es runs.good runs.items tops.front tops.end tops.runs tops.runs_last k fs)) (sym order_is) (files_alike (place z) z.last (reaches z calls runs can z.last) agree z.front z.declared es runs.good runs.items tops.front tops.end tops.runs tops.runs_last (begun z calls runs can tops.end tops.hold tops.made) (same_begins z calls runs can tops.end tops.hold tops.made) public.linked d n k h)
 
   pub files_agree : Agree (ir_showing.ir_shows z.classes entries id) (js_showing.js_shows z.program id)
   files_agree = agree-from_sim (room z) (ir_showing.ir_shows z.classes entries id) (js_showing.js_shows z.program id) alike (never_wrong z.classes plain all laws.objects laws.linked entries id (λ e c. (laws.among z.last).tops (a_function (initializer_member e)) (public.linked e c)))

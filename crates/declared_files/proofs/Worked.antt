@@ -1,5 +1,10 @@
 -- The three files declare what their code uses.
-use Rattle.std.proofs.Common.{◌≡◌, ◌<◌, ℕ, zero, suc, Bool, true, false, List, [], ◌∷◌, Some, None, codes, refl, sym, ap, subst, ⊎_elim, inl, inr, Contains, IsTrue, cond, slice_get, arith, ◌∙◌}
+use Rattle.std.proofs.Common.{◌≡◌, ◌<◌, ◌||◌, ℕ, zero, suc, Bool, true, false, List, [], ◌∷◌, Some, None, codes, refl, sym, ap, subst, ⊎_elim, inl, inr, Contains, IsTrue, cond, slice_get, arith, ◌∙◌}
+use Rattle.std.specs.Ordering.{nat_cmp}
+use Rattle.std.specs.Cmp.Lexicographic.{slice_cmp}
+use Rattle.std.specs.List.{IsDistinct}
+use Rattle.std.specs.List.Sorted.{IsSorted}
+use Rattle.std.proofs.lemmas.Bool.{or_cases}
 use Rattle.outcomes.specs.Agreement.{Agree}
 use Rattle.body_rules.proofs.Equal.{is-equal}
 use Rattle.body_rules.proofs.Lists.{nothing_in, in_front_or_behind, at_front, further_on}
@@ -12,16 +17,18 @@ use Rattle.body_soundness.specs.Worked as worked
 use Rattle.built_forms.specs.Built.{Usable, has_static, members_alone, divides}
 use Rattle.file_declarations.specs.Declared.{alone, on_receiver, completing, is_covered, FieldsAreKept}
 use Rattle.file_tops.proofs.Run.{some_same}
-use Rattle.helper_rules.specs.Helpers.{helper_name, helper_item, used_helpers}
+use Rattle.helper_rules.specs.Helpers.{helper_name, helper_item, used_helpers, constants}
 use Rattle.helper_rules.specs.declared.kinds.Failure.TheVariants.{NullReceiver, Division}
 use Rattle.helper_rules.specs.declared.kinds.Helper.{Helper}
 use Rattle.helper_rules.specs.declared.kinds.Helper.TheVariants.{Throws}
+use Rattle.ir_mean.proofs.AncestorsFound.{ancestors_are_worked_out}
+use Rattle.ir_mean.specs.Dispatch.{is_ancestor}
 use Rattle.ir_mean.specs.Meaning.{with_message}
 use Rattle.ir_mean.specs.Rows.{nowhere, object_name, object_with, main_entry, once}
 use Rattle.ir_mean.specs.Shows.{ir_shows}
 use Rattle.js_mean.specs.Shows.{js_shows}
 use Rattle.js_tree.specs.Names.{is_same_text}
-use Rattle.js_tree.specs.Terms.{Name}
+use Rattle.js_tree.specs.Terms.{Name, Property, Item, object_item}
 use Rattle.sj_desugar.specs.Desugar.{member}
 use Rattle.sj_emit_expr.specs.Templates.{check_name}
 use Rattle.sj_names.proofs.Same.{impossible}
@@ -38,9 +45,11 @@ use Rattle.sj_trees.specs.declared.classes.ClassDef.{ClassDef}
 use Rattle.sj_trees.specs.declared.operators.BinaryOp.{BinaryOp}
 use Rattle.sj_trees.specs.declared.types.IrType.{IrType}
 use Rattle.sj_trees.specs.declared.types.IrType.TheVariants.{Int, Nothing, NoType}
+use Rattle.sj_world.specs.Known.{is_same}
 use Rattle.sj_world.specs.Subtypes.{equal}
+use Rattle.sj_world.specs.Tables.{AreAncestors}
 use Rattle.typing_rules.specs.Rules.{nothing_wanted, fitting, HasFieldType}
-use Rattle.declared_files.specs.Declared.{Leads, Stands, Uses, FunctionDeclared, ClassDeclared, extends_none, extends_one, MadeDeclared, StaticDeclared, Declared, IsAmong, IsPublic, IsLawful, all_items, TestDeclared, CastDeclared}
+use Rattle.declared_files.specs.Declared.{Leads, Stands, Uses, FunctionDeclared, ClassDeclared, extends_none, extends_one, MadeDeclared, StaticDeclared, Declared, IsAmong, IsPublic, IsLawful, all_items, TestDeclared, CastDeclared, AreConstants}
 use Rattle.declared_files.specs.Placed.{Placed, placed}
 use Rattle.declared_files.specs.Worked.{object_constants, object_class, its_constants, its_class, init_function, get_function, main_function, main_file, class_file, object_file, main_use, class_use, use_of, three_files, spread}
 use Rattle.declared_files.proofs.Whole.{files_agree}
@@ -212,6 +221,70 @@ main_makes c e = subst (MadeDeclared spread) e (record { above = object_name ∷
 class_makes : (c : Name) → object_name ≡ c → MadeDeclared spread c
 class_makes c e = subst (MadeDeclared spread) e (record { above = []; chain = refl; classes = extends_none object_name object_declared })
 
+-- the classes above each
+one_sorted : IsSorted (slice_cmp nat_cmp) (object_name ∷ [])
+one_sorted k d l h = absurd (omega (arith, h))
+
+two_sorted : IsSorted (slice_cmp nat_cmp) (class_name ∷ object_name ∷ [])
+two_sorted zero d l h = refl
+two_sorted (suc k) d l h = absurd (omega (arith, h))
+
+one_distinct : IsDistinct is_same (object_name ∷ [])
+unfolding IsDistinct
+one_distinct = (tt, tt)
+
+two_distinct : IsDistinct is_same (class_name ∷ object_name ∷ [])
+unfolding IsDistinct
+two_distinct = ((refl, tt), (tt, tt))
+
+above_object : AreAncestors object_world object_name (object_name ∷ [])
+above_object = record { sorted = one_sorted; once = one_distinct; exact = λ o. (λ i. (ancestors_are_worked_out object_world object_name o).0 (to o i), λ a. from o ((ancestors_are_worked_out object_world object_name o).1 a)) }
+  where
+    to : (o : Name) → Contains (object_name ∷ []) o → is_ancestor object_world object_name o ≡ true
+    to o i = ⊎_elim (λ same. subst (λ (x : Name). is_ancestor object_world object_name x ≡ true) same refl) (λ none. nothing_in o none) (in_front_or_behind object_name [] o i)
+
+    here : (o : Name) → is_same_text o object_name ≡ true → Contains (object_name ∷ []) o
+    here o e = subst (Contains (object_name ∷ [])) (sym (is-equal o object_name e)) (at_front object_name [])
+
+    from : (o : Name) → is_ancestor object_world object_name o ≡ true → Contains (object_name ∷ []) o
+    from o h = ⊎_elim (here o) (λ k. ⊎_elim (λ e. here o (subst (λ (x : Name). is_same_text x object_name ≡ true) (is-equal object_name o e) refl)) (λ n. impossible n) (or_cases (is_same_text object_name o) false k)) (or_cases (is_same_text o object_name) (is_same_text object_name o || false) h)
+
+above_class : AreAncestors object_world class_name (class_name ∷ object_name ∷ [])
+above_class = record { sorted = two_sorted; once = two_distinct; exact = λ o. (λ i. (ancestors_are_worked_out object_world class_name o).0 (to o i), λ a. from o ((ancestors_are_worked_out object_world class_name o).1 a)) }
+  where
+    abbrev both : List Name
+    both = class_name ∷ object_name ∷ []
+
+    to : (o : Name) → Contains both o → is_ancestor object_world class_name o ≡ true
+    to o i = ⊎_elim (λ same. subst (λ (x : Name). is_ancestor object_world class_name x ≡ true) same refl) (λ later. ⊎_elim (λ same. subst (λ (x : Name). is_ancestor object_world class_name x ≡ true) same refl) (λ none. nothing_in o none) (in_front_or_behind object_name [] o later)) (in_front_or_behind class_name (object_name ∷ []) o i)
+
+    its_object : (o : Name) → o ≡ object_name → Contains both o
+    its_object o e = subst (Contains both) (sym e) (further_on class_name (object_name ∷ []) object_name (at_front object_name []))
+
+    from : (o : Name) → is_ancestor object_world class_name o ≡ true → Contains both o
+    from o h = ⊎_elim (λ e. its_object o (is-equal o object_name e)) (λ k. ⊎_elim (λ e. subst (Contains both) (is-equal class_name o e) (at_front class_name (object_name ∷ []))) (λ m. ⊎_elim (λ n. ⊎_elim (λ e. its_object o (sym (is-equal object_name o e))) (λ q. impossible q) (or_cases (is_same_text object_name o) false n)) (λ q. impossible q) (or_cases (is_same_text object_name o || false) false m)) (or_cases (is_same_text class_name o) ((is_same_text object_name o || false) || false) k)) (or_cases (is_same_text o object_name) (is_same_text class_name o || ((is_same_text object_name o || false) || false)) h)
+
+-- the constants of each are the only objects that the files declare
+abbrev Tells : Item → Type 0
+Tells i = (x : Name) (ps : List Property) → i ≡ object_item x ps → AreConstants object_world ps
+
+abbrev AllTell : List Placed → Type 0
+AllTell [] = Unit {0}
+AllTell (l ∷ ls) = Tells l.item × AllTell ls
+
+each_tells : (ls : List Placed) → AllTell ls → (l : Placed) → Contains ls l → Tells l.item
+each_tells [] all l h = nothing_in l h
+each_tells (m ∷ ms) all l h = ⊎_elim (λ same. subst (λ (k : Placed). Tells k.item) same all.0) (λ later. each_tells ms all.1 l later) (in_front_or_behind m ms l h)
+
+tells_object : Tells object_constants
+tells_object x ps e = let same : constants object_name (object_name ∷ []) ≡ ps = cc in record { class = object_name; ancestors = object_name ∷ []; are = sym same; above = above_object }
+
+tells_class : Tells its_constants
+tells_class x ps e = let same : constants class_name (class_name ∷ object_name ∷ []) ≡ ps = cc in record { class = class_name; ancestors = class_name ∷ object_name ∷ []; are = sym same; above = above_class }
+
+all_tell : AllTell (all_items spread)
+all_tell = (tells_object, λ x ps e. absurd (cc), tells_class, λ x ps e. absurd (cc), λ x ps e. absurd (cc), λ x ps e. absurd (cc), λ x ps e. absurd (cc), tt)
+
 pub all_declared : Declared spread
 all_declared = record {
   leads = by_file (λ f u. (t : Top) → is_named u t ≡ true → Leads spread f t) main_leads class_leads nothing_leads;
@@ -223,6 +296,7 @@ all_declared = record {
   static_field = by_file (λ f u. (c g : Name) (t : IrType) → has_static u c g t ≡ true → StaticDeclared spread c g t) (λ c g t h. impossible h) (λ c g t h. impossible h) (λ f c g t h. impossible h);
   tests = by_file (λ f u. (t : IrType) → u.tests t ≡ true → TestDeclared spread f t) (λ t h. impossible h) (λ t h. impossible h) (λ f t h. impossible h);
   casts = by_file (λ f u. (t : IrType) → u.casts t ≡ true → CastDeclared spread f t) (λ t h. impossible h) (λ t h. impossible h) (λ f t h. impossible h);
+  marked = λ f x ps i. each_tells (all_items spread) all_tell (placed f (object_item x ps)) i x ps refl;
   kept = fields_kept;
   ancestors = λ k. [];
   helper = by_file (λ f u. (h : Helper) → u.helper (helper_name h) ≡ true → (is_covered h ≡ true) × Stands spread (a_helper h) (helper_item (λ k. []) h)) (λ h l. impossible l) (λ h l. impossible l) (λ f h l. impossible l);

@@ -5,8 +5,8 @@ use Rattle.body_soundness.specs.Laws.{ObjectLaws, null_pointer, arithmetic, clas
 use Rattle.body_soundness.specs.Rules.{RightMember}
 use Rattle.built_forms.specs.Built.{Usable, has_static, divides}
 use Rattle.file_declarations.specs.Declared.{Running, alone, on_receiver, completing, running, is_covered, FieldsAreKept}
-use Rattle.helper_rules.specs.Helpers.{Above, helper_name, helper_item, used_helpers}
-use Rattle.helper_rules.specs.Words.{marker}
+use Rattle.helper_rules.specs.Helpers.{Above, helper_name, helper_item, used_helpers, constants}
+use Rattle.helper_rules.specs.Words.{marker, kind_class, worded_kinds}
 use Rattle.helper_rules.specs.declared.kinds.Failure.TheVariants.{NullReceiver, Division, Cast}
 use Rattle.helper_rules.specs.declared.kinds.Helper.{Helper}
 use Rattle.helper_rules.specs.declared.kinds.Kind.{Kind}
@@ -18,9 +18,10 @@ use Rattle.ir_mean.specs.World.{World, class_of}
 use Rattle.js_mean.specs.Files.{module_among, items_in, is_good_file, owner, running_order}
 use Rattle.js_mean.specs.Shows.{class_marked, file_of}
 use Rattle.js_mean.specs.States.{Program}
-use Rattle.js_tree.specs.Terms.{Name, Item, Member, constructor_of}
+use Rattle.js_tree.specs.Terms.{Name, Property, Item, object_item, Member, constructor_of}
 use Rattle.js_tree.specs.Views.{statements_of}
-use Rattle.piece_rules.specs.Pieces.{constants_piece, class_item_of, constructor_body, variable_piece, setter_piece}
+use Rattle.piece_rules.specs.Classes.{AreInstances}
+use Rattle.piece_rules.specs.Pieces.{constants_piece, class_item_of, constructor_body, variable_piece, setter_piece, test_piece, cast_piece}
 use Rattle.sj_desugar.specs.Desugar.{desugared_member, member}
 use Rattle.sj_emit_expr.specs.Members.{member_piece}
 use Rattle.sj_emit_expr.specs.Templates.{check_name}
@@ -34,7 +35,9 @@ use Rattle.sj_trees.specs.declared.classes.ClassDef.{ClassDef}
 use Rattle.sj_trees.specs.declared.classes.FieldDef.{FieldDef}
 use Rattle.sj_trees.specs.declared.operators.BinaryOp.{BinaryOp}
 use Rattle.sj_trees.specs.declared.types.IrType.{IrType}
-use Rattle.sj_trees.specs.declared.types.IrType.TheVariants.{NoType}
+use Rattle.sj_trees.specs.declared.types.IrType.TheVariants.{NoType, Class}
+use Rattle.sj_world.specs.Known.{is_hijacked}
+use Rattle.sj_world.specs.Tables.{AreAncestors}
 use Rattle.declared_files.specs.Placed.{Placed, placed, items_until, declare}
 
 -- the classes, the program, the file of each binding at a top, what the code of each file can use; and the files that declare it: some that run in front of the last, and
@@ -106,24 +109,59 @@ pub record StaticDeclared (z : Spread) (c f : Name) (t : IrType) : Type 0 where
   pub leads : Leads z (z.home (a_setter c f t)) (a_static c f t)
 
 -- a primitive type whose test the code of this file can use: it is the helper of its kind
-pub record TestDeclared (z : Spread) (f : Name) (t : IrType) : Type 0 where
+pub record KindTestDeclared (z : Spread) (f : Name) (t : IrType) : Type 0 where
   pub kind : Kind
   pub its_kind : kind_of t ≡ Some kind
   pub helper : (z.has f).helper (helper_name (TestOf kind)) ≡ true
   pub home : z.home (a_test t) ≡ z.home (a_helper (TestOf kind))
 
--- a primitive type to which the code of this file can cast: the cast is the helper of its kind, and the file of what a cast throws can use the exception
-pub record CastDeclared (z : Spread) (f : Name) (t : IrType) : Type 0 where
+-- a class with its test: that of one that isn't hijacked asks for the kinds whose values are instances of it, and for its marker; that of a hijacked one for its kind.
+-- The file of the test can use the tests of these kinds
+pub data ClassTestDeclared (z : Spread) : Name → Type 0 where
+  by_marker : (c : Name) (kinds : List Kind) → is_hijacked c ≡ false → AreInstances z.classes c worded_kinds kinds → Stands z (a_test (Class c)) (test_piece c kinds None).item → ((k : Kind) → Contains kinds k → Uses z (a_test (Class c)) (a_helper (TestOf k))) → ClassTestDeclared z c
+  by_kind : (k : Kind) (kinds : List Kind) → Stands z (a_test (Class (kind_class k))) (test_piece (kind_class k) kinds (Some k)).item → Uses z (a_test (Class (kind_class k))) (a_helper (TestOf k)) → ClassTestDeclared z (kind_class k)
+
+-- a type whose test the code of this file can use
+pub data TestDeclared (z : Spread) (f : Name) : IrType → Type 0 where
+  of_kind : (t : IrType) → KindTestDeclared z f t → TestDeclared z f t
+  of_class : (c : Name) → ClassTestDeclared z c → TestDeclared z f (Class c)
+
+-- the file of what a cast throws can use the exception
+pub record CastThrows (z : Spread) : Type 0 where
+  pub made : Uses z (a_helper (Throws Cast)) (a_class class_cast)
+  pub built : Uses z (a_helper (Throws Cast)) (a_constructor (member class_cast Constructor with_message))
+
+-- a primitive type to which the code of this file can cast: the cast is the helper of its kind
+pub record KindCastDeclared (z : Spread) (f : Name) (t : IrType) : Type 0 where
   pub kind : Kind
   pub its_kind : kind_of t ≡ Some kind
   pub helper : (z.has f).helper (helper_name (CastTo kind)) ≡ true
   pub home : z.home (a_cast t) ≡ z.home (a_helper (CastTo kind))
-  pub made : Uses z (a_helper (Throws Cast)) (a_class class_cast)
-  pub built : Uses z (a_helper (Throws Cast)) (a_constructor (member class_cast Constructor with_message))
+  pub throws : CastThrows z
+
+-- a class with its cast, whose file can use its test and what throws
+pub record ClassCastDeclared (z : Spread) (c : Name) : Type 0 where
+  pub cast : Stands z (a_cast (Class c)) (cast_piece c).item
+  pub test : ClassTestDeclared z c
+  pub tests : Uses z (a_cast (Class c)) (a_test (Class c))
+  pub thrower : Uses z (a_cast (Class c)) (a_helper (Throws Cast))
+  pub throws : CastThrows z
+
+-- a type to which the code of this file can cast
+pub data CastDeclared (z : Spread) (f : Name) : IrType → Type 0 where
+  to_kind : (t : IrType) → KindCastDeclared z f t → CastDeclared z f t
+  to_class : (c : Name) → ClassCastDeclared z c → CastDeclared z f (Class c)
+
+-- properties that are the constants of a class, with the markers of the classes that stand above it
+pub record AreConstants (w : World) (ps : List Property) : Type 0 where
+  pub class : Name
+  pub ancestors : List Name
+  pub are : ps ≡ constants class ancestors
+  pub above : AreAncestors w class ancestors
 
 -- all that the code of some file can use is declared, and its file leads to what it names: each member as it runs, a constructor without a value; each class that is
--- made; each field and each static field; tests of primitive types and casts to them; and each helper, whose file can use those that it uses, and that of
--- a failure the exception of it
+-- made; each field and each static field; tests and casts; and each helper, whose file can use those that it uses, and that of
+-- a failure the exception of it. Each object that is declared is the constants of a class
 pub record Declared (z : Spread) : Type 0 where
   pub leads : (f : Name) (t : Top) → is_named (z.has f) t ≡ true → Leads z f t
   pub linked : (f : Name) (m : MemberName) → (z.has f).linked m ≡ true → FunctionDeclared z (a_function m) alone m
@@ -134,6 +172,7 @@ pub record Declared (z : Spread) : Type 0 where
   pub static_field : (f c g : Name) (t : IrType) → has_static (z.has f) c g t ≡ true → StaticDeclared z c g t
   pub tests : (f : Name) (t : IrType) → (z.has f).tests t ≡ true → TestDeclared z f t
   pub casts : (f : Name) (t : IrType) → (z.has f).casts t ≡ true → CastDeclared z f t
+  pub marked : (f x : Name) (ps : List Property) → Contains (all_items z) (placed f (object_item x ps)) → AreConstants z.classes ps
   pub kept : FieldsAreKept z.classes
   pub ancestors : Above
   pub helper : (f : Name) (h : Helper) → (z.has f).helper (helper_name h) ≡ true → (is_covered h ≡ true) × Stands z (a_helper h) (helper_item ancestors h)

@@ -1,14 +1,15 @@
 -- The items of files that run one behind another, and what the binding of each holds once they have run.
-use Rattle.std.specs.Prelude.{◌≡◌, ℕ, Bool, true, false, ◌&&◌, List, [], ◌∷◌, ◌++◌, map, Option, Some, None}
+use Rattle.std.specs.Prelude.{◌≡◌, ℕ, Bool, true, false, ◌&&◌, List, [], ◌∷◌, ◌++◌, map, slice_get, Option, Some, None}
 use Rattle.std.specs.List.{Contains, list_all, list_any}
 use Rattle.file_declarations.specs.Declarations.{declares as declares_alone, Holds as HoldsAlone, behind}
-use Rattle.file_tops.specs.Tops.{after_items, after_files, link}
+use Rattle.file_tops.specs.Tops.{literal_properties, after_items, after_files, link}
 use Rattle.js_mean.specs.Files.{module_among, items_in, is_good_file, owner, running_order}
 use Rattle.js_mean.specs.Meaning.{opening}
+use Rattle.js_mean.specs.Objects.{no_properties}
 use Rattle.js_mean.specs.Proper.{are_distinct}
-use Rattle.js_mean.specs.States.{class, ClassLink, holds, State, Program}
+use Rattle.js_mean.specs.States.{Value, class, ClassLink, holds, Stored, plain, State, Program}
 use Rattle.js_tree.specs.Names.{is_same_text}
-use Rattle.js_tree.specs.Terms.{Name, Item, class_item, subclass_item}
+use Rattle.js_tree.specs.Terms.{Name, Property, Item, object_item, class_item, subclass_item}
 
 -- a file runs last of those that it reaches by imports, and each of these runs once
 pub record RunsLast (p : Program) (f : Name) : Type 0 where
@@ -95,19 +96,24 @@ abbrev pub AllHold : Program → State → ℕ → List Placed → Type 0
 AllHold p t n [] = Unit {0}
 AllHold p t n (l ∷ ls) = Holds p t n l.file l.item × AllHold p t (behind n l.item) ls
 
+-- the object that one of these items declares
+pub data OfPlaced (ls : List Placed) : Stored → Type 0 where
+  of_placed : (f x : Name) (ps : List Property) (own : Name → Option Value) → Contains ls (placed f (object_item x ps)) → literal_properties ps no_properties ≡ Some own → OfPlaced ls (plain [] own)
+
 -- the files run in this order, each once, and are good; and the last has these items in front of the rest
 pub record RunInOrder (p : Program) (fs : List Name) (f : Name) (is rest : List Item) : Type 0 where
   pub good : list_all (is_good_file p) (fs ++ f ∷ []) ≡ true
   pub once : are_distinct (fs ++ f ∷ []) ≡ true
   pub items : items_in (module_among p f) ≡ is ++ rest
 
--- the files, and the items of the last, come to a state in which the binding of each holds what it is to hold
+-- the files, and the items of the last, come to a state in which the binding of each holds what it is to hold, and nothing stands on the heap but objects that they declare
 pub record DeclaredAt (p : Program) (fs : List Name) (f : Name) (is : List Item) : Type 0 where
   pub front : State
   pub runs : after_files p fs (opening p) ≡ Some front
   pub end : State
   pub runs_last : after_items p f is front ≡ Some end
   pub hold : AllHold p end 0 (items_until p fs f is)
+  pub made : (a : ℕ) (y : Stored) → slice_get end.heap a ≡ Some y → OfPlaced (items_until p fs f is) y
 
 -- files of declarations, and declarations in front of what else stands in the last, do so
 abbrev pub DeclarationsOfFilesHold : Type 0

@@ -1,11 +1,13 @@
 -- Laws of the tops of files.
-use Rattle.std.specs.Prelude.{◌≡◌, ℕ, true, false, List, ◌∷◌, ◌++◌, Some}
+use Rattle.std.specs.Prelude.{◌≡◌, ◌⊎◌, ℕ, true, false, List, [], ◌∷◌, ◌++◌, slice_get, Option, Some}
+use Rattle.std.specs.List.{Contains}
 use Rattle.js_tree.specs.Names.{is_same_text}
-use Rattle.js_tree.specs.Terms.{Name, Item, Member, subclass_item}
-use Rattle.js_mean.specs.States.{class, ClassLink, holds, State, Program}
+use Rattle.js_tree.specs.Terms.{Name, Property, Item, object_item, Member, subclass_item}
+use Rattle.js_mean.specs.Objects.{no_properties}
+use Rattle.js_mean.specs.States.{Value, class, ClassLink, holds, Stored, plain, State, Program}
 use Rattle.js_mean.specs.Files.{owner}
 use Rattle.js_mean.specs.Meaning.{cell_of, top_scope, run_items, run_files}
-use Rattle.file_tops.specs.Tops.{after_items, after_files, start_name, classes_in, link}
+use Rattle.file_tops.specs.Tops.{literal_properties, after_items, after_files, start_name, classes_in, link}
 
 -- declarations come to one state, at every bound and without a line, and what stands behind them runs in it
 abbrev pub DeclarationsRun : Type 0
@@ -31,3 +33,11 @@ IsSettled p f y is = (g : Name) → owner p f y ≡ Some g → is_same_text g f 
 
 abbrev pub ClassesExtend : Type 0
 ClassesExtend = (p : Program) (f : Name) (front back : List Item) (s t : State) (x y : Name) (ms : List Member) → after_items p f (front ++ subclass_item x y ms ∷ back) s ≡ Some t → start_name back x ≡ false → IsSettled p f y (subclass_item x y ms ∷ back) → Extends p f x y t
+
+-- the object that one of these items declares
+pub data OfItem (is : List Item) : Stored → Type 0 where
+  of_item : (x : Name) (ps : List Property) (own : Name → Option Value) → Contains is (object_item x ps) → literal_properties ps no_properties ≡ Some own → OfItem is (plain [] own)
+
+-- what stands on the heap behind items stood there before, or is the object that one of them declares
+abbrev pub HeapsAreOfItems : Type 0
+HeapsAreOfItems = (p : Program) (f : Name) (is : List Item) (s t : State) → after_items p f is s ≡ Some t → (a : ℕ) (y : Stored) → slice_get t.heap a ≡ Some y → (slice_get s.heap a ≡ Some y) ⊎ OfItem is y

@@ -6,7 +6,7 @@
 
 ghost use Rattle.std.specs.Prelude.{Bool};
 ghost use Rattle.file_tops.specs.Kept.{StandsOn, OwnersFound};
-ghost use Rattle.file_tops.specs.Laws.{DeclarationsRun, FilesDeclare, OthersStay, ClassesExtend};
+ghost use Rattle.file_tops.specs.Laws.{DeclarationsRun, FilesDeclare, OthersStay, ClassesExtend, HeapsAreOfItems};
 ghost use Rattle.js_tree.specs.Terms.{Name};
 
 /// Items that only declare come to one state, at every bound and without a line, and what stands behind them runs in it.
@@ -37,4 +37,9 @@ pub fn stands_on()
 /// A name that a file declares belongs to it, and one that it imports to the file that declares and exports it.
 pub fn owners_found()
     ensures { OwnersFound }
+{}
+
+/// What stands on the heap behind items that declare stood there before them, or is the object that one of them declares.
+pub fn heaps_are_of_items()
+    ensures { HeapsAreOfItems }
 {}
