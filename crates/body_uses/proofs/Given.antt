@@ -27,7 +27,6 @@ use Rattle.accepted_folders.proofs.Undenied.{first_or_later}
 use Rattle.body_uses.specs.Given.{Given, HelpersGiven}
 use Rattle.body_uses.specs.Laws.{BodiesUseWhatIsGiven, used_by}
 use Rattle.body_uses.proofs.Boxes.{box_used}
-use Rattle.body_uses.proofs.Tested.{helper_used, cast_helper_used}
 use Rattle.body_uses.proofs.Uses.{Gives, GivesReceived, in_helpers, followed_parts, or_first, or_second, tree}
 
 pub same_binding : (a b : Binding) → is_same_binding a b ≡ true → a ≡ b
@@ -89,8 +88,8 @@ module _ (has : Usable) (used : List Binding) where
   gives (new_object p c m ts) g = λ h k f u. g k f u
   gives (select p e c f t) g = λ h. g
   gives (select_static p c f t) g = (λ h u. g.0 u, λ h u. g.1 u)
-  gives (is_instance_of p e t) g = λ h u. g h (helper_used U t h u)
-  gives (as_instance_of p e t) g = λ h u. g h (cast_helper_used U t h u)
+  gives (is_instance_of p e t) g = g
+  gives (as_instance_of p e t) g = g
   gives (binary_op p o e d) g = λ h. g
   gives t g = tt
 

@@ -1,9 +1,6 @@
 -- The test of a primitive type uses its helper, and so does the cast to one.
-use Rattle.std.proofs.Common.{◌≡◌, true, List, [], ◌∷◌, refl, subst}
-use Rattle.std.specs.List.{All}
-use Rattle.std.proofs.lemmas.List.Elements.{All-head}
+use Rattle.std.proofs.Common.{◌≡◌, true, List, [], ◌∷◌, refl}
 use Rattle.accepted_folders.specs.Built.{has_kind}
-use Rattle.js_tree.specs.declared.items.Binding.{Binding}
 use Rattle.sj_emit_expr.specs.Tests.{test_name, cast_name}
 use Rattle.sj_emit_expr.specs.Uses.{object_binding, test_uses, cast_uses}
 use Rattle.sj_names.proofs.Same.{impossible}
@@ -15,14 +12,8 @@ kind_uses (Class c) h = impossible h
 kind_uses (Array r) h = impossible h
 kind_uses _ h = refl
 
-pub helper_used : (U : Binding → Type 0) (t : IrType) → has_kind t ≡ true → All U (test_uses t) → U (object_binding (test_name t))
-helper_used U t h u = All-head U (object_binding (test_name t)) [] (subst (All U) (kind_uses t h) u)
-
 pub cast_kind_uses : (t : IrType) → has_kind t ≡ true → cast_uses t ≡ object_binding (cast_name t) ∷ []
 cast_kind_uses Any h = impossible h
 cast_kind_uses (Class c) h = impossible h
 cast_kind_uses (Array r) h = impossible h
 cast_kind_uses _ h = refl
-
-pub cast_helper_used : (U : Binding → Type 0) (t : IrType) → has_kind t ≡ true → All U (cast_uses t) → U (object_binding (cast_name t))
-cast_helper_used U t h u = All-head U (object_binding (cast_name t)) [] (subst (All U) (cast_kind_uses t h) u)

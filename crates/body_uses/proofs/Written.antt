@@ -8,19 +8,20 @@ use Rattle.dispatch_laws.proofs.WorkedOut.{targets_are_worked_out}
 use Rattle.dispatch_laws.specs.Laws.{found_by}
 use Rattle.dispatch_laws.specs.Targets.{at_owner, target_in}
 use Rattle.std.proofs.Common.{◌≡◌, Bool, true, false, List, [], ◌∷◌, inl, inr, Option, Some, refl, sym, subst, ◌∙◌, Contains, codes, ap, None}
-use Rattle.std.specs.Prelude.{not, ◌&&◌}
+use Rattle.std.specs.Prelude.{not, ◌&&◌, ◌||◌}
 use Rattle.worklist.proofs.Inserted.{nothing_in}
 use Rattle.std.specs.List.{All, list_any}
-use Rattle.std.proofs.lemmas.Bool.{and_from}
+use Rattle.std.proofs.lemmas.Bool.{and_from, or_left}
 use Rattle.std.proofs.lemmas.List.Elements.{All-head, All-tail}
 use Rattle.std.proofs.lemmas.List.Folds.{list_any_at}
 use Rattle.accepted_folders.specs.Typing.{is_built_with}
-use Rattle.accepted_folders.specs.Built.{Usable, is_object_body, is_static, has_kind, has_no_value}
+use Rattle.accepted_folders.specs.Built.{Usable, is_object_body, is_static, is_testable, has_no_value}
 use Rattle.accepted_folders.proofs.EachTyped.{in_all}
 use Rattle.accepted_folders.proofs.Undenied.{first_or_later}
 use Rattle.helper_rules.specs.Helpers.{helper_name}
 use Rattle.helper_rules.specs.declared.kinds.Helper.{Helper}
 use Rattle.helper_rules.specs.declared.kinds.Helper.TheVariants.{NotNull, IntQuotient, IntRemainder as IntRest, LongQuotient, LongRemainder as LongRest, BoxedChar, Equal, TestOf, CastTo}
+use Rattle.helper_rules.specs.declared.kinds.Kind.{Kind}
 use Rattle.helper_rules.specs.declared.kinds.Kind.TheVariants as kinds
 use Rattle.js_tree.specs.declared.items.Binding.{Binding}
 use Rattle.accepted_folders.proofs.Derivations.{closed}
@@ -29,10 +30,13 @@ use Rattle.accepted_folders.specs.Rules.{Reads, of_call, of_new, asked_body, new
 use Rattle.sj_desugar.specs.Desugar.{member}
 use Rattle.sj_emit_expr.specs.Templates.{check_name}
 use Rattle.sj_emit_expr.specs.Tests.{test_name, cast_name, same_name}
-use Rattle.sj_emit_expr.specs.Uses.{object_binding, function_binding, class_use, static_use, setter_use}
+use Rattle.sj_emit_expr.specs.Uses.{object_binding, function_binding, class_use, static_use, setter_use, test_uses, cast_uses}
 use Rattle.sj_infos.specs.Infos.{asks, asked_by_body, asked_in, of_receiver}
 use Rattle.sj_infos.specs.Sure.{sure_among}
+use Rattle.sj_infos.specs.Forms.{form_of, forms_in}
 use Rattle.sj_infos.specs.Trees.{trees}
+use Rattle.sj_infos.specs.declared.forms.BodyForm.{BodyForm}
+use Rattle.sj_infos.specs.declared.forms.BodyForm.TheVariants.{Test, Cast}
 use Rattle.sj_infos.specs.declared.infos.Info.{Info}
 use Rattle.sj_infos.specs.declared.infos.Info.TheVariants.{New, Static, Field, Resolved}
 use Rattle.accepted_folders.proofs.Found.{here}
@@ -55,7 +59,7 @@ use Rattle.sj_trees.specs.declared.classes.ClassDef.{ClassDef}
 use Rattle.sj_trees.specs.declared.operators.BinaryOp.{BinaryOp}
 use Rattle.sj_trees.specs.declared.operators.BinaryOp.TheVariants.{IntDivide, IntRemainder, LongDivide, LongRemainder}
 use Rattle.sj_trees.specs.declared.types.IrType.{IrType}
-use Rattle.sj_trees.specs.declared.types.IrType.TheVariants.{Undefined, Boolean, Char, Byte, Short, Int, Long, String}
+use Rattle.sj_trees.specs.declared.types.IrType.TheVariants.{Undefined, Boolean, Char, Byte, Short, Int, Long, String, Class as IrClass}
 use Rattle.sj_world.specs.Known.{Name, Classes, class_of}
 use Rattle.sj_world.proofs.Searches.{contains_at}
 use Rattle.sj_world.specs.Paths.{stay}
@@ -68,7 +72,7 @@ use Rattle.accepted_folders.specs.Accepted.{IsAccepted}
 use Rattle.accepted_folders.specs.Bodies.{AreBodies}
 use Rattle.accepted_folders.proofs.Calls.{needed}
 use Rattle.accepted_folders.proofs.Members.{has_function-from, defined}
-use Rattle.linked_pieces.specs.Used.{used_of, is_among, is_its_field, has_field_in, is_its_static, has_static_in, needs_static, uses_static, uses_helper}
+use Rattle.linked_pieces.specs.Used.{used_of, is_among, is_its_field, has_field_in, is_its_static, has_static_in, needs_static, uses_static, uses_helper, is_test_for, is_cast_to, is_tested, is_cast}
 use Rattle.body_uses.specs.Given.{Given, HelpersGiven, FitsDivision, HasType}
 use Rattle.body_uses.specs.Laws.{used_by, AcceptedBodiesUseWhatIsWritten}
 use Rattle.body_uses.specs.Written.{AreWrittenWith}
@@ -234,29 +238,44 @@ module _ (entries : List EntryPoint) (files : List SourceFile) (w : Classes) (fa
   is_helper : (h : Helper) (x : Name) → helper_name h ≡ x → Contains used (object_binding x) → has.helper x ≡ true
   is_helper h x same u = subst (λ (y : Name). has.helper y ≡ true) same (helper_there h (subst (λ (y : Name). Contains used (object_binding y)) (sym same) u))
 
-  -- a test of a primitive type, by the helper of its kind
-  test_there : (t : IrType) → has_kind t ≡ true → Contains used (object_binding (test_name t)) → has.helper (test_name t) ≡ true
-  test_there Undefined h u = helper_there (TestOf kinds.Undefined) u
-  test_there Boolean h u = helper_there (TestOf kinds.Boolean) u
-  test_there Char h u = helper_there (TestOf kinds.Char) u
-  test_there Byte h u = helper_there (TestOf kinds.Byte) u
-  test_there Short h u = helper_there (TestOf kinds.Short) u
-  test_there Int h u = helper_there (TestOf kinds.Int) u
-  test_there Long h u = helper_there (TestOf kinds.Long) u
-  test_there String h u = helper_there (TestOf kinds.Text) u
-  test_there _ h u = impossible h
+  -- a body that is needed has each form of its trees
+  has_form : (t : Term) (f : BodyForm) (test : BodyForm → Bool) → Contains (trees e.its_body) t → Contains (form_of t) f → test f ≡ true → list_any (λ (m : EmittedMethod). list_any test (forms_in m.its_body)) all ≡ true
+  has_form t f test among its passes = any_of (λ (m : EmittedMethod). list_any test (forms_in m.its_body)) all e i (any_of test (forms_in e.its_body) f (in_all form_of (trees e.its_body) t f among its) passes)
 
-  -- and a cast to one
-  cast_there : (t : IrType) → has_kind t ≡ true → Contains used (object_binding (cast_name t)) → has.helper (cast_name t) ≡ true
-  cast_there Undefined h u = helper_there (CastTo kinds.Undefined) u
-  cast_there Boolean h u = helper_there (CastTo kinds.Boolean) u
-  cast_there Char h u = helper_there (CastTo kinds.Char) u
-  cast_there Byte h u = helper_there (CastTo kinds.Byte) u
-  cast_there Short h u = helper_there (CastTo kinds.Short) u
-  cast_there Int h u = helper_there (CastTo kinds.Int) u
-  cast_there Long h u = helper_there (CastTo kinds.Long) u
-  cast_there String h u = helper_there (CastTo kinds.Text) u
-  cast_there _ h u = impossible h
+  first_used : (b : Binding) (bs : List Binding) → All (Contains used) (b ∷ bs) → Contains used b
+  first_used b bs u = All-head (Contains used) b bs u
+
+  kind_tested : (t : IrType) (k : Kind) → test_name t ≡ helper_name (TestOf k) → Contains used (object_binding (test_name t)) → uses_helper helpers written (test_name t) ≡ true
+  kind_tested t k same u = subst (λ (x : Name). uses_helper helpers written x ≡ true) (sym same) (helper_there (TestOf k) (subst (λ (x : Name). Contains used (object_binding x)) same u))
+
+  kind_cast : (t : IrType) (k : Kind) → cast_name t ≡ helper_name (CastTo k) → Contains used (object_binding (cast_name t)) → uses_helper helpers written (cast_name t) ≡ true
+  kind_cast t k same u = subst (λ (x : Name). uses_helper helpers written x ≡ true) (sym same) (helper_there (CastTo k) (subst (λ (x : Name). Contains used (object_binding x)) same u))
+
+  -- a test, by the helper of its kind or the function of its class
+  test_given : (p : Position) (d : Term) (t : IrType) → Contains (trees e.its_body) (is_instance_of p d t) → is_testable t ≡ true → All (Contains used) (test_uses t) → has.tests t ≡ true
+  test_given p d (IrClass c) among h u = and_from (is_among written c) (is_tested all c || is_cast all c) (in_written (record { owner = c; name = test_name (IrClass c) }) (first_used (record { owner = c; name = test_name (IrClass c) }) [] u)) (or_left (is_tested all c) (is_cast all c) (has_form (is_instance_of p d (IrClass c)) (Test c) (is_test_for c) among (here (Test c) []) (text-refl c)))
+  test_given p d Undefined among h u = kind_tested Undefined kinds.Undefined refl (first_used (object_binding (test_name Undefined)) [] u)
+  test_given p d Boolean among h u = kind_tested Boolean kinds.Boolean refl (first_used (object_binding (test_name Boolean)) [] u)
+  test_given p d Char among h u = kind_tested Char kinds.Char refl (first_used (object_binding (test_name Char)) [] u)
+  test_given p d Byte among h u = kind_tested Byte kinds.Byte refl (first_used (object_binding (test_name Byte)) [] u)
+  test_given p d Short among h u = kind_tested Short kinds.Short refl (first_used (object_binding (test_name Short)) [] u)
+  test_given p d Int among h u = kind_tested Int kinds.Int refl (first_used (object_binding (test_name Int)) [] u)
+  test_given p d Long among h u = kind_tested Long kinds.Long refl (first_used (object_binding (test_name Long)) [] u)
+  test_given p d String among h u = kind_tested String kinds.Text refl (first_used (object_binding (test_name String)) [] u)
+  test_given p d _ among h u = impossible h
+
+  -- and a cast
+  cast_given : (p : Position) (d : Term) (t : IrType) → Contains (trees e.its_body) (as_instance_of p d t) → is_testable t ≡ true → All (Contains used) (cast_uses t) → has.casts t ≡ true
+  cast_given p d (IrClass c) among h u = and_from (is_among written c) (is_cast all c) (in_written (record { owner = c; name = cast_name (IrClass c) }) (first_used (record { owner = c; name = cast_name (IrClass c) }) [] u)) (has_form (as_instance_of p d (IrClass c)) (Cast c) (is_cast_to c) among (here (Cast c) []) (text-refl c))
+  cast_given p d Undefined among h u = kind_cast Undefined kinds.Undefined refl (first_used (object_binding (cast_name Undefined)) [] u)
+  cast_given p d Boolean among h u = kind_cast Boolean kinds.Boolean refl (first_used (object_binding (cast_name Boolean)) [] u)
+  cast_given p d Char among h u = kind_cast Char kinds.Char refl (first_used (object_binding (cast_name Char)) [] u)
+  cast_given p d Byte among h u = kind_cast Byte kinds.Byte refl (first_used (object_binding (cast_name Byte)) [] u)
+  cast_given p d Short among h u = kind_cast Short kinds.Short refl (first_used (object_binding (cast_name Short)) [] u)
+  cast_given p d Int among h u = kind_cast Int kinds.Int refl (first_used (object_binding (cast_name Int)) [] u)
+  cast_given p d Long among h u = kind_cast Long kinds.Long refl (first_used (object_binding (cast_name Long)) [] u)
+  cast_given p d String among h u = kind_cast String kinds.Text refl (first_used (object_binding (cast_name String)) [] u)
+  cast_given p d _ among h u = impossible h
 
   tree_given : (t : Term) → Contains (trees e.its_body) t → Stands (MeetsThere w e.definition.namespace) t → Given has used t
   tree_given (apply_static p c n m ts t) among s = λ u. in_used (member c n m) (is_static n) (static_there n s.asked.0) (asked (apply_static p c n m ts t) among (Static (member c n m)) (here (Static (member c n m)) [])) u
@@ -270,8 +289,8 @@ module _ (entries : List EntryPoint) (files : List SourceFile) (w : Classes) (fa
   tree_given (select_static p c f t) among s =
       let there = static_given c f t s.asked (asked (select_static p c f t) among (Field c f true) (here (Field c f true) [])) in
       (λ u. there (in_written (static_use c f) u), λ u. there (in_written (setter_use c f) u))
-  tree_given (is_instance_of p d t) among s = λ h u. and_from (has_kind t) (uses_helper helpers written (test_name t)) h (test_there t h u)
-  tree_given (as_instance_of p d t) among s = λ h u. and_from (has_kind t) (uses_helper helpers written (cast_name t)) h (cast_there t h u)
+  tree_given (is_instance_of p d t) among s = test_given p d t among
+  tree_given (as_instance_of p d t) among s = cast_given p d t among
   tree_given (binary_op p o a b) among s = divisor w o a b s.asked
   tree_given t among s = tt
 

@@ -1,11 +1,12 @@
 -- What a body is given: what its emitted code names is there.
 use Rattle.std.specs.Prelude.{◌≡◌, ◌⊎◌, ℕ, true, List, [], ◌∷◌, Contains, codes}
-use Rattle.accepted_folders.specs.Built.{Usable, has_kind, has_no_value}
+use Rattle.std.specs.List.{All}
+use Rattle.accepted_folders.specs.Built.{Usable, is_testable, has_no_value}
 use Rattle.js_tree.specs.declared.items.Binding.{Binding}
 use Rattle.sj_desugar.specs.Desugar.{member}
 use Rattle.sj_emit_expr.specs.Templates.{check_name}
-use Rattle.sj_emit_expr.specs.Tests.{test_name, cast_name, same_name}
-use Rattle.sj_emit_expr.specs.Uses.{object_binding, function_binding, class_use, static_use, setter_use}
+use Rattle.sj_emit_expr.specs.Tests.{same_name}
+use Rattle.sj_emit_expr.specs.Uses.{object_binding, function_binding, class_use, static_use, setter_use, test_uses, cast_uses}
 use Rattle.sj_names.specs.declared.method_names.Namespace.TheVariants.{Private, Constructor, Public}
 use Rattle.sj_trees.specs.Term.{Term, new_object, select, select_static, apply_statically, apply_static, binary_op, is_instance_of, as_instance_of}
 use Rattle.sj_trees.specs.TypeOf.{type_of_term}
@@ -33,7 +34,7 @@ body_helpers = check_name ∷ codes "$id" ∷ codes "$im" ∷ codes "$ld" ∷ co
 -- where these bindings are used
 module _ (has : Usable) (used : List Binding) where
   -- a member whose function is used is there, of a public one the target, a constructor where it has no value, and so are a class that is used to make an object, each field, and a static field whose
-  -- variable or setter is used, and a test of a primitive type and a cast to one whose helper is used; a divisor has its type
+  -- variable or setter is used, and a test and a cast whose function is used; a divisor has its type
   abbrev pub Given : Term → Type 0
   Given (apply_static p c n m ts t) = Contains used (function_binding (member c n m)) → has.linked (member c n m) ≡ true
   Given (apply_statically p e c Private m ts t) = Contains used (function_binding (member c Private m)) → has.received (member c Private m) ≡ true
@@ -42,8 +43,8 @@ module _ (has : Usable) (used : List Binding) where
   Given (new_object p c m ts) = has_no_value m.result ≡ true → Contains used (function_binding (member c Constructor m)) → Contains used (class_use c) → (has.built (member c Constructor m) ≡ true) × (has.made c ≡ true)
   Given (select p e c f t) = has.field c f t ≡ true
   Given (select_static p c f t) = (Contains used (static_use c f) → has.static_field c f t ≡ true) × (Contains used (setter_use c f) → has.static_setter c f t ≡ true)
-  Given (is_instance_of p e t) = has_kind t ≡ true → Contains used (object_binding (test_name t)) → has.tests t ≡ true
-  Given (as_instance_of p e t) = has_kind t ≡ true → Contains used (object_binding (cast_name t)) → has.casts t ≡ true
+  Given (is_instance_of p e t) = is_testable t ≡ true → All (Contains used) (test_uses t) → has.tests t ≡ true
+  Given (as_instance_of p e t) = is_testable t ≡ true → All (Contains used) (cast_uses t) → has.casts t ≡ true
   Given (binary_op p o e d) = FitsDivision o d
   Given _ = Unit {0}
 

@@ -14,7 +14,7 @@ use Rattle.sj_trees.specs.declared.classes.MethodDef.{MethodDef}
 use Rattle.sj_trees.specs.declared.operators.BinaryOp.{BinaryOp}
 use Rattle.sj_trees.specs.declared.operators.BinaryOp.TheVariants.{StrictEqual, StrictNotEqual, IntDivide, IntRemainder, LongDivide, LongRemainder}
 use Rattle.sj_trees.specs.declared.types.IrType.{IrType}
-use Rattle.sj_trees.specs.declared.types.IrType.TheVariants.{Any}
+use Rattle.sj_trees.specs.declared.types.IrType.TheVariants.{Any, Class}
 use Rattle.built_forms.specs.Boxes.{boxes, goal_of}
 
 -- a literal other than zero
@@ -186,9 +186,14 @@ has_no_value _ = false
 abbrev pub has_kind : IrType → Bool
 has_kind = is_sure_type
 
--- whatever is made and used of objects, but for constructors with a value, and tests of classes and arrays and casts to them
+-- a type that a test can ask for, and to which a cast can go that calls a function: one whose values are of one kind, or a class
+abbrev pub is_testable : IrType → Bool
+is_testable (Class c) = true
+is_testable t = has_kind t
+
+-- whatever is made and used of objects, but for constructors with a value, and tests of arrays and casts to them
 abbrev pub any_object : Usable
-any_object = record { linked = λ m. true; target = λ m. m; received = λ m. true; built = λ m. has_no_value m.method.result; made = λ c. true; field = λ c f t. true; static_field = λ c f t. true; static_setter = λ c f t. true; tests = has_kind; casts = has_kind; helper = λ x. true; objects = true }
+any_object = record { linked = λ m. true; target = λ m. m; received = λ m. true; built = λ m. has_no_value m.method.result; made = λ c. true; field = λ c f t. true; static_field = λ c f t. true; static_setter = λ c f t. true; tests = is_testable; casts = is_testable; helper = λ x. true; objects = true }
 
 -- the body is of these forms, whatever it calls, makes and reads
 abbrev pub is_object_body : MethodDef → Term → Bool

@@ -152,7 +152,8 @@ pub record WorkedForms : Type 0 where
   pub test_of_a_text : not_built (static (tested String object)) ≡ false
   pub test_of_a_char : not_built (static (tested Char letter)) ≡ false
   pub test_of_null : not_built (static (tested Null object)) ≡ true
-  pub test_of_a_class : not_built (static (tested (Class (codes "A")) object)) ≡ true
+  pub test_of_a_class : not_built (static (tested (Class (codes "A")) object)) ≡ false
+  pub test_of_a_class_of_what_is_not_built : not_built (static (tested (Class (codes "A")) unbuilt)) ≡ true
   pub test_of_an_array : not_built (static (tested (Array (record { base = BaseRef.Int; dimensions = 1 })) object)) ≡ true
   pub test_of_an_int_of_what_is_not_built : not_built (static (tested Int unbuilt)) ≡ true
   pub test_it_can_use : is_built with_tests (λ e. true) (tested String (number 1)) ≡ true
@@ -161,7 +162,8 @@ pub record WorkedForms : Type 0 where
   pub cast_to_a_text : not_built (static (casted String object)) ≡ false
   pub cast_of_a_char : not_built (static (casted Char letter)) ≡ false
   pub cast_to_null : not_built (static (casted Null object)) ≡ true
-  pub cast_to_a_class : not_built (static (casted (Class (codes "A")) object)) ≡ true
+  pub cast_to_a_class : not_built (static (casted (Class (codes "A")) object)) ≡ false
+  pub cast_to_a_class_of_what_is_not_built : not_built (static (casted (Class (codes "A")) unbuilt)) ≡ true
   pub cast_to_an_array : not_built (static (casted (Array (record { base = BaseRef.Int; dimensions = 1 })) object)) ≡ true
   pub cast_to_an_int_of_what_is_not_built : not_built (static (casted Int unbuilt)) ≡ true
   pub cast_to_any : not_built (static (casted Any object)) ≡ false

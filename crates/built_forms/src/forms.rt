@@ -5,7 +5,7 @@ ghost use Rattle.sj_trees.specs.Term.{Term, Terms, apply_statically};
 ghost use Rattle.sj_trees.specs.declared.positions.Position.{Position};
 ghost use Rattle.sj_trees.specs.View.{view, terms_view, cases_view};
 
-use crate::kinds::{can_cast, has_kind};
+use crate::kinds::{can_cast, is_testable};
 use sj_names::{MethodName, Namespace, TypeRef};
 use sj_trees::{IrType, MatchCase, Tree};
 
@@ -58,7 +58,7 @@ pub fn is_built(tree: &Tree) -> bool
             has_no_value(&constructor.result) && are_built(arguments)
         }
         Tree::BinaryOp(_, _, left, right) => is_built(left) && is_built(right),
-        Tree::IsInstanceOf(_, value, tpe) => has_kind(tpe) && is_built(value),
+        Tree::IsInstanceOf(_, value, tpe) => is_testable(tpe) && is_built(value),
         Tree::AsInstanceOf(_, value, tpe) => can_cast(tpe) && is_built(value),
         Tree::TryCatch(_, _, _, _, _)
         | Tree::TryFinally(_, _, _)

@@ -1,11 +1,11 @@
-// The types whose values are of one kind.
+// The types that tests ask for.
 ghost use Rattle.std.specs.Prelude.{◌≡◌};
 ghost use Rattle.built_forms.specs.Built as built;
 
 use sj_trees::IrType;
 
-/// Whether the values of a type are of one kind: each primitive type but that of null.
-pub fn has_kind(tpe: &IrType) -> bool
+// Whether the values of a type are of one kind: each primitive type but that of null.
+fn has_kind(tpe: &IrType) -> bool
     ensures { result ≡ built.has_kind tpe.now }
 {
     matches!(
@@ -21,9 +21,16 @@ pub fn has_kind(tpe: &IrType) -> bool
     )
 }
 
-/// Whether a cast to a type is built: one to any, which calls nothing, or to a type whose values are of one kind.
+/// Whether a test for a type is built: a type whose values are of one kind, or a class.
+pub fn is_testable(tpe: &IrType) -> bool
+    ensures { result ≡ built.is_testable tpe.now }
+{
+    matches!(tpe, IrType::Class(_)) || has_kind(tpe)
+}
+
+/// Whether a cast to a type is built: one to any, which calls nothing, or to a type for which a test is built.
 pub fn can_cast(tpe: &IrType) -> bool
     ensures { result ≡ built.can_cast built.any_object tpe.now }
 {
-    matches!(tpe, IrType::Any) || has_kind(tpe)
+    matches!(tpe, IrType::Any) || is_testable(tpe)
 }

@@ -37,9 +37,10 @@ use Rattle.sj_world.specs.declared.facts.Fact.{Fact}
 use Rattle.sj_world.specs.declared.facts.Fact.TheVariants.{Body, Made}
 use Rattle.sj_world.specs.declared.linked.MethodEntry.{MethodEntry}
 use Rattle.worklist.proofs.Inserted.{nothing_in, only_one}
-use Rattle.closed_pieces.proofs.Declared.{Declares, test_among}
-use Rattle.closed_pieces.proofs.Forms.{body_tells}
-use Rattle.closed_pieces.proofs.Places.{in_one, from_once}
+use Rattle.closed_pieces.proofs.Declared.{Declares}
+use Rattle.declared_pieces.proofs.Parts.{test_among}
+use Rattle.declared_pieces.proofs.Forms.{body_tells, in_one}
+use Rattle.closed_pieces.proofs.Places.{from_once}
 
 module _ (entries : List EntryPoint) (l : Linked) (having : List Helper) (ps : List Piece) (d : Declares entries l having ps) (holds : (f : Fact) → Contains l.facts f → Reachable l.world entries f) (methods : AreEntries l.world l.facts l.entries) where
   abbrev Is : Binding → Type 0

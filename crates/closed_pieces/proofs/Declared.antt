@@ -56,21 +56,6 @@ pub record Declares (entries : List EntryPoint) (l : Linked) (having : List Help
   pub casts : (c : Name) → HasForm l.world l.facts (forms.Cast c) → Reachable l.world entries (Needed c) → IsDeclared ps (bound c (class_binding AsInstance c))
   pub helpers : (h : Helper) → Contains having h → IsDeclared ps (helper (helper_name h))
 
--- the test of a class, and the cast to it, among its pieces
-abbrev before_tests : Parts → List Piece
-before_tests p = constants_of p ++ class_of p ++ all_statics p.class.name p.statics ++ module_of p
-
-pub test_among : (p : Parts) → (p.is_tested || p.is_cast) ≡ true → Contains (pieces p) (test_piece p.class.name p.instances (kind_of_class p.class.name all_kinds))
-test_among p h =
-    let test : Piece = test_piece p.class.name p.instances (kind_of_class p.class.name all_kinds) in
-    Contains-append_right (before_tests p) (tests_of p) test (Contains-append_left (when (p.is_tested || p.is_cast) (test ∷ [])) (when p.is_cast (cast_piece p.class.name ∷ [])) test (subst (λ (t : Bool). Contains (when t (test ∷ [])) test) (sym h) (at_first test [])))
-
-cast_among : (p : Parts) → p.is_cast ≡ true → Contains (pieces p) (cast_piece p.class.name)
-cast_among p h =
-    let test : Piece = test_piece p.class.name p.instances (kind_of_class p.class.name all_kinds) in
-    let casts : Piece = cast_piece p.class.name in
-    Contains-append_right (before_tests p) (tests_of p) casts (Contains-append_right (when (p.is_tested || p.is_cast) (test ∷ [])) (when p.is_cast (casts ∷ [])) casts (subst (λ (t : Bool). Contains (when t (casts ∷ [])) casts) (sym h) (at_first casts [])))
-
 some_class : (a b : ClassDef) → ◌≡◌ {A = Option ClassDef} (Some a) (Some b) → a ≡ b
 some_class a b e = cc
 

@@ -1,12 +1,12 @@
 pub mod Places
 pub mod Declared
 pub mod Functions
-pub mod Forms
 pub mod Classes
 pub mod Helpers
 pub mod Uses
 pub use Rattle.declared_pieces.proofs.EachTyped
 pub use Rattle.declared_pieces.proofs.Fields
+pub use Rattle.declared_pieces.proofs.Forms
 pub use Rattle.declared_pieces.proofs.Order
 pub use Rattle.declared_pieces.proofs.Parts
 pub use Rattle.declared_pieces.proofs.Worlds

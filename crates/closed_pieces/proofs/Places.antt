@@ -18,23 +18,8 @@ use Rattle.sj_emit_expr.specs.Uses.{once_each}
 use Rattle.sj_names.specs.WellKnown.{is_object}
 use Rattle.sj_split.proofs.Members.{at_first, further, cons_cases, from_map}
 use Rattle.sj_world.specs.Linked.{Linked}
+use Rattle.declared_pieces.proofs.Forms.{in_one}
 use Rattle.worklist.proofs.Inserted.{nothing_in}
-
--- what a list that is made of lists has is in one of them
-pub record InOne {X Y : Type 0} (f : X → List Y) (xs : List X) (y : Y) : Type 0 where
-  pub item : X
-  pub among : Contains xs item
-  pub within : Contains (f item) y
-
-pub in_one : {X Y : Type 0} (f : X → List Y) (xs : List X) (y : Y) → Contains (flat_map f xs) y → InOne f xs y
-in_one f [] y h = nothing_in y h
-in_one f (x ∷ xs) y h = elim (Contains-append_cases (f x) (flat_map f xs) y h) [
-  | inl i ↦ record { item = x; among = at_first x xs; within = i }
-  | inr i ↦ later (in_one f xs y i)
-]
-  where
-    later : InOne f xs y → InOne f (x ∷ xs) y
-    later o = record { item = o.item; among = further x o.item xs o.among; within = o.within }
 
 -- what stands once each stood there before
 pub from_once : (bs : List Binding) (b : Binding) → Contains (once_each [] bs) b → Contains bs b

@@ -1,3 +1,4 @@
+pub mod Kinds
 pub mod Whole
 pub use Rattle.module_uses.proofs.Among
 pub use Rattle.module_uses.proofs.InFiles

@@ -1,14 +1,14 @@
 -- The files of a plan declare all that their code can use.
-use Rattle.std.proofs.Common.{◌≡◌, ◌&&◌, inl, inr, Bool, true, false, List, [], ◌∷◌, Some, None, codes, map, refl, sym, ap, subst, ◌∙◌}
+use Rattle.std.proofs.Common.{◌≡◌, ◌&&◌, ◌||◌, inl, inr, Bool, true, false, List, [], ◌∷◌, Option, Some, None, codes, map, refl, sym, ap, subst, ◌∙◌}
 use Rattle.std.specs.Prelude.{◌↔◌}
 use Rattle.std.specs.List.{Contains, list_all}
-use Rattle.std.proofs.lemmas.Bool.{and_parts, and_from, or_cases, or_left}
+use Rattle.std.proofs.lemmas.Bool.{and_parts, and_from, or_cases, or_left, or_right}
 use Rattle.std.proofs.lemmas.List.Elements.{Contains-append_left, Contains-append_right}
 use Rattle.declared_pieces.proofs.BodyUsesTested.{kind_uses, cast_kind_uses}
 use Rattle.declared_pieces.proofs.Written.{divisors_fit}
 use Rattle.class_code.proofs.Markers.{marked}
 use Rattle.declared_files.proofs.Kinds.{helpers_of}
-use Rattle.declared_files.specs.Declared.{Spread, all_items, Leads, FunctionDeclared, ClassDeclared, ChainDeclared, extends_none, extends_one, MadeDeclared, StaticDeclared, TestDeclared, CastDeclared, Uses as UsesTop}
+use Rattle.declared_files.specs.Declared.{Spread, all_items, Leads, FunctionDeclared, ClassDeclared, ChainDeclared, extends_none, extends_one, MadeDeclared, StaticDeclared, KindTestDeclared, ClassTestDeclared, by_marker, by_kind, TestDeclared, of_kind, of_class, KindCastDeclared, ClassCastDeclared, CastDeclared, to_kind, to_class, Uses as UsesTop}
 use Rattle.declared_files.specs.Placed.{placed}
 use Rattle.declared_pieces.proofs.Blocks.{method_there}
 use Rattle.declared_pieces.proofs.Chains.{Stands, whole_chain}
@@ -16,7 +16,7 @@ use Rattle.declared_pieces.proofs.Fields.{field_there, fields_kept}
 use Rattle.declared_pieces.proofs.Live.{classes_kept}
 use Rattle.declared_pieces.proofs.Members.{same-class, defined}
 use Rattle.declared_pieces.proofs.Parts.{uses_superclass, uses_constants}
-use Rattle.declared_pieces.proofs.Whole.{static_alone, received_runs, constructor_is, no_value, own_fields, whole_fields, method_of, Good, free, own, its, is_named, constants_here, class_of_its, class_here, super_good, made_good, Needed, needed_static, variable_there, setter_there, IsWritten, helper_written, helper_had, helper_listed}
+use Rattle.declared_pieces.proofs.Whole.{static_alone, received_runs, constructor_is, no_value, own_fields, whole_fields, method_of, Good, free, own, its, is_named, constants_here, class_of_its, class_here, super_good, made_good, Needed, needed_static, variable_there, setter_there, class_test_there, class_cast_there, IsWritten, helper_written, helper_had, helper_listed}
 use Rattle.declared_pieces.specs.Accepted.{IsAccepted}
 use Rattle.declared_pieces.specs.Bodies.{AreBodies}
 use Rattle.declared_pieces.specs.Built.{Usable, has_static, is_static, has_kind, has_no_value, divides}
@@ -24,18 +24,20 @@ use Rattle.declared_pieces.specs.Closed.{IsClosed}
 use Rattle.declared_pieces.specs.FileDeclarations.{Running, alone, on_receiver, completing, running, is_covered}
 use Rattle.declared_pieces.specs.Emitted.{EmittedMethod}
 use Rattle.declared_pieces.specs.Entries.{IsLive}
+use Rattle.declared_pieces.specs.Laws.{TestThere}
 use Rattle.declared_pieces.specs.Linked.{has_function}
-use Rattle.object_folders.specs.PieceRulesPieces.{Parts, constants_piece, entry_member, variable_piece, setter_piece}
+use Rattle.object_folders.specs.PieceRulesPieces.{Parts, constants_piece, entry_member, variable_piece, setter_piece, test_piece, test_binding, test_uses as kind_tests, kind_of_class, cast_piece}
 use Rattle.declared_pieces.specs.Pieces.{piece_of_member, AreLinkedPieces}
 use Rattle.declared_pieces.specs.Running.{CanRun}
-use Rattle.declared_pieces.specs.Used.{used_of, is_among, is_received, is_constructor, is_constructor_without_value, uses_static, uses_helper as written_helper}
+use Rattle.declared_pieces.specs.Used.{used_of, is_among, is_received, is_constructor, is_constructor_without_value, uses_static, uses_helper as written_helper, uses_test, uses_cast, is_tested, is_cast}
 use Rattle.file_listings.specs.Listed.{AreBytes}
 use Rattle.helper_rules.specs.Helpers.{helper_name, helper_item, helper_piece, used_helpers, used_of_classes, failure_class, of}
-use Rattle.helper_rules.specs.Words.{object_class}
+use Rattle.helper_rules.specs.Words.{object_class, all_kinds, helper as helper_binding}
 use Rattle.helper_rules.specs.declared.kinds.Failure.{Failure}
 use Rattle.helper_rules.specs.declared.kinds.Failure.TheVariants.{NullReceiver, Division, Cast}
 use Rattle.helper_rules.specs.declared.kinds.Helper.{Helper}
 use Rattle.helper_rules.specs.declared.kinds.Helper.TheVariants as helpers
+use Rattle.helper_rules.specs.declared.kinds.Kind.{Kind}
 use Rattle.ir_mean.specs.Meaning.{with_message}
 use Rattle.js_tree.specs.Terms.{Name, Item, Piece}
 use Rattle.js_tree.specs.declared.items.Binding.{Binding}
@@ -48,7 +50,7 @@ use Rattle.module_uses.proofs.InFiles.{used_there}
 use Rattle.module_uses.specs.Used.{restricted, uses_in}
 use Rattle.object_folders.proofs.Chains.{byte_not}
 use Rattle.object_folders.proofs.Methods.{right_method}
-use Rattle.object_folders.proofs.Throwing.{exceptions, division, cast_to_kind}
+use Rattle.object_folders.proofs.Throwing.{exceptions, division, cast_throws}
 use Rattle.accepted_folders.specs.BodySoundnessRules.{RightMember}
 use Rattle.sj_desugar.specs.Desugar.{member}
 use Rattle.sj_emit_expr.specs.Templates.{check_name, static_name}
@@ -70,43 +72,52 @@ use Rattle.sj_trees.specs.declared.types.IrType.TheVariants.{NoType, Class}
 use Rattle.sj_world.proofs.OnCycles.{among}
 use Rattle.sj_world.specs.Known.{Classes, class_of}
 use Rattle.sj_world.specs.Linked.{Linked}
+use Rattle.declared_modules.proofs.Kinds.{kind_is, not_hijacked}
 use Rattle.declared_modules.specs.Laws.{ModulesDeclare}
-use Rattle.declared_modules.specs.Spread.{owner_of, file_or_none, spread_of, AllStand}
+use Rattle.declared_modules.specs.Spread.{owner_of, file_or_none, spread_of, AllStand, DeclaresConstants}
 
 -- the binding at a top, with the class that owns it
 abbrev binding_of : Top → Binding
 binding_of t = record { owner = owner_of t; name = top_name t }
 
--- the tests of primitive types are helpers
+-- the helpers of primitive types are owned by `java.lang.Object`
 kind_owned : (t : IrType) → has_kind t ≡ true → owner_of (a_test t) ≡ object_class
 kind_owned (Class c) h = impossible h
 kind_owned _ h = refl
 
-kind_used : (uses : Binding → Bool) (t : IrType) → has_kind t ≡ true → list_all uses (test_uses t) ≡ true → uses (object_binding (test_name t)) ≡ true
-kind_used uses t k h = (and_parts (uses (object_binding (test_name t))) true (subst (λ (bs : List Binding). list_all uses bs ≡ true) (kind_uses t k) h)).0
-
--- and the casts to them
 cast_owned : (t : IrType) → has_kind t ≡ true → owner_of (a_cast t) ≡ object_class
 cast_owned (Class c) h = impossible h
 cast_owned _ h = refl
 
+kind_used : (uses : Binding → Bool) (t : IrType) → has_kind t ≡ true → list_all uses (test_uses t) ≡ true → uses (object_binding (test_name t)) ≡ true
+kind_used uses t k h = (and_parts (uses (object_binding (test_name t))) true (subst (λ (bs : List Binding). list_all uses bs ≡ true) (kind_uses t k) h)).0
+
 cast_kind_used : (uses : Binding → Bool) (t : IrType) → has_kind t ≡ true → list_all uses (cast_uses t) ≡ true → uses (object_binding (cast_name t)) ≡ true
 cast_kind_used uses t k h = (and_parts (uses (object_binding (cast_name t))) true (subst (λ (bs : List Binding). list_all uses bs ≡ true) (cast_kind_uses t k) h)).0
 
--- what the code of a file names it uses, where it can use no test but those of primitive types, and no cast but those to them
-named_used : (has : Usable) → ((t : IrType) → has.tests t ≡ true → has_kind t ≡ true) → ((t : IrType) → has.casts t ≡ true → has_kind t ≡ true) → (uses : Binding → Bool) (t : Top) → is_named_top (restricted has uses) t ≡ true → uses (binding_of t) ≡ true
-named_used has kinds casts uses (a_function m) h = (and_parts (has.linked m) (uses (function_binding m)) h).1
-named_used has kinds casts uses (a_method m) h = (and_parts (has.received m) (uses (function_binding m)) h).1
-named_used has kinds casts uses (a_constructor m) h = (and_parts (has.built m) (uses (function_binding m)) h).1
-named_used has kinds casts uses (a_class c) h = (and_parts (has.made c) (uses (class_use c)) h).1
-named_used has kinds casts uses (some_constants c) h = impossible h
-named_used has kinds casts uses (a_static c f t) h = (and_parts (has.static_field c f t) (uses (static_use c f)) h).1
-named_used has kinds casts uses (a_setter c f t) h = (and_parts (has.static_setter c f t) (uses (setter_use c f)) h).1
-named_used has kinds casts uses (a_test k) h = let q = and_parts (has.tests k) (list_all uses (test_uses k)) h in let is_kind = kinds k q.0 in subst (λ (c : Name). uses (record { owner = c; name = test_name k }) ≡ true) (sym (kind_owned k is_kind)) (kind_used uses k is_kind q.1)
-named_used has kinds casts uses (a_cast k) h = let q = and_parts (has.casts k) (list_all uses (cast_uses k)) h in let is_kind = casts k q.0 in subst (λ (c : Name). uses (record { owner = c; name = cast_name k }) ≡ true) (sym (cast_owned k is_kind)) (cast_kind_used uses k is_kind q.1)
-named_used has kinds casts uses (a_helper x) h = (and_parts (has.helper (helper_name x)) (uses (object_binding (helper_name x))) h).1
+-- a test and a cast that can be used have a function, and use its binding
+test_used : (all : List EmittedMethod) (hs : List Helper) (written : List Name) (uses : Binding → Bool) (t : IrType) → uses_test all hs written t ≡ true → list_all uses (test_uses t) ≡ true → uses (binding_of (a_test t)) ≡ true
+test_used all hs written uses (Class c) h u = (and_parts (uses (binding_of (a_test (Class c)))) true u).0
+test_used all hs written uses t h u = let k = (and_parts (has_kind t) (written_helper hs written (test_name t)) h).0 in subst (λ (c : Name). uses (record { owner = c; name = test_name t }) ≡ true) (sym (kind_owned t k)) (kind_used uses t k u)
 
-module _ (entries : List EntryPoint) (files : List SourceFile) (l : Linked) (all : List EmittedMethod) (live written : List Name) (modules : List PlannedModule) (ps : List Piece) (front : List Name) (last : Name) (declared : List Item) (bytes : (file : SourceFile) → Contains files file → AreBytes file.bytes) (a : IsAccepted entries files l.world) (bodies : AreBodies l.world entries all) (p : AreLinkedPieces l all ps) (are_live : (c : Name) → Contains live c ↔ IsLive l.world l.facts c) (run : CanRun l.world entries l.facts all live p.helpers written) (owned : IsClosed ps written) (covered : (h : Helper) → Contains p.helpers h → is_covered h ≡ true) (together : StandTogether modules ps) (whole : AreWhole modules ps) (stand : AllStand modules ps written (spread_of modules ps l.world (used_of l.world l.facts all live p.helpers written) front last declared)) where
+cast_used : (all : List EmittedMethod) (hs : List Helper) (written : List Name) (uses : Binding → Bool) (t : IrType) → uses_cast all hs written t ≡ true → list_all uses (cast_uses t) ≡ true → uses (binding_of (a_cast t)) ≡ true
+cast_used all hs written uses (Class c) h u = (and_parts (uses (binding_of (a_cast (Class c)))) true u).0
+cast_used all hs written uses t h u = let k = (and_parts (has_kind t) (written_helper hs written (cast_name t)) h).0 in subst (λ (c : Name). uses (record { owner = c; name = cast_name t }) ≡ true) (sym (cast_owned t k)) (cast_kind_used uses t k u)
+
+-- what the code of a file names it uses, where the bindings of tests and casts that can be used are used with these
+named_used : (has : Usable) (uses : Binding → Bool) → ((t : IrType) → has.tests t ≡ true → list_all uses (test_uses t) ≡ true → uses (binding_of (a_test t)) ≡ true) → ((t : IrType) → has.casts t ≡ true → list_all uses (cast_uses t) ≡ true → uses (binding_of (a_cast t)) ≡ true) → (t : Top) → is_named_top (restricted has uses) t ≡ true → uses (binding_of t) ≡ true
+named_used has uses tests casts (a_function m) h = (and_parts (has.linked m) (uses (function_binding m)) h).1
+named_used has uses tests casts (a_method m) h = (and_parts (has.received m) (uses (function_binding m)) h).1
+named_used has uses tests casts (a_constructor m) h = (and_parts (has.built m) (uses (function_binding m)) h).1
+named_used has uses tests casts (a_class c) h = (and_parts (has.made c) (uses (class_use c)) h).1
+named_used has uses tests casts (some_constants c) h = impossible h
+named_used has uses tests casts (a_static c f t) h = (and_parts (has.static_field c f t) (uses (static_use c f)) h).1
+named_used has uses tests casts (a_setter c f t) h = (and_parts (has.static_setter c f t) (uses (setter_use c f)) h).1
+named_used has uses tests casts (a_test k) h = let q = and_parts (has.tests k) (list_all uses (test_uses k)) h in tests k q.0 q.1
+named_used has uses tests casts (a_cast k) h = let q = and_parts (has.casts k) (list_all uses (cast_uses k)) h in casts k q.0 q.1
+named_used has uses tests casts (a_helper x) h = (and_parts (has.helper (helper_name x)) (uses (object_binding (helper_name x))) h).1
+
+module _ (entries : List EntryPoint) (files : List SourceFile) (l : Linked) (all : List EmittedMethod) (live written : List Name) (modules : List PlannedModule) (ps : List Piece) (front : List Name) (last : Name) (declared : List Item) (bytes : (file : SourceFile) → Contains files file → AreBytes file.bytes) (a : IsAccepted entries files l.world) (bodies : AreBodies l.world entries all) (p : AreLinkedPieces l all ps) (are_live : (c : Name) → Contains live c ↔ IsLive l.world l.facts c) (run : CanRun l.world entries l.facts all live p.helpers written) (owned : IsClosed ps written) (covered : (h : Helper) → Contains p.helpers h → is_covered h ≡ true) (together : StandTogether modules ps) (whole : AreWhole modules ps) (stand : AllStand modules ps written (spread_of modules ps l.world (used_of l.world l.facts all live p.helpers written) front last declared)) (marks : DeclaresConstants (spread_of modules ps l.world (used_of l.world l.facts all live p.helpers written) front last declared)) where
   abbrev w : Classes
   w = l.world
 
@@ -301,12 +312,46 @@ module _ (entries : List EntryPoint) (files : List SourceFile) (l : Linked) (all
   helper_used f h e = let q = and_parts (there.helper (helper_name h)) (uses_in modules ps f (object_binding (helper_name h))) e in record { is_written = helper_written entries files l all live written ps bytes a bodies p are_live run owned h q.0; in_file = owner_stands f (object_binding (helper_name h)) q.1 }
 
   -- the test of a primitive type, at home with the helpers
+  kind_test_declared : (f : Name) (t : IrType) → has_kind t ≡ true → written_helper p.helpers written (test_name t) ≡ true → list_all (uses_in modules ps f) (test_uses t) ≡ true → KindTestDeclared z f t
+  kind_test_declared f t k h u = let d = helpers_of t k in record {
+    kind = d.kind;
+    its_kind = d.its_kind;
+    helper = subst (λ (x : Name). (z.has f).helper x ≡ true) d.test (and_from (there.helper (test_name t)) (uses_in modules ps f (object_binding (test_name t))) h (kind_used (uses_in modules ps f) t k u));
+    home = ap home_of (kind_owned t k);
+  }
+
+  -- the test of a class, which its file declares
+  module _ (c : Name) (t : TestThere l written ps p.helpers c) (s : StandsThere c) where
+    abbrev piece_by : Option Kind → Piece
+    piece_by o = test_piece c t.parts.instances o
+
+    module _ (o : Option Kind) (e : kind_of_class c all_kinds ≡ o) where
+      listed_by : Contains ps (piece_by o)
+      listed_by = subst (λ (k : Option Kind). Contains ps (piece_by k)) e t.test
+
+      item_by : Contains (all_items z) (placed (home_of c) (piece_by o).item)
+      item_by = stands_at_home (piece_by o) s listed_by t.here
+
+      kind_by : (k : Kind) → Contains (kind_tests t.parts.instances o) (helper_binding (helper_name (helpers.TestOf k))) → UsesTop z (a_test (Class c)) (a_helper (helpers.TestOf k))
+      kind_by k u = and_from (there.helper (helper_name (helpers.TestOf k))) (uses_in modules ps (home_of c) (object_binding (helper_name (helpers.TestOf k))))
+          (helper_had entries files l all live written ps bytes a bodies p are_live run owned (helpers.TestOf k) (record { among_helpers = t.kinds k (subst (λ (x : Option Kind). Contains (kind_tests t.parts.instances x) (helper_binding (helper_name (helpers.TestOf k)))) (sym e) u); with_object = owned (piece_by o) listed_by t.here (helper_binding (helper_name (helpers.TestOf k))) u }))
+          (used_at_home (piece_by o) s listed_by (helper_binding (helper_name (helpers.TestOf k))) u)
+
+    class_test_declared : ClassTestDeclared z c
+    class_test_declared = go (kind_of_class c all_kinds) refl
+      where
+        go : (o : Option Kind) → kind_of_class c all_kinds ≡ o → ClassTestDeclared z c
+        go None e = by_marker c t.parts.instances (not_hijacked c e) t.are.instances (item_by None e) (λ k i. kind_by None e k (into_map test_binding t.parts.instances k i))
+        go (Some k) e =
+            let same = kind_is c all_kinds k e in
+            subst (ClassTestDeclared z) (sym same) (by_kind k t.parts.instances (subst (λ (n : Name). Contains (all_items z) (placed (home_of n) (test_piece n t.parts.instances (Some k)).item)) same (item_by (Some k) e)) (subst (λ (n : Name). UsesTop z (a_test (Class n)) (a_helper (helpers.TestOf k))) same (kind_by (Some k) e k (at_first (helper_binding (helper_name (helpers.TestOf k))) []))))
+
   test_declared : (f : Name) (t : IrType) → (z.has f).tests t ≡ true → TestDeclared z f t
+  test_declared f (Class c) h = let q = and_parts (there.tests (Class c)) (list_all (uses_in modules ps f) (test_uses (Class c))) h in let b = binding_of (a_test (Class c)) in of_class c (class_test_declared c (class_test_there entries files l all live written ps bytes a bodies p are_live run owned c q.0) (owner_stands f b (and_parts (uses_in modules ps f b) true q.1).0))
   test_declared f t h =
       let q = and_parts (there.tests t) (list_all (uses_in modules ps f) (test_uses t)) h in
       let k = and_parts (has_kind t) (written_helper p.helpers written (test_name t)) q.0 in
-      let d = helpers_of t k.0 in
-      record { kind = d.kind; its_kind = d.its_kind; helper = subst (λ (x : Name). (z.has f).helper x ≡ true) d.test (and_from (there.helper (test_name t)) (uses_in modules ps f (object_binding (test_name t))) k.1 (kind_used (uses_in modules ps f) t k.0 q.1)); home = ap home_of (kind_owned t k.0) }
+      of_kind t (kind_test_declared f t k.0 k.1 q.1)
 
   module _ (h : Helper) (u : HelperUsed h) where
     listed : Contains ps (helper_piece p.above h)
@@ -351,33 +396,57 @@ module _ (entries : List EntryPoint) (files : List SourceFile) (l : Linked) (all
   division_thrown f o e = impossible e
 
   -- the cast to a primitive type, at home with the helpers, and what it throws
+  kind_cast_declared : (f : Name) (t : IrType) → has_kind t ≡ true → there.casts t ≡ true → written_helper p.helpers written (cast_name t) ≡ true → list_all (uses_in modules ps f) (cast_uses t) ≡ true → KindCastDeclared z f t
+  kind_cast_declared f t k can h u =
+      let d = helpers_of t k in
+      let its_helper = subst (λ (x : Name). (z.has f).helper x ≡ true) d.cast (and_from (there.helper (cast_name t)) (uses_in modules ps f (object_binding (cast_name t))) h (cast_kind_used (uses_in modules ps f) t k u)) in
+      let thrown = thrown_by Cast (helpers.CastTo d.kind) (further (helpers.TestOf d.kind) (helpers.Throws Cast) (helpers.Throws Cast ∷ []) (at_first (helpers.Throws Cast) [])) (λ e. cast_throws w entries l.facts all live p.helpers written run t can) f its_helper in
+      record { kind = d.kind; its_kind = d.its_kind; helper = its_helper; home = ap home_of (cast_owned t k); throws = record { made = thrown.0; built = thrown.1 } }
+
+  -- the cast to a class, with its test
+  class_cast_declared : (c : Name) → there.casts (Class c) ≡ true → StandsThere c → ClassCastDeclared z c
+  class_cast_declared c can s =
+      let k = class_cast_there entries files l all live written ps bytes a bodies p are_live run owned c can in
+      let its_test = binding_of (a_test (Class c)) in
+      let its_thrower = helper_binding (helper_name (helpers.Throws Cast)) in
+      let parts = and_parts (is_among written c) (is_cast all c) can in
+      let thrower_written : IsWritten entries files l all live written ps bytes a bodies p are_live run owned (helpers.Throws Cast) = let both = run.casts c k.tests.here parts.1 in record { among_helpers = both.1; with_object = both.0 } in
+      let used_thrower = used_at_home (cast_piece c) s k.cast its_thrower (further its_test its_thrower (its_thrower ∷ []) (at_first its_thrower [])) in
+      let can_throw = throwing Cast (record { is_written = thrower_written; in_file = owner_stands (home_of c) its_thrower used_thrower }) (cast_throws w entries l.facts all live p.helpers written run (Class c) can) in
+      record {
+        cast = stands_at_home (cast_piece c) s k.cast k.tests.here;
+        test = class_test_declared c k.tests s;
+        tests = and_from (there.tests (Class c)) (list_all (uses_in modules ps (home_of c)) (test_uses (Class c))) (and_from (is_among written c) (is_tested all c || is_cast all c) parts.0 (or_right (is_tested all c) (is_cast all c) parts.1)) (and_from (uses_in modules ps (home_of c) its_test) true (used_at_home (cast_piece c) s k.cast its_test (at_first its_test (its_thrower ∷ []))) refl);
+        thrower = and_from (there.helper (helper_name (helpers.Throws Cast))) (uses_in modules ps (home_of c) its_thrower) (helper_had entries files l all live written ps bytes a bodies p are_live run owned (helpers.Throws Cast) thrower_written) used_thrower;
+        throws = record { made = can_throw.0; built = can_throw.1 };
+      }
+
   cast_declared : (f : Name) (t : IrType) → (z.has f).casts t ≡ true → CastDeclared z f t
+  cast_declared f (Class c) h = let q = and_parts (there.casts (Class c)) (list_all (uses_in modules ps f) (cast_uses (Class c))) h in let b = binding_of (a_cast (Class c)) in to_class c (class_cast_declared c q.0 (owner_stands f b (and_parts (uses_in modules ps f b) true q.1).0))
   cast_declared f t h =
       let q = and_parts (there.casts t) (list_all (uses_in modules ps f) (cast_uses t)) h in
       let k = and_parts (has_kind t) (written_helper p.helpers written (cast_name t)) q.0 in
-      let d = helpers_of t k.0 in
-      let its_helper = subst (λ (x : Name). (z.has f).helper x ≡ true) d.cast (and_from (there.helper (cast_name t)) (uses_in modules ps f (object_binding (cast_name t))) k.1 (cast_kind_used (uses_in modules ps f) t k.0 q.1)) in
-      let thrown = thrown_by Cast (helpers.CastTo d.kind) (further (helpers.TestOf d.kind) (helpers.Throws Cast) (helpers.Throws Cast ∷ []) (at_first (helpers.Throws Cast) [])) (λ e. cast_to_kind w entries l.facts all live p.helpers written run t k.0 k.1) f its_helper in
-      record { kind = d.kind; its_kind = d.its_kind; helper = its_helper; home = ap home_of (cast_owned t k.0); made = thrown.0; built = thrown.1 }
+      to_kind t (kind_cast_declared f t k.0 q.0 k.1 q.1)
 
 pub modules_declare : ModulesDeclare
-modules_declare entries files l all live written modules ps front last declared bytes a bodies p are_live run owned covered together whole stand = record {
-  leads = λ f t h. leads_to entries files l all live written modules ps front last declared bytes a bodies p are_live run owned covered together whole stand f t (named_used (used_of l.world l.facts all live p.helpers written) (λ k i. (and_parts (has_kind k) (written_helper p.helpers written (test_name k)) i).0) (λ k i. (and_parts (has_kind k) (written_helper p.helpers written (cast_name k)) i).0) (uses_in modules ps f) t h);
-  linked = linked_declared entries files l all live written modules ps front last declared bytes a bodies p are_live run owned covered together whole stand;
-  received = received_declared entries files l all live written modules ps front last declared bytes a bodies p are_live run owned covered together whole stand;
-  built = built_declared entries files l all live written modules ps front last declared bytes a bodies p are_live run owned covered together whole stand;
-  made = class_made entries files l all live written modules ps front last declared bytes a bodies p are_live run owned covered together whole stand;
+modules_declare entries files l all live written modules ps front last declared bytes a bodies p are_live run owned covered together whole stand marks = record {
+  leads = λ f t h. leads_to entries files l all live written modules ps front last declared bytes a bodies p are_live run owned covered together whole stand marks f t (named_used (used_of l.world l.facts all live p.helpers written) (uses_in modules ps f) (test_used all p.helpers written (uses_in modules ps f)) (cast_used all p.helpers written (uses_in modules ps f)) t h);
+  linked = linked_declared entries files l all live written modules ps front last declared bytes a bodies p are_live run owned covered together whole stand marks;
+  received = received_declared entries files l all live written modules ps front last declared bytes a bodies p are_live run owned covered together whole stand marks;
+  built = built_declared entries files l all live written modules ps front last declared bytes a bodies p are_live run owned covered together whole stand marks;
+  made = class_made entries files l all live written modules ps front last declared bytes a bodies p are_live run owned covered together whole stand marks;
   field = λ f. field_there l.world;
-  static_field = static_declared entries files l all live written modules ps front last declared bytes a bodies p are_live run owned covered together whole stand;
-  tests = test_declared entries files l all live written modules ps front last declared bytes a bodies p are_live run owned covered together whole stand;
-  casts = cast_declared entries files l all live written modules ps front last declared bytes a bodies p are_live run owned covered together whole stand;
+  static_field = static_declared entries files l all live written modules ps front last declared bytes a bodies p are_live run owned covered together whole stand marks;
+  tests = test_declared entries files l all live written modules ps front last declared bytes a bodies p are_live run owned covered together whole stand marks;
+  casts = cast_declared entries files l all live written modules ps front last declared bytes a bodies p are_live run owned covered together whole stand marks;
+  marked = marks;
   kept = fields_kept entries files l.world bytes a;
   ancestors = p.above;
-  helper = λ f h e. let u = its_helper f h e in (covered h u.is_written.among_helpers, helper_stands entries files l all live written modules ps front last declared bytes a bodies p are_live run owned covered together whole stand h u);
-  helpers = λ f h k e i. uses_helper entries files l all live written modules ps front last declared bytes a bodies p are_live run owned covered together whole stand h (its_helper f h e) k i;
-  exceptions = null_thrown entries files l all live written modules ps front last declared bytes a bodies p are_live run owned covered together whole stand;
-  divisions = division_thrown entries files l all live written modules ps front last declared bytes a bodies p are_live run owned covered together whole stand;
+  helper = λ f h e. let u = its_helper f h e in (covered h u.is_written.among_helpers, helper_stands entries files l all live written modules ps front last declared bytes a bodies p are_live run owned covered together whole stand marks h u);
+  helpers = λ f h k e i. uses_helper entries files l all live written modules ps front last declared bytes a bodies p are_live run owned covered together whole stand marks h (its_helper f h e) k i;
+  exceptions = null_thrown entries files l all live written modules ps front last declared bytes a bodies p are_live run owned covered together whole stand marks;
+  divisions = division_thrown entries files l all live written modules ps front last declared bytes a bodies p are_live run owned covered together whole stand marks;
 }
   where
-    its_helper : (f : Name) (h : Helper) → (restricted (used_of l.world l.facts all live p.helpers written) (uses_in modules ps f)).helper (helper_name h) ≡ true → HelperUsed entries files l all live written modules ps front last declared bytes a bodies p are_live run owned covered together whole stand h
-    its_helper f h e = helper_used entries files l all live written modules ps front last declared bytes a bodies p are_live run owned covered together whole stand f h e
+    its_helper : (f : Name) (h : Helper) → (restricted (used_of l.world l.facts all live p.helpers written) (uses_in modules ps f)).helper (helper_name h) ≡ true → HelperUsed entries files l all live written modules ps front last declared bytes a bodies p are_live run owned covered together whole stand marks h
+    its_helper f h e = helper_used entries files l all live written modules ps front last declared bytes a bodies p are_live run owned covered together whole stand marks f h e

@@ -19,9 +19,9 @@ use Rattle.sj_names.specs.declared.entry_points.EntryPoint.{EntryPoint}
 use Rattle.sj_names.specs.declared.folders.SourceFile.{SourceFile}
 use Rattle.sj_split.specs.declared.plans.PlannedModule.{PlannedModule}
 use Rattle.sj_world.specs.Linked.{Linked}
-use Rattle.declared_modules.specs.Spread.{spread_of, AllStand}
+use Rattle.declared_modules.specs.Spread.{spread_of, AllStand, DeclaresConstants}
 
--- Take the pieces of an accepted folder, in files that have what they use. Where what is written can run, uses nothing but what is written, and stands among the items that run, the
+-- Take the pieces of an accepted folder, in files that have what they use. Where what is written can run, uses nothing but what is written, and stands among the items that run, and where these declare no objects but constants of classes, the
 -- files declare all that their code can use.
 abbrev pub ModulesDeclare : Type 0
 ModulesDeclare = (entries : List EntryPoint) (files : List SourceFile) (l : Linked) (all : List EmittedMethod) (live written : List Name) (modules : List PlannedModule) (ps : List Piece) (front : List Name) (last : Name) (declared : List Item)
@@ -36,4 +36,5 @@ ModulesDeclare = (entries : List EntryPoint) (files : List SourceFile) (l : Link
     → StandTogether modules ps
     → AreWhole modules ps
     → AllStand modules ps written (spread_of modules ps l.world (used_of l.world l.facts all live p.helpers written) front last declared)
+    → DeclaresConstants (spread_of modules ps l.world (used_of l.world l.facts all live p.helpers written) front last declared)
     → Declared (spread_of modules ps l.world (used_of l.world l.facts all live p.helpers written) front last declared)

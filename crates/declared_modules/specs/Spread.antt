@@ -1,11 +1,11 @@
 -- The spread of a plan: in which file each binding stands, and what the code of each file can use.
 use Rattle.std.specs.Prelude.{◌≡◌, List, [], Option, Some, None}
 use Rattle.std.specs.List.{Contains}
-use Rattle.declared_files.specs.Declared.{Spread, all_items}
+use Rattle.declared_files.specs.Declared.{Spread, all_items, AreConstants}
 use Rattle.declared_files.specs.Placed.{placed}
 use Rattle.declared_pieces.specs.Built.{Usable}
 use Rattle.helper_rules.specs.Words.{object_class}
-use Rattle.js_tree.specs.Terms.{Name, Item, Piece}
+use Rattle.js_tree.specs.Terms.{Name, Property, Item, object_item, Piece}
 use Rattle.module_files.specs.Files.{program_of}
 use Rattle.module_rules.specs.Modules.{file_with}
 use Rattle.module_uses.specs.Used.{restricted, uses_in}
@@ -53,3 +53,7 @@ spread_of modules ps w all front last declared = record {
 -- the pieces of these classes that stand in files stand there among the items that run
 abbrev pub AllStand : List PlannedModule → List Piece → List Name → Spread → Type 0
 AllStand modules ps written z = (q : Piece) (f : Name) → Contains ps q → Contains written q.owner → file_with modules q.owner ≡ Some f → Contains (all_items z) (placed f q.item)
+
+-- each object that an item declares is the constants of a class
+abbrev pub DeclaresConstants : Spread → Type 0
+DeclaresConstants z = (f x : Name) (qs : List Property) → Contains (all_items z) (placed f (object_item x qs)) → AreConstants z.classes qs

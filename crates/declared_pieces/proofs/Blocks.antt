@@ -1,7 +1,7 @@
 -- Where the pieces of a linked world stand: in the block of their class, and the helpers behind that of `java.lang.Object`.
 use Rattle.std.proofs.Common.{◌≡◌, ◌⊎◌, ◌++◌, Bool, true, false, List, [], ◌∷◌, Option, Some, None, inl, inr, refl, sym, ap, subst, ◌∙◌, map, if◌then◌else◌}
 use Rattle.std.specs.Prelude.{is_some}
-use Rattle.std.specs.List.{Contains}
+use Rattle.std.specs.List.{Contains, flat_map}
 use Rattle.std.proofs.lemmas.List.Elements.{Contains-append_left, Contains-append_right}
 use Rattle.object_folders.proofs.EachTyped.{in_all}
 use Rattle.helper_rules.specs.Helpers.{helper_piece}
@@ -78,12 +78,14 @@ module _ (l : Linked) (all : List EmittedMethod) where
       pub parts : Parts
       pub are : AreParts l c parts
       pub there : (q : Piece) → Contains (pieces parts) q → Contains ps q
+      pub in_blocks : (q : Piece) → Contains (pieces parts) q → Contains (flat_map (pieces_of_block l.world) p.blocks) q
 
     pub own_pieces : (c : Name) (k : ClassDef) → class_of l.world c ≡ Some k → OwnPieces c
     own_pieces c k e =
         let f = block_of c k e in
         let r = parts_of l c f.block.own k e f.is_block.own in
-        record { parts = r.parts; are = r.are; there = λ q i. whole f.block q f.among_blocks (in_block l.world its_helpers f.block q (Contains-append_left f.block.own (map (piece_of_member l.world) f.block.methods) q (subst (λ (qs : List Piece). Contains qs q) (sym r.own) i))) }
+        let in_its : (q : Piece) → Contains (pieces r.parts) q → Contains (pieces_of_block l.world f.block) q = λ q i. Contains-append_left f.block.own (map (piece_of_member l.world) f.block.methods) q (subst (λ (qs : List Piece). Contains qs q) (sym r.own) i) in
+        record { parts = r.parts; are = r.are; there = λ q i. whole f.block q f.among_blocks (in_block l.world its_helpers f.block q (in_its q i)); in_blocks = λ q i. in_all (pieces_of_block l.world) p.blocks f.block q f.among_blocks (in_its q i) }
 
     pub method_there : (e : EmittedMethod) → Contains all e → (k : ClassDef) → class_of l.world e.member.class ≡ Some k → Contains ps (piece_of_member l.world e)
     method_there e i k found =

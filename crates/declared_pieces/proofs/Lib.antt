@@ -2,6 +2,7 @@ pub mod Blocks
 pub mod Chains
 pub mod Covered
 pub mod Fields
+pub mod Forms
 pub mod HelperNames
 pub mod Live
 pub mod Order

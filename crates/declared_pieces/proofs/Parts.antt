@@ -36,6 +36,21 @@ module _ (p : Parts) (live : p.is_live ≡ true) where
   pub class_there : Contains (pieces p) its_class
   class_there = in_front its_class (Contains-append_right (constants_of p) (class_of p) its_class (subst (λ (b : Bool). Contains (when b (its_class ∷ [])) its_class) (sym live) (at_first its_class [])))
 
+-- the test of a class, and the cast to it, among its pieces
+abbrev before_tests : Parts → List Piece
+before_tests p = constants_of p ++ class_of p ++ all_statics p.class.name p.statics ++ module_of p
+
+pub test_among : (p : Parts) → (p.is_tested || p.is_cast) ≡ true → Contains (pieces p) (test_piece p.class.name p.instances (kind_of_class p.class.name all_kinds))
+test_among p h =
+    let test : Piece = test_piece p.class.name p.instances (kind_of_class p.class.name all_kinds) in
+    Contains-append_right (before_tests p) (tests_of p) test (Contains-append_left (when (p.is_tested || p.is_cast) (test ∷ [])) (when p.is_cast (cast_piece p.class.name ∷ [])) test (subst (λ (t : Bool). Contains (when t (test ∷ [])) test) (sym h) (at_first test [])))
+
+pub cast_among : (p : Parts) → p.is_cast ≡ true → Contains (pieces p) (cast_piece p.class.name)
+cast_among p h =
+    let test : Piece = test_piece p.class.name p.instances (kind_of_class p.class.name all_kinds) in
+    let casts : Piece = cast_piece p.class.name in
+    Contains-append_right (before_tests p) (tests_of p) casts (Contains-append_right (when (p.is_tested || p.is_cast) (test ∷ [])) (when p.is_cast (casts ∷ [])) casts (subst (λ (t : Bool). Contains (when t (casts ∷ [])) casts) (sym h) (at_first casts [])))
+
 -- and so are the variables of the static fields that are reached, and the functions that set them
 pub statics_among : (p : Parts) (q : Piece) → Contains (all_statics p.class.name p.statics) q → Contains (pieces p) q
 statics_among p q i =

@@ -1,8 +1,8 @@
 -- What the code of the written classes can use has its pieces.
-use Rattle.std.proofs.Common.{◌≡◌, ◌&&◌, not, Bool, true, false, List, [], ◌∷◌, Option, Some, None, IsTrue, codes, map, refl, sym, ap, subst, ◌∙◌}
+use Rattle.std.proofs.Common.{◌≡◌, ◌&&◌, ◌||◌, not, Bool, true, false, List, [], ◌∷◌, inl, inr, Option, Some, None, IsTrue, codes, map, refl, sym, ap, subst, ◌∙◌}
 use Rattle.std.specs.Prelude.{◌↔◌}
 use Rattle.std.specs.List.{Contains, filter, list_any}
-use Rattle.std.proofs.lemmas.Bool.{and_parts, and_from}
+use Rattle.std.proofs.lemmas.Bool.{and_parts, and_from, or_cases, or_left, or_right}
 use Rattle.std.proofs.lemmas.List.Folds.{Any-from_list_any, list_any_at}
 use Rattle.std.proofs.lemmas.List.Sorted.{Contains-permutation, IsPermutation-sym}
 use Rattle.object_folders.proofs.Members.{same-class, defined}
@@ -18,27 +18,30 @@ use Rattle.declared_pieces.proofs.Chains.{Stands, whole_chain}
 use Rattle.declared_pieces.proofs.Fields.{field_there, static_there, class_named, fields_kept}
 use Rattle.declared_pieces.proofs.HelperNames.{one_helper}
 use Rattle.declared_pieces.proofs.Live.{next_is, live_next, classes_kept, live_free, live_there}
-use Rattle.declared_pieces.proofs.Parts.{constants_there, class_there, statics_among, in_statics, is_reached, uses_superclass}
+use Rattle.declared_pieces.proofs.Parts.{constants_there, class_there, statics_among, in_statics, is_reached, uses_superclass, test_among, cast_among}
+use Rattle.declared_pieces.proofs.Forms.{body_tells}
 use Rattle.declared_pieces.specs.Closed.{IsClosed}
-use Rattle.declared_pieces.specs.Laws.{WhatIsUsedHasPieces}
+use Rattle.declared_pieces.specs.Laws.{TestThere, CastThere, WhatIsUsedHasPieces}
 use Rattle.file_declarations.specs.Declared.{alone, on_receiver, running}
 use Rattle.object_folders.specs.Entries.{IsLive}
 use Rattle.file_listings.specs.Listed.{AreBytes}
 use Rattle.helper_rules.specs.Helpers.{helper_name, helper_item, helper_piece}
-use Rattle.helper_rules.specs.Words.{class_name, bound}
+use Rattle.helper_rules.specs.Words.{class_name, bound, all_kinds, helper}
 use Rattle.helper_rules.specs.declared.kinds.Helper.{Helper}
+use Rattle.helper_rules.specs.declared.kinds.Helper.TheVariants.{TestOf}
 use Rattle.js_tree.specs.Terms.{Item, Piece}
-use Rattle.object_folders.specs.Pieces.{piece_of_member, AreLinkedPieces}
+use Rattle.object_folders.specs.Pieces.{piece_of_member, by_piece, AreLinkedPieces}
 use Rattle.object_folders.proofs.Statics.{static_is}
-use Rattle.object_folders.specs.Used.{used_of, is_among, is_received, is_constructor, is_constructor_without_value, has_static_in, needs_static, uses_helper}
+use Rattle.object_folders.specs.Used.{used_of, is_among, is_received, is_constructor, is_constructor_without_value, has_static_in, needs_static, is_test_for, is_cast_to, is_tested, is_cast}
 use Rattle.object_folders.specs.Settings.{IsStaticField}
 use Rattle.object_folders.proofs.Made as made
 use Rattle.object_folders.proofs.Methods.{right_method}
 use Rattle.object_folders.specs.Running.{CanRun}
-use Rattle.object_folders.specs.Classes.{AreSorted, is_own}
-use Rattle.object_folders.specs.PieceRulesPieces.{Parts, constants_piece, entry_member, class_piece, all_statics, variable_piece, setter_piece}
+use Rattle.object_folders.specs.Classes.{AreSorted, is_own, HasForm}
+use Rattle.object_folders.specs.PieceRulesPieces.{Parts, constants_piece, class_piece, all_statics, variable_piece, setter_piece, test_piece, test_uses, kind_of_class, cast_piece}
 use Rattle.object_folders.proofs.Derivations.{closed}
-use Rattle.object_folders.specs.Rules.{the_object}
+use Rattle.object_folders.specs.Rules.{Reads, the_object, class_named as class_named_by}
+use Rattle.object_folders.specs.Reachable.{Reachable}
 use Rattle.sj_names.proofs.Same.{impossible, text-same, text-refl}
 use Rattle.sj_names.specs.Grammar.{is_class_name}
 use Rattle.sj_names.specs.Same.{is_same_text}
@@ -65,7 +68,11 @@ use Rattle.sj_world.specs.Known.{Name, Classes, class_of, is_hijacked}
 use Rattle.sj_world.specs.Linked.{Linked}
 use Rattle.sj_world.specs.Members.{IsMethodOf}
 use Rattle.sj_world.specs.declared.facts.Fact.{Fact}
-use Rattle.sj_world.specs.declared.facts.Fact.TheVariants.{Needed as NeededClass, NeededField}
+use Rattle.sj_world.specs.declared.facts.Fact.TheVariants.{Needed as NeededClass, NeededField, Body}
+use Rattle.sj_infos.specs.Forms.{forms_in, forms_by_body}
+use Rattle.sj_infos.specs.declared.forms.BodyForm.{BodyForm}
+use Rattle.sj_infos.specs.declared.forms.BodyForm.TheVariants as forms
+use Rattle.sj_infos.specs.declared.infos.Info.TheVariants.{Class as NamesClass}
 
 pub static_alone : (n : Namespace) → is_static n ≡ true → running n ≡ alone
 static_alone PublicStatic h = refl
@@ -236,6 +243,79 @@ module _ (entries : List EntryPoint) (files : List SourceFile) (l : Linked) (all
     pub setter_there : Contains ps (setter_piece c d)
     setter_there = subst (λ (n : Name). Contains ps (setter_piece n d)) name_is (pieces_of_it.there (setter_piece parts.class.name d) (statics_among parts (setter_piece parts.class.name d) there.1))
 
+  -- tests of classes, and casts to them
+
+  form_is : (c : Name) (f : BodyForm) → is_test_for c f ≡ true → f ≡ forms.Test c
+  form_is c (forms.Test d) h = ap forms.Test (sym (text-same c d h))
+  form_is c _ h = impossible h
+
+  cast_form_is : (c : Name) (f : BodyForm) → is_cast_to c f ≡ true → f ≡ forms.Cast c
+  cast_form_is c (forms.Cast d) h = ap forms.Cast (sym (text-same c d h))
+  cast_form_is c _ h = impossible h
+
+  -- a form that a test of forms tells is one of a body that is needed
+  form_of : (test : BodyForm → Bool) (form : BodyForm) → ((f : BodyForm) → test f ≡ true → f ≡ form) → list_any (λ (e : EmittedMethod). list_any test (forms_in e.its_body)) all ≡ true → HasForm w l.facts form
+  form_of test form tells h =
+      let m = Any-from_list_any (λ (e : EmittedMethod). list_any test (forms_in e.its_body)) all h in
+      let i : Contains all m.1 = (m.0, m.2, m.3) in
+      let f = Any-from_list_any test (forms_in m.1.its_body) m.4 in
+      let found = bodies.found m.1 i in
+      record {
+        member = m.1.member;
+        needed = run.listed m.1 i;
+        definition = m.1.definition;
+        defined = defined w m.1.member m.1.definition found.found;
+        has = subst (λ (b : Option Term). Contains (forms_by_body b) form) (sym found.has_body) (subst (Contains (forms_in m.1.its_body)) (tells f.1 f.4) (f.0, f.2, f.3));
+      }
+
+  -- a class that a body names is there
+  own_needed : (c : Name) → Reads w entries (Reachable w entries) (NamesClass c) → OwnPieces l all ps p c
+  own_needed c r = let k = made.present w entries a.resolved (classes_kept entries files w bytes a) c (closed w entries (NeededClass c) (class_named_by c r)) in own_pieces l all ps p c k.0 k.1
+
+  reads_test : (c : Name) → HasForm w l.facts (forms.Test c) → Reads w entries (Reachable w entries) (NamesClass c)
+  reads_test c form = record { member = form.member; needed = run.reached (Body form.member) form.needed; definition = form.definition; defined = form.defined; asked = body_tells form.definition.body (forms.Test c) form.has }
+
+  reads_cast : (c : Name) → HasForm w l.facts (forms.Cast c) → Reads w entries (Reachable w entries) (NamesClass c)
+  reads_cast c form = record { member = form.member; needed = run.reached (Body form.member) form.needed; definition = form.definition; defined = form.defined; asked = body_tells form.definition.body (forms.Cast c) form.has }
+
+  module _ (c : Name) (here : Contains written c) (own : OwnPieces l all ps p c) where
+    abbrev parts_of_it : Parts
+    parts_of_it = own.parts
+
+    name_of_it : parts_of_it.class.name ≡ c
+    name_of_it = (class_found w c parts_of_it.class own.are.class_is).1
+
+    abbrev test_of_it : Name → Piece
+    test_of_it n = test_piece n parts_of_it.instances (kind_of_class n all_kinds)
+
+    tested_there : (parts_of_it.is_tested || parts_of_it.is_cast) ≡ true → TestThere l written ps p.helpers c
+    tested_there h = record {
+      parts = parts_of_it;
+      are = own.are;
+      here = here;
+      test = subst (λ (n : Name). Contains ps (test_of_it n)) name_of_it (own.there (test_of_it parts_of_it.class.name) (test_among parts_of_it h));
+      kinds = λ k u. (p.are_helpers.exact (TestOf k)).1 (by_piece (test_of_it parts_of_it.class.name) (TestOf k) (own.in_blocks (test_of_it parts_of_it.class.name) (test_among parts_of_it h)) (subst (λ (n : Name). Contains (test_uses parts_of_it.instances (kind_of_class n all_kinds)) (helper (helper_name (TestOf k)))) (sym name_of_it) u));
+    }
+
+    cast_there : parts_of_it.is_cast ≡ true → CastThere l written ps p.helpers c
+    cast_there h = record {
+      tests = tested_there (or_right parts_of_it.is_tested parts_of_it.is_cast h);
+      cast = subst (λ (n : Name). Contains ps (cast_piece n)) name_of_it (own.there (cast_piece parts_of_it.class.name) (cast_among parts_of_it h));
+    }
+
+  pub class_cast_there : (c : Name) → (is_among written c && is_cast all c) ≡ true → CastThere l written ps p.helpers c
+  class_cast_there c h =
+      let q = and_parts (is_among written c) (is_cast all c) h in
+      let form = form_of (is_cast_to c) (forms.Cast c) (cast_form_is c) q.1 in
+      let own = own_needed c (reads_cast c form) in
+      cast_there c ((among written c).0 q.0) own (own.are.cast.1 form)
+
+  pub class_test_there : (c : Name) → (is_among written c && (is_tested all c || is_cast all c)) ≡ true → TestThere l written ps p.helpers c
+  class_test_there c h = let q = and_parts (is_among written c) (is_tested all c || is_cast all c) h in elim (or_cases (is_tested all c) (is_cast all c) q.1) [
+    | inl tested ↦ let form = form_of (is_test_for c) (forms.Test c) (form_is c) tested in let own = own_needed c (reads_test c form) in tested_there c ((among written c).0 q.0) own (or_left own.parts.is_tested own.parts.is_cast (own.are.tested.1 form))
+    | inr cast ↦ (class_cast_there c (and_from (is_among written c) (is_cast all c) q.0 cast)).tests
+  ]
+
   -- helpers
 
   abbrev IsNamed : Name → Helper → Bool
@@ -277,5 +357,7 @@ has_pieces entries files l all live written ps bytes a bodies p are_live run own
     variable = variable_there entries files l all live written ps bytes a bodies p are_live run owned c f t need;
     setter = setter_there entries files l all live written ps bytes a bodies p are_live run owned c f t need;
   };
+  tests = λ c h. class_test_there entries files l all live written ps bytes a bodies p are_live run owned c h;
+  casts = λ c h. class_cast_there entries files l all live written ps bytes a bodies p are_live run owned c h;
   helpers = λ h e. helper_listed entries files l all live written ps bytes a bodies p are_live run owned h (helper_written entries files l all live written ps bytes a bodies p are_live run owned h e);
 }

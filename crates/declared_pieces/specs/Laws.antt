@@ -6,7 +6,10 @@ use Rattle.file_declarations.specs.Declarations.{declare}
 use Rattle.file_declarations.specs.Declared.{is_covered}
 use Rattle.file_listings.specs.Listed.{AreBytes}
 use Rattle.helper_rules.specs.Helpers.{helper_name, helper_piece}
+use Rattle.helper_rules.specs.Words.{all_kinds, helper}
 use Rattle.helper_rules.specs.declared.kinds.Helper.{Helper}
+use Rattle.helper_rules.specs.declared.kinds.Helper.TheVariants.{TestOf}
+use Rattle.helper_rules.specs.declared.kinds.Kind.{Kind}
 use Rattle.js_tree.specs.Terms.{Piece}
 use Rattle.object_folders.specs.Accepted.{IsAccepted}
 use Rattle.object_folders.specs.Bodies.{AreBodies}
@@ -15,7 +18,7 @@ use Rattle.object_folders.specs.Classes.{AreParts}
 use Rattle.object_folders.specs.Emitted.{EmittedMethod}
 use Rattle.object_folders.specs.Entries.{IsLive}
 use Rattle.object_folders.specs.Linked.{has_function}
-use Rattle.object_folders.specs.PieceRulesPieces.{Parts, constants_piece, class_piece, variable_piece, setter_piece}
+use Rattle.object_folders.specs.PieceRulesPieces.{Parts, constants_piece, class_piece, variable_piece, setter_piece, test_piece, test_uses, kind_of_class, cast_piece}
 use Rattle.object_folders.specs.Pieces.{piece_of_member, AreLinkedPieces}
 use Rattle.object_folders.specs.Reachable.{Reachable}
 use Rattle.object_folders.specs.Running.{CanRun}
@@ -25,6 +28,7 @@ use Rattle.sj_names.specs.declared.entry_points.EntryPoint.{EntryPoint}
 use Rattle.sj_names.specs.declared.folders.SourceFile.{SourceFile}
 use Rattle.sj_names.specs.declared.method_names.Member.{Member}
 use Rattle.sj_trees.specs.declared.types.IrType.{IrType}
+use Rattle.sj_trees.specs.declared.types.IrType.TheVariants.{Class}
 use Rattle.sj_world.specs.Known.{Name, Classes}
 use Rattle.sj_world.specs.Linked.{Linked}
 use Rattle.sj_world.specs.declared.facts.Fact.{Fact}
@@ -49,11 +53,26 @@ pub record StaticThere (w : Classes) (ps : List Piece) (c f : Name) (t : IrType)
   pub variable : Contains ps (variable_piece c field.field)
   pub setter : Contains ps (setter_piece c field.field)
 
+-- a written class for which bodies test or to which they cast, with its parts, the piece of its test, and the tests of kinds that this asks for
+pub record TestThere (l : Linked) (written : List Name) (ps : List Piece) (helpers : List Helper) (c : Name) : Type 0 where
+  pub parts : Parts
+  pub are : AreParts l c parts
+  pub here : Contains written c
+  pub test : Contains ps (test_piece c parts.instances (kind_of_class c all_kinds))
+  pub kinds : (k : Kind) → Contains (test_uses parts.instances (kind_of_class c all_kinds)) (helper (helper_name (TestOf k))) → Contains helpers (TestOf k)
+
+-- a class to which bodies cast, with the piece of its cast beside that of its test
+pub record CastThere (l : Linked) (written : List Name) (ps : List Piece) (helpers : List Helper) (c : Name) : Type 0 where
+  pub tests : TestThere l written ps helpers c
+  pub cast : Contains ps (cast_piece c)
+
 -- what the code of the written classes can use has its pieces
 pub record HasPieces (l : Linked) (all : List EmittedMethod) (live written : List Name) (ps : List Piece) (p : AreLinkedPieces l all ps) : Type 0 where
   pub methods : (m : Member) → (is_among written m.class && has_function all m) ≡ true → MethodThere l.world all ps m
   pub classes : (c : Name) → (used_of l.world l.facts all live p.helpers written).made c ≡ true → ClassThere l ps c
   pub statics : (c f : Name) (t : IrType) → has_static (used_of l.world l.facts all live p.helpers written) c f t ≡ true → StaticThere l.world ps c f t
+  pub tests : (c : Name) → (used_of l.world l.facts all live p.helpers written).tests (Class c) ≡ true → TestThere l written ps p.helpers c
+  pub casts : (c : Name) → (used_of l.world l.facts all live p.helpers written).casts (Class c) ≡ true → CastThere l written ps p.helpers c
   pub helpers : (h : Helper) → (used_of l.world l.facts all live p.helpers written).helper (helper_name h) ≡ true → Contains ps (helper_piece p.above h)
 
 -- where what is written can run, and uses nothing but what is written, what its code can use has its pieces

@@ -6,7 +6,8 @@
 ghost use Rattle.declared_pieces.specs.Laws.{WhatIsUsedHasPieces, PiecesAreDeclarations};
 
 /// Take the pieces of the linked world of an accepted folder, and classes that own all that their pieces use. What code can use there has its pieces: each member its
-/// function, each class that is made its constants and itself, each static field its variable and the function that sets it, and each helper its own.
+/// function, each class that is made its constants and itself, each static field its variable and the function that sets it, each class that is tested for or cast to
+/// the functions of these, and each helper its own.
 pub fn what_is_used_has_pieces()
     ensures { WhatIsUsedHasPieces }
 {}

@@ -1,11 +1,14 @@
 -- What the code of a linked world can use, where the pieces of some of its classes are written.
-use Rattle.std.specs.Prelude.{Bool, true, false, ◌&&◌, not, List, Option, Some, None}
+use Rattle.std.specs.Prelude.{Bool, true, false, ◌&&◌, ◌||◌, not, List, Option, Some, None}
 use Rattle.std.specs.List.{list_any}
 use Rattle.built_forms.specs.Built.{Usable, is_static, has_kind, has_no_value}
 use Rattle.dispatch_laws.specs.Targets.{target_in}
 use Rattle.helper_rules.specs.Helpers.{helper_name}
 use Rattle.helper_rules.specs.declared.kinds.Helper.{Helper}
 use Rattle.sj_emit_expr.specs.Tests.{test_name, cast_name}
+use Rattle.sj_infos.specs.Forms.{forms_in}
+use Rattle.sj_infos.specs.declared.forms.BodyForm.{BodyForm}
+use Rattle.sj_infos.specs.declared.forms.BodyForm.TheVariants.{Test, Cast}
 use Rattle.sj_names.specs.WellKnown.{object}
 use Rattle.sj_names.specs.Same.{is_same_text}
 use Rattle.sj_names.specs.declared.method_names.Member.{Member}
@@ -17,6 +20,7 @@ use Rattle.sj_trees.specs.SameTypes.{is_same_type}
 use Rattle.sj_trees.specs.declared.classes.ClassDef.{ClassDef}
 use Rattle.sj_trees.specs.declared.classes.FieldDef.{FieldDef}
 use Rattle.sj_trees.specs.declared.types.IrType.{IrType}
+use Rattle.sj_trees.specs.declared.types.IrType.TheVariants.{Class}
 use Rattle.sj_world.specs.Known.{Name, Classes, class_of}
 use Rattle.sj_world.specs.declared.facts.Fact.{Fact}
 use Rattle.sj_world.specs.declared.facts.Fact.TheVariants.{NeededField}
@@ -65,9 +69,34 @@ uses_static w facts written c f t = is_among written c && (list_any (needs_stati
 abbrev pub uses_helper : List Helper → List Name → Name → Bool
 uses_helper helpers written x = is_among written object && list_any (λ h. is_same_text x (helper_name h)) helpers
 
+-- one of these bodies tests for the class; one casts to it
+abbrev pub is_test_for : Name → BodyForm → Bool
+is_test_for c (Test d) = is_same_text c d
+is_test_for c _ = false
+
+abbrev pub is_cast_to : Name → BodyForm → Bool
+is_cast_to c (Cast d) = is_same_text c d
+is_cast_to c _ = false
+
+abbrev pub is_tested : List EmittedMethod → Name → Bool
+is_tested all c = list_any (λ (e : EmittedMethod). list_any (is_test_for c) (forms_in e.its_body)) all
+
+abbrev pub is_cast : List EmittedMethod → Name → Bool
+is_cast all c = list_any (λ (e : EmittedMethod). list_any (is_cast_to c) (forms_in e.its_body)) all
+
+-- the test of a class that is written, for which bodies test or to which they cast, and that of a primitive type among the helpers
+abbrev pub uses_test : List EmittedMethod → List Helper → List Name → IrType → Bool
+uses_test all helpers written (Class c) = is_among written c && (is_tested all c || is_cast all c)
+uses_test all helpers written t = has_kind t && uses_helper helpers written (test_name t)
+
+-- and the casts
+abbrev pub uses_cast : List EmittedMethod → List Helper → List Name → IrType → Bool
+uses_cast all helpers written (Class c) = is_among written c && is_cast all c
+uses_cast all helpers written t = has_kind t && uses_helper helpers written (cast_name t)
+
 -- what the code can use, of a world with these facts, methods, live classes and helpers, where the pieces of these classes are written: their members, a call of a public one running
 -- its target, and their constructors that have no value, their objects, each instance field of the world, their static fields that are needed, the helpers, and the tests of primitive
--- types and the casts to them that are among them
+-- types and the casts to them that are among them, and those of these classes
 abbrev pub used_of : Classes → List Fact → List EmittedMethod → List Name → List Helper → List Name → Usable
 used_of w facts all live helpers written = record {
   linked = λ m. is_static m.namespace && (is_among written m.class && has_function all m);
@@ -78,8 +107,8 @@ used_of w facts all live helpers written = record {
   field = λ c f t. has_field_in (class_of w c) f t;
   static_field = uses_static w facts written;
   static_setter = uses_static w facts written;
-  tests = λ t. has_kind t && uses_helper helpers written (test_name t);
-  casts = λ t. has_kind t && uses_helper helpers written (cast_name t);
+  tests = uses_test all helpers written;
+  casts = uses_cast all helpers written;
   helper = uses_helper helpers written;
   objects = true;
 }

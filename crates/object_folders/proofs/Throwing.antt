@@ -13,7 +13,7 @@ use Rattle.helper_rules.specs.declared.kinds.Failure.TheVariants.{NullReceiver, 
 use Rattle.helper_rules.specs.declared.kinds.Helper.{Helper}
 use Rattle.helper_rules.specs.declared.kinds.Helper.TheVariants.{TestOf, CastTo, ConstantsOf, NotNull, IntQuotient, IntRemainder, LongQuotient, LongRemainder, Throws}
 use Rattle.ir_mean.specs.Meaning.{with_message}
-use Rattle.linked_pieces.specs.Used.{used_of, is_among}
+use Rattle.linked_pieces.specs.Used.{used_of, is_among, uses_helper, is_cast as is_cast_to}
 use Rattle.object_folders.specs.Running.{CanRun, CanBeThrown}
 use Rattle.sj_desugar.specs.Desugar.{member}
 use Rattle.sj_emit_expr.specs.Templates.{check_name}
@@ -28,7 +28,7 @@ use Rattle.accepted_folders.specs.Linked.{has_function}
 use Rattle.sj_trees.specs.declared.operators.BinaryOp.{BinaryOp}
 use Rattle.sj_trees.specs.declared.operators.BinaryOp.TheVariants.{IntDivide, IntRemainder as IntRest, LongDivide, LongRemainder as LongRest}
 use Rattle.sj_trees.specs.declared.types.IrType.{IrType}
-use Rattle.sj_trees.specs.declared.types.IrType.TheVariants.{Undefined, Boolean, Char, Byte, Short, Int, Long, String}
+use Rattle.sj_trees.specs.declared.types.IrType.TheVariants.{Undefined, Boolean, Char, Byte, Short, Int, Long, String, Class as IrClass}
 use Rattle.sj_world.proofs.OnCycles.{among}
 use Rattle.sj_world.specs.Known.{Name, Classes}
 use Rattle.sj_world.specs.declared.facts.Fact.{Fact}
@@ -129,5 +129,9 @@ module _ (w : Classes) (entries : List EntryPoint) (facts : List Fact) (all : Li
   division LongRest h = dividing (codes "$lm") refl h
   division _ h = impossible h
 
-  pub cast_to_kind : (t : IrType) → has_kind t ≡ true → has.helper (cast_name t) ≡ true → Makes class_cast
+  cast_to_kind : (t : IrType) → has_kind t ≡ true → has.helper (cast_name t) ≡ true → Makes class_cast
   cast_to_kind t k h = throwing Cast (cast_name t) (λ g e. casts g (subst (λ (y : Name). is_cast y ≡ true) (sym e) (is_cast_name t k))) h
+
+  pub cast_throws : (t : IrType) → has.casts t ≡ true → Makes class_cast
+  cast_throws (IrClass c) h = let q = and_parts (is_among written c) (is_cast_to all c) h in let k = run.casts c ((among written c).0 q.0) q.1 in makes class_cast (run.thrown Cast k.1 k.0)
+  cast_throws t h = let q = and_parts (has_kind t) (uses_helper helpers written (cast_name t)) h in cast_to_kind t q.0 q.1

@@ -11,19 +11,18 @@ use Rattle.accepted_folders.specs.Accepted.{IsAccepted}
 use Rattle.accepted_folders.specs.Bodies.{AreBodies}
 use Rattle.accepted_folders.specs.BodySoundnessRules.{RightMember}
 use Rattle.accepted_folders.specs.Worlds.{AreClassesKept}
-use Rattle.accepted_folders.specs.Built.{has_static, is_static, has_kind}
+use Rattle.accepted_folders.specs.Built.{has_static, is_static}
 use Rattle.file_listings.specs.Listed.{AreBytes}
 use Rattle.helper_rules.specs.declared.kinds.Helper.{Helper}
 use Rattle.linked_pieces.proofs.Statics.{static_is}
-use Rattle.linked_pieces.specs.Used.{used_of, is_among, is_received, is_constructor_without_value, has_static_in, needs_static, uses_helper}
+use Rattle.linked_pieces.specs.Used.{used_of, is_among, is_received, is_constructor_without_value, has_static_in, needs_static}
 use Rattle.object_folders.proofs.Fields.{field_there, type_there, static_there, static_type_there}
 use Rattle.object_folders.proofs.Made.{live_free}
 use Rattle.object_folders.proofs.Methods.{once, right_member}
-use Rattle.object_folders.proofs.Throwing.{exceptions, division, cast_to_kind}
+use Rattle.object_folders.proofs.Throwing.{exceptions, division, cast_throws}
 use Rattle.object_folders.specs.Laws.{AcceptedFoldersCarryObjects, AcceptedFoldersLinkRightMembers}
 use Rattle.object_folders.specs.Running.{CanRun}
 use Rattle.accepted_folders.specs.Refusals.{hijacked}
-use Rattle.sj_emit_expr.specs.Tests.{cast_name}
 use Rattle.sj_local.specs.Broken.{FirstBroken}
 use Rattle.sj_names.proofs.Same.{impossible}
 use Rattle.sj_names.specs.declared.entry_points.EntryPoint.{EntryPoint}
@@ -66,7 +65,7 @@ carry entries files w facts all live helpers written bytes a bodies run = record
   one_static = λ c f s t h k. static_type_there w unbroken c f s t (static_known c f s h) (static_known c f t k);
   exceptions = exceptions w entries facts all live helpers written run;
   divisions = division w entries facts all live helpers written run;
-  casts = λ t h. let q = and_parts (has_kind t) (uses_helper helpers written (cast_name t)) h in cast_to_kind w entries facts all live helpers written run t q.0 q.1;
+  casts = cast_throws w entries facts all live helpers written run;
 }
   where
     static_known : (c f : Name) (t : IrType) → has_static (used_of w facts all live helpers written) c f t ≡ true → has_static_in (class_of w c) f t ≡ true

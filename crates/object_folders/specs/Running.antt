@@ -5,9 +5,10 @@ use Rattle.accepted_folders.specs.Typing.{is_built_with}
 use Rattle.accepted_folders.specs.Entries.{IsLive}
 use Rattle.helper_rules.specs.Helpers.{failure_class, used_helpers}
 use Rattle.helper_rules.specs.declared.kinds.Failure.{Failure}
+use Rattle.helper_rules.specs.declared.kinds.Failure.TheVariants.{Cast}
 use Rattle.helper_rules.specs.declared.kinds.Helper.{Helper}
 use Rattle.helper_rules.specs.declared.kinds.Helper.TheVariants.{Throws}
-use Rattle.linked_pieces.specs.Used.{used_of}
+use Rattle.linked_pieces.specs.Used.{used_of, is_cast}
 use Rattle.accepted_folders.specs.Reachable.{Reachable}
 use Rattle.accepted_folders.specs.Rules.{message_constructor}
 use Rattle.accepted_folders.specs.Files.{HasFunction}
@@ -16,6 +17,7 @@ use Rattle.sj_names.specs.declared.entry_points.EntryPoint.{EntryPoint}
 use Rattle.accepted_folders.specs.Emitted.{EmittedMethod}
 use Rattle.sj_world.specs.Known.{Name, Classes}
 use Rattle.sj_world.specs.declared.facts.Fact.{Fact}
+use Rattle.sj_world.specs.declared.facts.Fact.TheVariants.{Body}
 
 -- an exception of this class can be made: the class is live and written, and its constructor with a message is among the methods
 pub record CanBeThrown (all : List EmittedMethod) (live written : List Name) (c : Name) : Type 0 where
@@ -24,10 +26,12 @@ pub record CanBeThrown (all : List EmittedMethod) (live written : List Name) (c 
   pub constructor : HasFunction all (message_constructor c)
 
 -- Of facts that are reachable, these classes are live; each written method is built with what can be used; a helper has those that it uses; and where helpers
--- are written, what a helper throws can be made.
+-- are written, what a helper throws can be made. The facts tell of the methods; and where a class is written to which bodies cast, so is what its cast throws.
 pub record CanRun (w : Classes) (entries : List EntryPoint) (facts : List Fact) (all : List EmittedMethod) (live : List Name) (helpers : List Helper) (written : List Name) : Type 0 where
   pub reached : (f : Fact) → Contains facts f → Reachable w entries f
   pub are_live : (c : Name) → Contains live c → IsLive w facts c
   pub are_built : (e : EmittedMethod) → Contains all e → Contains written e.member.class → is_built_with (used_of w facts all live helpers written) e.definition e.its_body ≡ true
   pub closed : (h g : Helper) → Contains helpers h → Contains (used_helpers h) g → Contains helpers g
   pub thrown : (f : Failure) → Contains helpers (Throws f) → Contains written object → CanBeThrown all live written (failure_class f)
+  pub listed : (e : EmittedMethod) → Contains all e → Contains facts (Body e.member)
+  pub casts : (c : Name) → Contains written c → is_cast all c ≡ true → Contains written object × Contains helpers (Throws Cast)

@@ -5,7 +5,7 @@ use Rattle.std.specs.List.{flat_map}
 use Rattle.std.proofs.lemmas.Bool.{and_parts}
 use Rattle.std.proofs.lemmas.List.Elements.{Contains-append_left, Contains-append_right, Contains-push}
 use Rattle.std.proofs.lemmas.Slice.Eq.{bytes_eq-Decides}
-use Rattle.closed_pieces.proofs.Places.{in_one}
+use Rattle.closed_pieces.proofs.Forms.{in_one}
 use Rattle.declared_files.proofs.Once.{files_run_last}
 use Rattle.declared_files.proofs.Order.{files_declare_in_order}
 use Rattle.declared_files.specs.Placed.{IsInFront, in_a_file, in_this_file, DeclaresBehind}

@@ -1,27 +1,46 @@
--- What the forms of a body tell: it asks for the modules that it loads, and a name by which it calls reflectively has no result.
-use Rattle.std.proofs.Common.{◌≡◌, Bool, true, false, List, [], ◌∷◌, Option, Some, None, refl, subst, Contains, if◌then◌else◌}
+-- What the forms of a body tell: it asks for the modules that it loads and the classes for which it tests and to which it casts, and a name by which it calls reflectively has no result.
+use Rattle.std.proofs.Common.{◌≡◌, Bool, true, false, List, [], ◌∷◌, Option, Some, None, refl, subst, Contains, inl, inr, if◌then◌else◌}
 use Rattle.std.specs.Prelude.{is_none}
-use Rattle.declared_pieces.proofs.EachTyped.{in_all}
+use Rattle.std.proofs.lemmas.List.Elements.{Contains-append_left, Contains-append_cases}
+use Rattle.std.specs.List.{flat_map}
+use Rattle.object_folders.proofs.EachTyped.{in_all}
 use Rattle.sj_infos.specs.Forms.{form_of, of_base, of_call, of_test, of_cast, forms_by_body}
-use Rattle.sj_infos.specs.Infos.{asks, asked_by_body}
+use Rattle.sj_infos.specs.Infos.{asks, asked_by_body, of_type, is_any, class_cast}
 use Rattle.sj_infos.specs.Sure.{sure_among}
 use Rattle.sj_infos.specs.Trees.{trees}
 use Rattle.sj_infos.specs.declared.forms.BodyForm.{BodyForm}
 use Rattle.sj_infos.specs.declared.forms.BodyForm.TheVariants as forms
 use Rattle.sj_infos.specs.declared.infos.Info.{Info}
-use Rattle.sj_infos.specs.declared.infos.Info.TheVariants.{Load}
+use Rattle.sj_infos.specs.declared.infos.Info.TheVariants.{Load, Class}
 use Rattle.sj_names.specs.declared.method_names.MethodName.{MethodName}
 use Rattle.sj_names.specs.declared.references.BaseRef.{BaseRef}
-use Rattle.sj_split.proofs.Members.{at_first}
+use Rattle.sj_split.proofs.Members.{at_first, further}
 use Rattle.sj_trees.specs.Term.{Term, load_module, store_module, apply, new_array, array_value, is_instance_of, as_instance_of}
 use Rattle.sj_trees.specs.declared.types.IrType.{IrType}
 use Rattle.sj_world.specs.Known.{Name}
 use Rattle.worklist.proofs.Inserted.{nothing_in, only_one}
-use Rattle.closed_pieces.proofs.Places.{in_one}
+
+-- what a list that is made of lists has is in one of them
+pub record InOne {X Y : Type 0} (f : X → List Y) (xs : List X) (y : Y) : Type 0 where
+  pub item : X
+  pub among : Contains xs item
+  pub within : Contains (f item) y
+
+pub in_one : {X Y : Type 0} (f : X → List Y) (xs : List X) (y : Y) → Contains (flat_map f xs) y → InOne f xs y
+in_one f [] y h = nothing_in y h
+in_one f (x ∷ xs) y h = elim (Contains-append_cases (f x) (flat_map f xs) y h) [
+  | inl i ↦ record { item = x; among = at_first x xs; within = i }
+  | inr i ↦ later (in_one f xs y i)
+]
+  where
+    later : InOne f xs y → InOne f (x ∷ xs) y
+    later o = record { item = o.item; among = further x o.item xs o.among; within = o.within }
 
 abbrev pub Told : List Info → BodyForm → Type 0
 Told asked (forms.Load c) = Contains asked (Load c)
 Told asked (forms.Reflective p) = is_none p.result ≡ true
+Told asked (forms.Test c) = Contains asked (Class c)
+Told asked (forms.Cast c) = Contains asked (Class c)
 Told asked _ = Unit {0}
 
 abbrev Tells : List Info → List BodyForm → Type 0
@@ -37,15 +56,15 @@ base_tells : (asked : List Info) (b : BaseRef) → Tells asked (of_base b)
 base_tells asked (BaseRef.Class c) = one_tells asked (forms.Base c) tt
 base_tells asked _ = none_tells asked
 
-test_tells : (asked : List Info) (t : IrType) → Tells asked (of_test t)
-test_tells asked (IrType.Class c) = one_tells asked (forms.Test c) tt
-test_tells asked (IrType.Array r) = base_tells asked r.base
-test_tells asked _ = none_tells asked
+test_tells : (asked : List Info) (t : IrType) → ((o : Info) → Contains (of_type t) o → Contains asked o) → Tells asked (of_test t)
+test_tells asked (IrType.Class c) h = one_tells asked (forms.Test c) (h (Class c) (at_first (Class c) []))
+test_tells asked (IrType.Array r) h = base_tells asked r.base
+test_tells asked _ h = none_tells asked
 
-cast_tells : (asked : List Info) (t : IrType) → Tells asked (of_cast t)
-cast_tells asked (IrType.Class c) = one_tells asked (forms.Cast c) tt
-cast_tells asked (IrType.Array r) = base_tells asked r.base
-cast_tells asked _ = none_tells asked
+cast_tells : (asked : List Info) (t : IrType) → ((o : Info) → Contains (of_type t) o → Contains asked o) → Tells asked (of_cast t)
+cast_tells asked (IrType.Class c) h = one_tells asked (forms.Cast c) (h (Class c) (at_first (Class c) []))
+cast_tells asked (IrType.Array r) h = base_tells asked r.base
+cast_tells asked _ h = none_tells asked
 
 call_tells : (asked : List Info) (m : MethodName) → Tells asked (of_call m)
 call_tells asked m = go (is_none m.result) refl
@@ -60,13 +79,15 @@ tree_tells names (store_module p c e) = one_tells (asks names (store_module p c 
 tree_tells names (apply p e m ts t) = call_tells (asks names (apply p e m ts t)) m
 tree_tells names (new_array p r e) = base_tells (asks names (new_array p r e)) r.base
 tree_tells names (array_value p r ts) = base_tells (asks names (array_value p r ts)) r.base
-tree_tells names (is_instance_of p e t) = test_tells (asks names (is_instance_of p e t)) t
-tree_tells names (as_instance_of p e t) = cast_tells (asks names (as_instance_of p e t)) t
+tree_tells names (is_instance_of p e t) = test_tells (asks names (is_instance_of p e t)) t (λ o i. i)
+tree_tells names (as_instance_of p e t) = cast_tells (asks names (as_instance_of p e t)) t (λ o i. Contains-append_left (of_type t) (if is_any t then [] else class_cast) o i)
 tree_tells names t = none_tells (asks names t)
 
 told_more : (some more : List Info) → ((o : Info) → Contains some o → Contains more o) → (f : BodyForm) → Told some f → Told more f
 told_more some more h (forms.Load c) k = h (Load c) k
 told_more some more h (forms.Reflective p) k = k
+told_more some more h (forms.Test c) k = h (Class c) k
+told_more some more h (forms.Cast c) k = h (Class c) k
 told_more some more h _ k = tt
 
 pub body_tells : (body : Option Term) → Tells (asked_by_body body) (forms_by_body body)
