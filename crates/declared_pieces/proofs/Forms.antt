@@ -1,10 +1,16 @@
 -- What the forms of a body tell: it asks for the modules that it loads and the classes for which it tests and to which it casts, and a name by which it calls reflectively has no result.
-use Rattle.std.proofs.Common.{◌≡◌, Bool, true, false, List, [], ◌∷◌, Option, Some, None, refl, subst, Contains, inl, inr, if◌then◌else◌}
+use Rattle.std.proofs.Common.{◌≡◌, Bool, true, false, List, [], ◌∷◌, Option, Some, None, refl, sym, ap, subst, Contains, inl, inr, if◌then◌else◌}
 use Rattle.std.specs.Prelude.{is_none}
 use Rattle.std.proofs.lemmas.List.Elements.{Contains-append_left, Contains-append_cases}
-use Rattle.std.specs.List.{flat_map}
+use Rattle.std.specs.List.{flat_map, list_any}
+use Rattle.std.proofs.lemmas.List.Folds.{Any-from_list_any}
 use Rattle.object_folders.proofs.EachTyped.{in_all}
-use Rattle.sj_infos.specs.Forms.{form_of, of_base, of_call, of_test, of_cast, forms_by_body}
+use Rattle.object_folders.proofs.Members.{defined}
+use Rattle.object_folders.specs.Bodies.{AreBodies}
+use Rattle.object_folders.specs.Classes.{HasForm}
+use Rattle.object_folders.specs.Emitted.{EmittedMethod}
+use Rattle.object_folders.specs.Used.{is_test_for, is_cast_to, is_tested, is_cast}
+use Rattle.sj_infos.specs.Forms.{form_of, of_base, of_call, of_test, of_cast, forms_in, forms_by_body}
 use Rattle.sj_infos.specs.Infos.{asks, asked_by_body, of_type, is_any, class_cast}
 use Rattle.sj_infos.specs.Sure.{sure_among}
 use Rattle.sj_infos.specs.Trees.{trees}
@@ -12,12 +18,16 @@ use Rattle.sj_infos.specs.declared.forms.BodyForm.{BodyForm}
 use Rattle.sj_infos.specs.declared.forms.BodyForm.TheVariants as forms
 use Rattle.sj_infos.specs.declared.infos.Info.{Info}
 use Rattle.sj_infos.specs.declared.infos.Info.TheVariants.{Load, Class}
+use Rattle.sj_names.proofs.Same.{impossible, text-same}
+use Rattle.sj_names.specs.declared.entry_points.EntryPoint.{EntryPoint}
 use Rattle.sj_names.specs.declared.method_names.MethodName.{MethodName}
 use Rattle.sj_names.specs.declared.references.BaseRef.{BaseRef}
 use Rattle.sj_split.proofs.Members.{at_first, further}
 use Rattle.sj_trees.specs.Term.{Term, load_module, store_module, apply, new_array, array_value, is_instance_of, as_instance_of}
 use Rattle.sj_trees.specs.declared.types.IrType.{IrType}
-use Rattle.sj_world.specs.Known.{Name}
+use Rattle.sj_world.specs.Known.{Name, Classes}
+use Rattle.sj_world.specs.declared.facts.Fact.{Fact}
+use Rattle.sj_world.specs.declared.facts.Fact.TheVariants.{Body}
 use Rattle.worklist.proofs.Inserted.{nothing_in, only_one}
 
 -- what a list that is made of lists has is in one of them
@@ -96,3 +106,33 @@ body_tells (Some e) f i =
     let names = sure_among [] (trees e) in
     let o = in_one form_of (trees e) f i in
     told_more (asks names o.item) (asked_by_body (Some e)) (λ x j. in_all (asks names) (trees e) o.item x o.among j) f (tree_tells names o.item f o.within)
+
+test_is : (c : Name) (f : BodyForm) → is_test_for c f ≡ true → f ≡ forms.Test c
+test_is c (forms.Test d) h = ap forms.Test (sym (text-same c d h))
+test_is c _ h = impossible h
+
+cast_is : (c : Name) (f : BodyForm) → is_cast_to c f ≡ true → f ≡ forms.Cast c
+cast_is c (forms.Cast d) h = ap forms.Cast (sym (text-same c d h))
+cast_is c _ h = impossible h
+
+-- a form that bodies have is one of a body that is needed, where the facts tell of these
+module _ (w : Classes) (entries : List EntryPoint) (facts : List Fact) (all : List EmittedMethod) (bodies : AreBodies w entries all) (listed : (e : EmittedMethod) → Contains all e → Contains facts (Body e.member)) where
+  form_there : (test : BodyForm → Bool) (form : BodyForm) → ((f : BodyForm) → test f ≡ true → f ≡ form) → list_any (λ (e : EmittedMethod). list_any test (forms_in e.its_body)) all ≡ true → HasForm w facts form
+  form_there test form tells h =
+      let m = Any-from_list_any (λ (e : EmittedMethod). list_any test (forms_in e.its_body)) all h in
+      let i : Contains all m.1 = (m.0, m.2, m.3) in
+      let f = Any-from_list_any test (forms_in m.1.its_body) m.4 in
+      let found = bodies.found m.1 i in
+      record {
+        member = m.1.member;
+        needed = listed m.1 i;
+        definition = m.1.definition;
+        defined = defined w m.1.member m.1.definition found.found;
+        has = subst (λ (b : Option Term). Contains (forms_by_body b) form) (sym found.has_body) (subst (Contains (forms_in m.1.its_body)) (tells f.1 f.4) (f.0, f.2, f.3));
+      }
+
+  pub test_form : (c : Name) → is_tested all c ≡ true → HasForm w facts (forms.Test c)
+  test_form c = form_there (is_test_for c) (forms.Test c) (test_is c)
+
+  pub cast_form : (c : Name) → is_cast all c ≡ true → HasForm w facts (forms.Cast c)
+  cast_form c = form_there (is_cast_to c) (forms.Cast c) (cast_is c)

@@ -19,7 +19,7 @@ use Rattle.declared_pieces.proofs.Fields.{field_there, static_there, class_named
 use Rattle.declared_pieces.proofs.HelperNames.{one_helper}
 use Rattle.declared_pieces.proofs.Live.{next_is, live_next, classes_kept, live_free, live_there}
 use Rattle.declared_pieces.proofs.Parts.{constants_there, class_there, statics_among, in_statics, is_reached, uses_superclass, test_among, cast_among}
-use Rattle.declared_pieces.proofs.Forms.{body_tells}
+use Rattle.declared_pieces.proofs.Forms.{body_tells, test_form, cast_form}
 use Rattle.declared_pieces.specs.Closed.{IsClosed}
 use Rattle.declared_pieces.specs.Laws.{TestThere, CastThere, WhatIsUsedHasPieces}
 use Rattle.file_declarations.specs.Declared.{alone, on_receiver, running}
@@ -32,7 +32,7 @@ use Rattle.helper_rules.specs.declared.kinds.Helper.TheVariants.{TestOf}
 use Rattle.js_tree.specs.Terms.{Item, Piece}
 use Rattle.object_folders.specs.Pieces.{piece_of_member, by_piece, AreLinkedPieces}
 use Rattle.object_folders.proofs.Statics.{static_is}
-use Rattle.object_folders.specs.Used.{used_of, is_among, is_received, is_constructor, is_constructor_without_value, has_static_in, needs_static, is_test_for, is_cast_to, is_tested, is_cast}
+use Rattle.object_folders.specs.Used.{used_of, is_among, is_received, is_constructor, is_constructor_without_value, has_static_in, needs_static, is_tested, is_cast}
 use Rattle.object_folders.specs.Settings.{IsStaticField}
 use Rattle.object_folders.proofs.Made as made
 use Rattle.object_folders.proofs.Methods.{right_method}
@@ -69,8 +69,6 @@ use Rattle.sj_world.specs.Linked.{Linked}
 use Rattle.sj_world.specs.Members.{IsMethodOf}
 use Rattle.sj_world.specs.declared.facts.Fact.{Fact}
 use Rattle.sj_world.specs.declared.facts.Fact.TheVariants.{Needed as NeededClass, NeededField, Body}
-use Rattle.sj_infos.specs.Forms.{forms_in, forms_by_body}
-use Rattle.sj_infos.specs.declared.forms.BodyForm.{BodyForm}
 use Rattle.sj_infos.specs.declared.forms.BodyForm.TheVariants as forms
 use Rattle.sj_infos.specs.declared.infos.Info.TheVariants.{Class as NamesClass}
 
@@ -245,29 +243,6 @@ module _ (entries : List EntryPoint) (files : List SourceFile) (l : Linked) (all
 
   -- tests of classes, and casts to them
 
-  form_is : (c : Name) (f : BodyForm) → is_test_for c f ≡ true → f ≡ forms.Test c
-  form_is c (forms.Test d) h = ap forms.Test (sym (text-same c d h))
-  form_is c _ h = impossible h
-
-  cast_form_is : (c : Name) (f : BodyForm) → is_cast_to c f ≡ true → f ≡ forms.Cast c
-  cast_form_is c (forms.Cast d) h = ap forms.Cast (sym (text-same c d h))
-  cast_form_is c _ h = impossible h
-
-  -- a form that a test of forms tells is one of a body that is needed
-  form_of : (test : BodyForm → Bool) (form : BodyForm) → ((f : BodyForm) → test f ≡ true → f ≡ form) → list_any (λ (e : EmittedMethod). list_any test (forms_in e.its_body)) all ≡ true → HasForm w l.facts form
-  form_of test form tells h =
-      let m = Any-from_list_any (λ (e : EmittedMethod). list_any test (forms_in e.its_body)) all h in
-      let i : Contains all m.1 = (m.0, m.2, m.3) in
-      let f = Any-from_list_any test (forms_in m.1.its_body) m.4 in
-      let found = bodies.found m.1 i in
-      record {
-        member = m.1.member;
-        needed = run.listed m.1 i;
-        definition = m.1.definition;
-        defined = defined w m.1.member m.1.definition found.found;
-        has = subst (λ (b : Option Term). Contains (forms_by_body b) form) (sym found.has_body) (subst (Contains (forms_in m.1.its_body)) (tells f.1 f.4) (f.0, f.2, f.3));
-      }
-
   -- a class that a body names is there
   own_needed : (c : Name) → Reads w entries (Reachable w entries) (NamesClass c) → OwnPieces l all ps p c
   own_needed c r = let k = made.present w entries a.resolved (classes_kept entries files w bytes a) c (closed w entries (NeededClass c) (class_named_by c r)) in own_pieces l all ps p c k.0 k.1
@@ -306,13 +281,13 @@ module _ (entries : List EntryPoint) (files : List SourceFile) (l : Linked) (all
   pub class_cast_there : (c : Name) → (is_among written c && is_cast all c) ≡ true → CastThere l written ps p.helpers c
   class_cast_there c h =
       let q = and_parts (is_among written c) (is_cast all c) h in
-      let form = form_of (is_cast_to c) (forms.Cast c) (cast_form_is c) q.1 in
+      let form = cast_form w entries l.facts all bodies run.listed c q.1 in
       let own = own_needed c (reads_cast c form) in
       cast_there c ((among written c).0 q.0) own (own.are.cast.1 form)
 
   pub class_test_there : (c : Name) → (is_among written c && (is_tested all c || is_cast all c)) ≡ true → TestThere l written ps p.helpers c
   class_test_there c h = let q = and_parts (is_among written c) (is_tested all c || is_cast all c) h in elim (or_cases (is_tested all c) (is_cast all c) q.1) [
-    | inl tested ↦ let form = form_of (is_test_for c) (forms.Test c) (form_is c) tested in let own = own_needed c (reads_test c form) in tested_there c ((among written c).0 q.0) own (or_left own.parts.is_tested own.parts.is_cast (own.are.tested.1 form))
+    | inl tested ↦ let form = test_form w entries l.facts all bodies run.listed c tested in let own = own_needed c (reads_test c form) in tested_there c ((among written c).0 q.0) own (or_left own.parts.is_tested own.parts.is_cast (own.are.tested.1 form))
     | inr cast ↦ (class_cast_there c (and_from (is_among written c) (is_cast all c) q.0 cast)).tests
   ]
 

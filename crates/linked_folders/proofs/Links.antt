@@ -1,5 +1,5 @@
 -- What is written of the pieces of an accepted folder can run.
-use Rattle.std.proofs.Common.{◌≡◌, ◌↔◌, ◌⊎◌, ◌++◌, ℕ, Bool, true, false, List, [], ◌∷◌, Option, Some, inl, inr, refl, sym, subst, map, Contains, if◌then◌else◌}
+use Rattle.std.proofs.Common.{◌≡◌, ◌↔◌, ◌⊎◌, ◌++◌, ℕ, Bool, true, false, List, [], ◌∷◌, Option, Some, inl, inr, refl, sym, subst, map, Contains, codes, if◌then◌else◌}
 use Rattle.std.specs.List.{flat_map}
 use Rattle.std.specs.Prelude.{not, is_some}
 use Rattle.std.proofs.lemmas.Bool.{and_from}
@@ -12,21 +12,25 @@ use Rattle.declared_pieces.specs.Bodies.{AreBodies}
 use Rattle.declared_pieces.proofs.Written.{accepted_bodies}
 use Rattle.declared_pieces.specs.Written.{AreWrittenWith}
 use Rattle.declared_pieces.specs.Built.{Usable, is_object_body, has_built_body, not_built}
-use Rattle.declared_pieces.proofs.Blocks.{method_there, helper_there}
+use Rattle.declared_pieces.proofs.Blocks.{method_there, helper_there, own_pieces}
+use Rattle.declared_pieces.proofs.Forms.{body_tells, cast_form}
+use Rattle.declared_pieces.proofs.Parts.{cast_among}
+use Rattle.declared_pieces.proofs.Plain.{class_found}
 use Rattle.declared_pieces.specs.Closed.{IsClosed}
 use Rattle.declared_pieces.specs.FileDeclarations.{is_covered}
 use Rattle.declared_pieces.specs.Entries.{IsLive}
 use Rattle.file_listings.specs.Listed.{AreBytes}
-use Rattle.helper_rules.specs.Helpers.{failure_class, helper_piece, init_name, of, used_helpers}
-use Rattle.helper_rules.specs.Words.{bound, class_name}
+use Rattle.helper_rules.specs.Helpers.{failure_class, helper_name, helper_piece, init_name, of, used_helpers}
+use Rattle.helper_rules.specs.Words.{bound, class_name, helper}
 use Rattle.helper_rules.specs.declared.kinds.Failure.{Failure}
+use Rattle.helper_rules.specs.declared.kinds.Failure.TheVariants.{Cast as CastFails}
 use Rattle.helper_rules.specs.declared.kinds.Helper.{Helper}
 use Rattle.helper_rules.specs.declared.kinds.Helper.TheVariants as helpers
 use Rattle.helper_rules.specs.declared.kinds.Kind.TheVariants as kinds
 use Rattle.ir_mean.specs.Shows.{initializers}
 use Rattle.js_tree.specs.Terms.{Piece}
 use Rattle.declared_pieces.specs.Pieces.{piece_of_member, Block, AreBlocks, pieces_of_block, by_piece, by_helper, AreLinkedPieces}
-use Rattle.declared_pieces.specs.Used.{used_of, is_among}
+use Rattle.declared_pieces.specs.Used.{used_of, is_among, is_cast}
 use Rattle.declared_pieces.proofs.Made as made
 use Rattle.declared_pieces.specs.Running.{CanBeThrown, CanRun}
 use Rattle.object_helpers.proofs.Pieces.{of_objects, reached}
@@ -34,12 +38,16 @@ use Rattle.object_helpers.specs.Helpers.{is_object_helper}
 use Rattle.declared_pieces.specs.ProperPiecesLaws.{AreNamed}
 use Rattle.declared_pieces.proofs.Derivations.{closed}
 use Rattle.declared_pieces.specs.Reachable.{Reachable}
-use Rattle.declared_pieces.specs.Rules.{message_constructor, the_object}
+use Rattle.declared_pieces.specs.Rules.{message_constructor, the_object, class_named as class_named_by}
+use Rattle.declared_pieces.specs.PieceRulesPieces.{cast_piece}
 use Rattle.declared_pieces.proofs.Found.{OwnerOf, owner_of}
 use Rattle.declared_pieces.proofs.Classes.{class-keeps}
 use Rattle.declared_pieces.proofs.Methods.{body_keeps}
 use Rattle.sj_names.proofs.Same.{impossible}
 use Rattle.sj_names.specs.Same.{is_same_text}
+use Rattle.sj_infos.specs.declared.forms.BodyForm.TheVariants as forms
+use Rattle.sj_mangling.specs.Bindings.{class_binding}
+use Rattle.sj_mangling.specs.declared.bindings.ClassBinding.TheVariants.{IsInstance}
 use Rattle.sj_names.specs.WellKnown.{object}
 use Rattle.sj_names.specs.declared.entry_points.EntryPoint.{EntryPoint}
 use Rattle.sj_names.specs.declared.folders.SourceFile.{SourceFile}
@@ -54,7 +62,7 @@ use Rattle.sj_world.proofs.OnCycles.{among}
 use Rattle.sj_world.specs.Known.{Name, Classes, class_of}
 use Rattle.sj_world.specs.Linked.{Linked}
 use Rattle.sj_world.specs.declared.facts.Fact.{Fact}
-use Rattle.sj_world.specs.declared.facts.Fact.TheVariants.{Needed, Made}
+use Rattle.sj_world.specs.declared.facts.Fact.TheVariants.{Needed, Made, Body}
 use Rattle.worklist.proofs.Inserted.{nothing_in}
 use Rattle.sj_world.specs.Paths as climbs
 use Rattle.declared_pieces.proofs.Fields.{class_named}
@@ -162,6 +170,21 @@ module _ (entries : List EntryPoint) (files : List SourceFile) (l : Linked) (all
         constructor = (bodies.exact (message_constructor c)).1 r.1;
       }
 
+  abbrev listed : (e : EmittedMethod) → Contains all e → Contains l.facts (Body e.member)
+  listed e i = (exact (Body e.member)).1 (needed w entries all bodies e i)
+
+  -- the cast of a written class uses what throws, which is a helper with `java.lang.Object` behind it
+  cast_throws : (c : Name) → Contains written c → is_cast all c ≡ true → Contains written object × Contains p.helpers (helpers.Throws CastFails)
+  cast_throws c here h =
+      let form = cast_form w entries l.facts all bodies listed c h in
+      let k = made.present w entries a.resolved (classes_kept entries files w bytes a) c (closed w entries (Needed c) (class_named_by c (record { member = form.member; needed = (exact (Body form.member)).0 form.needed; definition = form.definition; defined = form.defined; asked = body_tells form.definition.body (forms.Cast c) form.has }))) in
+      let its = own_pieces l all ps p c k.0 k.1 in
+      let named : its.parts.class.name ≡ c = (class_found w c its.parts.class its.are.class_is).1 in
+      let q : Piece = cast_piece its.parts.class.name in
+      let among_its = cast_among its.parts (its.are.cast.1 form) in
+      let used : Contains q.uses (helper (helper_name (helpers.Throws CastFails))) = further (bound its.parts.class.name (class_binding IsInstance its.parts.class.name)) (helper (codes "$cce")) (helper (codes "$cce") ∷ []) (at_first (helper (codes "$cce")) []) in
+      (owned q (its.there q among_its) (subst (Contains written) (sym named) here) (helper (codes "$cce")) used, (p.are_helpers.exact (helpers.Throws CastFails)).1 (by_piece q (helpers.Throws CastFails) (its.in_blocks q among_its) used))
+
   pub run : CanRun w entries l.facts all its_live p.helpers written
   run = record {
     reached = holds;
@@ -169,6 +192,8 @@ module _ (entries : List EntryPoint) (files : List SourceFile) (l : Linked) (all
     are_built = λ e i here. accepted_bodies entries files w l.facts all its_live p.helpers written a bodies uses e i here (objects e i);
     closed = λ h g i u. (p.are_helpers.exact g).1 (by_helper h g ((p.are_helpers.exact h).0 i) u);
     thrown = thrown;
+    listed = listed;
+    casts = cast_throws;
   }
 
   pub all_covered : (h : Helper) → Contains p.helpers h → is_covered h ≡ true

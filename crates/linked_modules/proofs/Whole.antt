@@ -10,7 +10,7 @@ use Rattle.running_modules.proofs.Whole.{files_agree}
 use Rattle.running_modules.specs.Declared.{Spread, all_items, Declared, IsPublic, IsLawful}
 use Rattle.running_modules.specs.Placed.{RunsLast, placed}
 use Rattle.declared_modules.proofs.Whole.{modules_declare}
-use Rattle.declared_modules.specs.Spread.{spread_of, AllStand}
+use Rattle.declared_modules.specs.Spread.{spread_of, AllStand, DeclaresConstants}
 use Rattle.declared_pieces.proofs.Assembled.{laws_of}
 use Rattle.declared_pieces.proofs.Calls.{needed}
 use Rattle.declared_pieces.proofs.Derivations.{closed as closed_under}
@@ -55,7 +55,7 @@ use Rattle.declared_modules.specs.Used.{uses_in}
 use Rattle.plan_laws.proofs.Digests.{digests_have_one_length}
 use Rattle.plan_laws.proofs.Names.{ids_are_not_internal}
 use Rattle.plan_laws.specs.Laws.{AreCountable, KeepsNamesApart}
-use Rattle.running_modules.proofs.Declares.{modules_declare_in_order, item_at}
+use Rattle.running_modules.proofs.Declares.{modules_declare_in_order, modules_declare_constants, item_at}
 use Rattle.running_modules.proofs.Items.{modules_have_their_items}
 use Rattle.running_modules.proofs.There.{public_modules_are_there}
 use Rattle.running_modules.specs.Laws.{IsThere}
@@ -163,8 +163,12 @@ module _ (entries : List EntryPoint) (files : List SourceFile) (l : Linked) (all
       go (inl j) = item_in_front program runs_last.front last own_items f q.item j (item_at sha1_digest graph entries style modules files l all ps bytes a (λ g. (exact g).0) p (links.all_covered entries files l all ps bytes a bodies exact objects p written owned) valid keep is_graph is closed q f i is_in)
       go (inr e) = subst (λ (g : Name). Contains (all_items z) (placed g q.item)) e (in_last (is_in ∙ ap Some (sym e)))
 
+  -- the objects of those files are constants of classes
+  marks : DeclaresConstants z
+  marks g x qs i = modules_declare_constants sha1_digest graph entries style modules files l all ps bytes a (λ f. (exact f).0) p (links.all_covered entries files l all ps bytes a bodies exact objects p written owned) valid keep is_graph is closed there.planned there.among runs_last.front runs_last.order g x qs i
+
   declared : Declared z
-  declared = modules_declare entries files l all its_live written modules ps runs_last.front last own_items bytes a bodies p (links.lives entries files l all ps bytes a bodies exact objects p written owned) run owned (links.all_covered entries files l all ps bytes a bodies exact objects p written owned) proper.together whole all_stand
+  declared = modules_declare entries files l all its_live written modules ps runs_last.front last own_items bytes a bodies p (links.lives entries files l all ps bytes a bodies exact objects p written owned) run owned (links.all_covered entries files l all ps bytes a bodies exact objects p written owned) proper.together whole all_stand marks
 
   lawful : IsLawful z has
   lawful = record {

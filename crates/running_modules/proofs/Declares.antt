@@ -3,12 +3,14 @@ use Rattle.std.proofs.Common.{◌≡◌, ◌++◌, Bool, true, false, List, [], 
 use Rattle.std.specs.Prelude.{◌⊎◌, filter}
 use Rattle.std.specs.List.{flat_map}
 use Rattle.std.proofs.lemmas.Bool.{and_parts}
-use Rattle.std.proofs.lemmas.List.Elements.{Contains-append_left, Contains-append_right, Contains-push}
+use Rattle.std.proofs.lemmas.List.Elements.{Contains-append_left, Contains-append_right, Contains-append_cases, Contains-push}
 use Rattle.std.proofs.lemmas.Slice.Eq.{bytes_eq-Decides}
 use Rattle.closed_pieces.proofs.Forms.{in_one}
 use Rattle.declared_files.proofs.Once.{files_run_last}
 use Rattle.declared_files.proofs.Order.{files_declare_in_order}
-use Rattle.declared_files.specs.Placed.{IsInFront, in_a_file, in_this_file, DeclaresBehind}
+use Rattle.declared_files.proofs.Tops.{stands_in}
+use Rattle.declared_files.specs.Declared.{AreConstants}
+use Rattle.declared_files.specs.Placed.{placed, items_until, IsInFront, in_a_file, in_this_file, DeclaresBehind}
 use Rattle.closed_pieces.proofs.EachTyped.{in_all}
 use Rattle.closed_pieces.proofs.Fields.{class_named}
 use Rattle.closed_pieces.proofs.Order.{pieces_are_declarations}
@@ -21,7 +23,7 @@ use Rattle.helper_rules.specs.declared.kinds.Helper.{Helper}
 use Rattle.js_mean.specs.Files.{module_among, items_in, owner, running_order}
 use Rattle.js_mean.specs.Proper.{is_among, are_distinct}
 use Rattle.js_mean.specs.States.{Program}
-use Rattle.js_tree.specs.Terms.{Name, Item, const_item, object_item, let_item, expression_item, function_item, class_item, subclass_item, Piece}
+use Rattle.js_tree.specs.Terms.{Name, Property, Item, const_item, object_item, let_item, expression_item, function_item, class_item, subclass_item, Piece}
 use Rattle.js_tree.specs.declared.items.Binding.{Binding}
 use Rattle.linked_pieces.specs.Order.{AreInOrder}
 use Rattle.module_files.proofs.Found.{among_is, same_owner, use_owned}
@@ -50,7 +52,7 @@ use Rattle.sj_names.specs.EntryPoints.{AreEntries}
 use Rattle.sj_names.specs.declared.entry_points.EntryPoint.{EntryPoint}
 use Rattle.sj_names.specs.declared.folders.SourceFile.{SourceFile}
 use Rattle.sj_proper.specs.Emitted.{call_item_of}
-use Rattle.sj_split.proofs.Members.{at_first, cons_cases, into_map, into_filter}
+use Rattle.sj_split.proofs.Members.{at_first, cons_cases, into_map, from_map, into_filter, from_filter}
 use Rattle.sj_split.specs.Modules.{IsPlan, file}
 use Rattle.sj_split.specs.Orders.{Bytes, is_same}
 use Rattle.sj_split.specs.declared.plans.PlannedModule.{PlannedModule}
@@ -63,7 +65,8 @@ use Rattle.running_modules.proofs.Items.{modules_have_their_items}
 use Rattle.running_modules.proofs.Sources.{reached_files_only_declare}
 use Rattle.running_modules.proofs.Splits.{split, ClassAmong, DeclaresWith, declares_in_place, names_itself}
 use Rattle.running_modules.proofs.Superclasses.{UsesName, UsesSuperclass, superclasses_used}
-use Rattle.running_modules.specs.Laws.{ModulesDeclareInOrder}
+use Rattle.running_modules.proofs.Constants.{objects_are_constants}
+use Rattle.running_modules.specs.Laws.{ModulesDeclareInOrder, ModulesDeclareConstants}
 
 one_name : (x y : Name) → x ∷ [] ≡ y ∷ [] → x ≡ y
 one_name x y e = cc
@@ -71,6 +74,10 @@ one_name x y e = cc
 never_both : (b : Bool) → not b ≡ true → b ≡ true → ⊥
 never_both true n y = cc
 never_both false n y = cc
+
+-- a call declares no object
+no_call : (e : EntryPoint) (x : Name) (qs : List Property) → call_item_of e ≡ object_item x qs → ⊥
+no_call e x qs h = cc
 
 -- the last of names that differ is none of those before
 last_is_new : (xs : List Name) (x : Name) → are_distinct (xs ++ x ∷ []) ≡ true → Contains xs x → ⊥
@@ -220,8 +227,28 @@ module _ (digest_of : Key → Digest) (graph : Graph) (entries : List EntryPoint
       in_front_declares : (before after : List Name) (g : Name) → front ≡ before ++ g ∷ after → (mid rest : List Item) (i : Item) → items_in (module_among program g) ≡ mid ++ i ∷ rest → DeclaresBehind program before g mid i
       in_front_declares before after g e mid rest i k = file_declares before (after ++ file planned ∷ []) g (order ∙ ap (λ (fs : List Name). fs ++ file planned ∷ []) e ∙ append_assoc before (g ∷ after) (file planned ∷ [])) mid rest i (sym (only_own g (subst (λ (fs : List Name). Contains fs g) (sym e) (Contains-append_right before (g ∷ after) g (at_first g after)))) ∙ k)
 
+      -- an object that one of these files declares is the constants of a class
+      pub constants_declared : (g x : Name) (qs : List Property) → Contains (items_until program front (file planned) (own_items (file planned) ps)) (placed g (object_item x qs)) → AreConstants l.world qs
+      constants_declared g x qs i =
+          let s = stands_in program front (file planned) (own_items (file planned) ps) (map call_item_of planned.initializers) (items_at planned there) (placed g (object_item x qs)) i in
+          let r = each_runs g (subst (λ (fs : List Name). Contains fs g) (sym order) s.0) in
+          let m : PlannedModule = r.its.planned in
+          in_file m (subst (λ (is : List Item). Contains is (object_item x qs)) (items_at m r.its.among) (subst (λ (f : Name). Contains (items_in (module_among program f)) (object_item x qs)) (sym r.its.named) s.1))
+        where
+          of_piece : (f : Name) → Contains (own_items f ps) (object_item x qs) → AreConstants l.world qs
+          of_piece f j = let q = from_map item_of (filter (owned_in f) ps) (object_item x qs) j in objects_are_constants l all ps p q.item (from_filter (owned_in f) ps q.item q.among).among x qs q.is
+
+          in_file : (m : PlannedModule) → Contains (own_items (file m) ps ++ map call_item_of m.initializers) (object_item x qs) → AreConstants l.world qs
+          in_file m j = elim (Contains-append_cases (own_items (file m) ps) (map call_item_of m.initializers) (object_item x qs) j) [
+            | inl own ↦ of_piece (file m) own
+            | inr call ↦ let e = from_map call_item_of m.initializers (object_item x qs) call in absurd (no_call e.item x qs e.is)
+          ]
+
 pub modules_declare_in_order : ModulesDeclareInOrder
 modules_declare_in_order digest_of graph entries style modules files l all ps bytes a reached p covered valid keep is_graph is closed planned there front order =
     files_declare_in_order (program_of modules ps) front (file planned) (map item_of (filter (is_owned_in (file_with modules) (file planned)) ps))
     (in_front_declares digest_of graph entries style modules files l all ps bytes a reached p covered valid keep is_graph is closed planned there front order)
     (file_declares digest_of graph entries style modules files l all ps bytes a reached p covered valid keep is_graph is closed planned there front [] (file planned) order)
+
+pub modules_declare_constants : ModulesDeclareConstants
+modules_declare_constants digest_of graph entries style modules files l all ps bytes a reached p covered valid keep is_graph is closed planned there front order = constants_declared digest_of graph entries style modules files l all ps bytes a reached p covered valid keep is_graph is closed planned there front order

@@ -1,7 +1,9 @@
 pub mod There
 pub mod Items
 pub mod Sources
+pub mod Each
 pub mod Superclasses
+pub mod Constants
 pub mod Splits
 pub mod Declares
 pub use Rattle.closed_pieces.proofs.Declared

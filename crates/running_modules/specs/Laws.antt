@@ -1,13 +1,14 @@
 -- Laws of the files of the public modules of a plan, as they run.
 use Rattle.std.specs.Prelude.{◌≡◌, true, List, [], ◌∷◌, ◌++◌, Contains, map, filter}
-use Rattle.declared_files.specs.Placed.{items_until, declare}
+use Rattle.declared_files.specs.Declared.{AreConstants}
+use Rattle.declared_files.specs.Placed.{placed, items_until, declare}
 use Rattle.file_declarations.specs.Declared.{is_covered}
 use Rattle.file_listings.specs.Listed.{AreBytes}
 use Rattle.helper_rules.specs.declared.kinds.Helper.{Helper}
 use Rattle.ir_mean.specs.Shows.{initializers}
 use Rattle.js_mean.specs.Files.{module_among, items_in, running_order}
 use Rattle.js_mean.specs.Shows.{file_of}
-use Rattle.js_tree.specs.Terms.{Name, Piece}
+use Rattle.js_tree.specs.Terms.{Name, Property, object_item, Piece}
 use Rattle.module_files.specs.Files.{program_of}
 use Rattle.module_names.specs.Names.{Key, Digest}
 use Rattle.module_rules.specs.Laws.{AreClosed, IsSource}
@@ -89,3 +90,24 @@ ModulesDeclareInOrder = (digest_of : Key → Digest) (graph : Graph) (entries : 
     → (front : List Name)
     → running_order (program_of modules ps) (file planned) ≡ front ++ file planned ∷ []
     → declare (program_of modules ps) [] (items_until (program_of modules ps) front (file planned) (map item_of (filter (is_owned_in (file_with modules) (file planned)) ps))) ≡ true
+
+-- and each object that they declare is the constants of a class
+abbrev pub ModulesDeclareConstants : Type 0
+ModulesDeclareConstants = (digest_of : Key → Digest) (graph : Graph) (entries : List EntryPoint) (style : Style) (modules : List PlannedModule) (files : List SourceFile) (l : Linked) (all : List EmittedMethod) (ps : List Piece)
+    → ((file : SourceFile) → Contains files file → AreBytes file.bytes)
+    → IsAccepted entries files l.world
+    → ((f : Fact) → Contains l.facts f → Reachable l.world entries f)
+    → (p : AreLinkedPieces l all ps)
+    → ((h : Helper) → Contains p.helpers h → is_covered h ≡ true)
+    → AreEntries entries
+    → KeepsNamesApart digest_of graph entries
+    → IsGraph ps graph
+    → IsPlan digest_of graph entries style modules
+    → AreClosed modules ps
+    → (planned : PlannedModule)
+    → Contains modules planned
+    → (front : List Name)
+    → running_order (program_of modules ps) (file planned) ≡ front ++ file planned ∷ []
+    → (g x : Name) (qs : List Property)
+    → Contains (items_until (program_of modules ps) front (file planned) (map item_of (filter (is_owned_in (file_with modules) (file planned)) ps))) (placed g (object_item x qs))
+    → AreConstants l.world qs
