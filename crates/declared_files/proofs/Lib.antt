@@ -1,5 +1,5 @@
 pub mod Calls
-pub mod Kinds
+pub mod KindHelpers
 pub mod Made
 pub mod Once
 pub mod Order

@@ -7,7 +7,7 @@ use Rattle.std.proofs.lemmas.List.Elements.{Contains-append_left, Contains-appen
 use Rattle.declared_pieces.proofs.BodyUsesTested.{kind_uses, cast_kind_uses}
 use Rattle.declared_pieces.proofs.Written.{divisors_fit}
 use Rattle.class_code.proofs.Markers.{marked}
-use Rattle.declared_files.proofs.Kinds.{helpers_of}
+use Rattle.declared_files.proofs.KindHelpers.{helpers_of}
 use Rattle.declared_files.specs.Declared.{Spread, all_items, Leads, FunctionDeclared, ClassDeclared, ChainDeclared, extends_none, extends_one, MadeDeclared, StaticDeclared, KindTestDeclared, ClassTestDeclared, by_marker, by_kind, TestDeclared, of_kind, of_class, KindCastDeclared, ClassCastDeclared, CastDeclared, to_kind, to_class, Uses as UsesTop}
 use Rattle.declared_files.specs.Placed.{placed}
 use Rattle.declared_pieces.proofs.Blocks.{method_there}
@@ -72,7 +72,7 @@ use Rattle.sj_trees.specs.declared.types.IrType.TheVariants.{NoType, Class}
 use Rattle.sj_world.proofs.OnCycles.{among}
 use Rattle.sj_world.specs.Known.{Classes, class_of}
 use Rattle.sj_world.specs.Linked.{Linked}
-use Rattle.declared_modules.proofs.Kinds.{kind_is, not_hijacked}
+use Rattle.declared_modules.proofs.HijackedKinds.{kind_is, not_hijacked}
 use Rattle.declared_modules.specs.Laws.{ModulesDeclare}
 use Rattle.declared_modules.specs.Spread.{owner_of, file_or_none, spread_of, AllStand, DeclaresConstants}
 
