@@ -12,7 +12,7 @@ use Rattle.helper_rules.specs.declared.kinds.Kind.{Kind}
 use Rattle.helper_rules.specs.declared.kinds.Kind.TheVariants.{Undefined, Boolean, Char, Byte, Short, Int, Long, Text}
 use Rattle.helper_rules.specs.Helpers.{kind_zero, kind_word, unboxed, cast_failure, unboxed_or_throw, cast_of}
 use Rattle.helper_rules.specs.Words.{is_name, is_null, call1, x}
-use Rattle.class_tests.specs.Kinds.{is_of, test_code, BoxesStand}
+use Rattle.class_tests.specs.Kinds.{test_code, BoxesStand}
 use Rattle.class_tests.proofs.Telling.{tests_tell}
 use Rattle.class_tests.proofs.Smallest.{small_tests_tell}
 use Rattle.class_casts.specs.Kinds.{passes, zero_value, unboxed_value, cast_code, throwing_name, failed, CastStands, CastsTell}

@@ -65,9 +65,9 @@ no_small c free z = λ i. (apart_named c (codes "java.lang.Byte") free refl i &&
 
 -- every value suits a class at whose type objects stand
 class_suits : (c : List ℕ) → is_bare (Class c) ≡ false → (v : ir.Value) → suits (Class c) v ≡ true
-class_suits c open (ir.char n) = ap not open
-class_suits c open (ir.reference i) = ap not open
-class_suits c open _ = refl
+class_suits c wide (ir.char n) = ap not wide
+class_suits c wide (ir.reference i) = ap not wide
+class_suits c wide _ = refl
 
 worded_told : (k : Kind) → is_worded k ≡ true → is_told k ≡ true
 worded_told kinds.Byte h = impossible h
@@ -209,7 +209,7 @@ module _ (p : Place) (plain : IsPlain p.classes) (w : World) (s : ir.State) (u :
       by_ir = t.by_ir;
       suits_it = λ h. class_suits c (class-open c free) v;
       without = stood x 0;
-      within_one = ⊎_elim (λ g. inl (stood x 1 ∙ g)) (λ h. inr (stood x 1 ∙ h)) (one_unit file c ks x t.marked uses_stand t.has_it jthere);
+      within_one = subst (λ o. (o ≡ going) ⊎ (o ≡ done (js.gives (js.boolean (class_told u (boxes p) ks x t.marked)) u))) (sym (stood x 1)) (one_unit file c ks x t.marked uses_stand t.has_it jthere);
       whole = λ m. stood x (suc (suc m)) ∙ class_tests_tell p.program m file (boxes p) u c ks x t.marked uses_stand t.has_it;
     }
 
