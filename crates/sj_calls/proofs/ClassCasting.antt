@@ -1,6 +1,6 @@
 -- The casts to classes: each gives null, and a value of which the test of the class is true as it is.
 use Rattle.std.proofs.Common.{◌≡◌, ℕ, suc, ◌≤◌, Bool, true, false, List, [], ◌∷◌, Option, Some, refl, sym, ap, ◌∙◌, subst, if◌then◌else◌}
-use Rattle.outcomes.specs.Outcome.{Out, done, going}
+use Rattle.outcomes.specs.Outcome.{Out, done}
 use Rattle.outcomes.specs.Agreement.{Direction, forward, backward, Sim}
 use Rattle.outcomes.proofs.Simulation.{sim_done, sim_going, sim_weaken}
 use Rattle.class_casts.proofs.Classed.{class_casts_tell}

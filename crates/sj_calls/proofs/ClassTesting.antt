@@ -15,7 +15,6 @@ use Rattle.class_casts.proofs.Marked.{class_tests_tell, null_is_no_instance}
 use Rattle.class_casts.proofs.Shortly.{test_goes}
 use Rattle.class_casts.proofs.Worldly.{test_tells}
 use Rattle.class_casts.specs.ClassTestsKinds.{is_of, is_told}
-use Rattle.class_casts.specs.Classes.{hijacked_test_code}
 use Rattle.class_casts.specs.Hijacked.{number_in}
 use Rattle.class_casts.specs.Instances.{is_worded}
 use Rattle.class_casts.specs.Kinds.{KindTestStands, passes}
