@@ -161,9 +161,9 @@ module _ (p : Place) (plain : IsPlain p.classes) (ordered : IsSubtyping (IsSub p
   casts_at f is_mutable t can forward n zero levels h = let e = has.beyond in absurd (omega (arith, e, h))
   casts_at f is_mutable t can backward n zero levels h = λ w v x env s u a same. subst (λ q. Sim backward (Valued p w env t) (ir_meaning.answered p.classes (ir_meaning.below p.classes n) (ir_meaning.cast_answer p.classes t s v) env s) q) (sym (ap (λ c. js_meaning.code_call (js_meaning.below p.program 0) (p.home (a_cast t)) c (x ∷ []) u) can.cast)) (sim_going (Valued p w env t) (ir_meaning.answered p.classes (ir_meaning.below p.classes n) (ir_meaning.cast_answer p.classes t s v) env s))
 
-  -- a test or a cast of a class, with the units that its test takes
+  -- the cast of a class takes three units: itself, its test, and the test of a kind
   class_room : (d : Direction) (n k : ℕ) → Enough p.room p.room.each d n k → d ≡ forward → 3 ≤ k
-  class_room forward n k h e = let b = has.each in omega (arith, b, h)
+  class_room forward n k h e = let a = has.each in let b = has.beyond in omega (arith, a, b, h)
   class_room backward n k h e = absurd (cc)
 
   test_room : (d : Direction) (n m : ℕ) → Enough p.room p.room.each d n (suc m) → d ≡ forward → 2 ≤ m

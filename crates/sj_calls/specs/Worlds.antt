@@ -109,7 +109,7 @@ pub record StaticStands (p : Place) (c f : List ℕ) (t : IrType) : Type 0 where
   pub sets : js_meaning.code_of p.program (p.home (a_setter c f t)) (setter_name c f) ≡ Some (setter_code c f)
   pub owned : owner p.program (p.home (a_setter c f t)) (static_name c f) ≡ Some (p.home (a_setter c f t))
 
--- what the code of any file can use is there, and what a call of a public member runs is its target; no object is made of a hijacked class; and around a call there are three units, for the cast of a class with its test and that of a kind, and one beyond those of the IR
+-- what the code of any file can use is there, and what a call of a public member runs is its target; no object is made of a hijacked class; and around a call there are two units for a helper, and one beyond those of the IR: the cast of a class takes all three, for itself, its test and that of a kind
 pub record HasObjects (p : Place) : Type 0 where
   pub linked : (f : Name) (m : Member) → (p.has f).linked m ≡ true → Linked p m
   pub received : (f : Name) (m : Member) → (p.has f).received m ≡ true → RunsOn p m
@@ -125,5 +125,5 @@ pub record HasObjects (p : Place) : Type 0 where
   pub tested : (f : Name) (t : IrType) → (p.has f).tests t ≡ true → Tested p t
   pub cast : (f : Name) (t : IrType) → (p.has f).casts t ≡ true → Casted p t
   pub compared : (f : Name) → compares (p.has f) ≡ true → CanCompare p
-  pub each : 3 ≤ p.room.each
+  pub each : 2 ≤ p.room.each
   pub beyond : 1 ≤ p.room.beyond
