@@ -10,8 +10,8 @@ use Rattle.helper_rules.specs.declared.kinds.Kind.TheVariants.{Undefined, Boolea
 use Rattle.helper_rules.specs.Words.{is_name, call1, units_of, x}
 use Rattle.piece_rules.specs.Pieces.{kind_test, is_instance, null_or_instance, cast_value}
 use Rattle.class_tests.specs.Kinds.{test_code}
-use Rattle.class_casts.specs.Kinds.{passes, throwing_name, failed}
-use Rattle.class_casts.specs.Classes.{class_cast_code, class_test_name, ClassCastStands, ClassCastsTell, hijacked_test_code, HijackedCastStands, HijackedCastsTell}
+use Rattle.class_casts.specs.Kinds.{passes, throwing_name, failed, KindTestStands}
+use Rattle.class_casts.specs.Classes.{class_cast_code, class_test_name, ClassCastStands, ClassCastsTell, hijacked_test_code, HijackedCastsTell}
 use Rattle.class_casts.proofs.Kinded.{differs_from_null, choice_comes, call_on_x, throw_comes, test_passes}
 
 module _ (p : Program) (n : ℕ) (g : Name) (s : State) (c : Name) (v : Value) (st : ClassCastStands p g s c) (other : v ≢ null) where
@@ -48,17 +48,17 @@ hijacked_name_free g k v Int = refl
 hijacked_name_free g k v Long = refl
 hijacked_name_free g k v Text = refl
 
-module _ (p : Program) (n : ℕ) (g : Name) (boxes : List ClassLink) (s : State) (c : Name) (k : Kind) (v : Value) (st : HijackedCastStands p g boxes s c k) where
+module _ (p : Program) (n : ℕ) (home : Name) (boxes : List ClassLink) (s : State) (c : Name) (k : Kind) (v : Value) (test_is : code_of p home (class_test_name c) ≡ Some (hijacked_test_code k)) (tested : KindTestStands p home boxes s k) where
   -- the test of a hijacked class calls that of its kind
-  pub hijacked_asks : code_call (below p (suc n)) st.cast.test_home (code_of p st.cast.test_home (class_test_name c)) (v ∷ []) s ≡ code_call (below p n) st.tested.home (Some (test_code k)) (v ∷ []) s
+  pub hijacked_asks : code_call (below p (suc n)) home (code_of p home (class_test_name c)) (v ∷ []) s ≡ code_call (below p n) tested.home (Some (test_code k)) (v ∷ []) s
   hijacked_asks =
-      ap (λ (o : Option Code). code_call (below p (suc n)) st.cast.test_home o (v ∷ []) s) st.test_is
-      ∙ return_hands_on p (below p n) (kind_test k) no_statements (function_scope st.cast.test_home (hijacked_test_code k) (v ∷ [])) s
-      ∙ call_on_x p (below p n) (is_name k) st.tested.home v (function_scope st.cast.test_home (hijacked_test_code k) (v ∷ [])) s (hijacked_name_free st.cast.test_home k v k) refl st.tested.test
-      ∙ ap (λ (o : Option Code). code_call (below p n) st.tested.home o (v ∷ []) s) st.tested.test_is
+      ap (λ (o : Option Code). code_call (below p (suc n)) home o (v ∷ []) s) test_is
+      ∙ return_hands_on p (below p n) (kind_test k) no_statements (function_scope home (hijacked_test_code k) (v ∷ [])) s
+      ∙ call_on_x p (below p n) (is_name k) tested.home v (function_scope home (hijacked_test_code k) (v ∷ [])) s (hijacked_name_free home k v k) refl tested.test
+      ∙ ap (λ (o : Option Code). code_call (below p n) tested.home o (v ∷ []) s) tested.test_is
 
 pub hijacked_casts_tell : HijackedCastsTell
-hijacked_casts_tell p n g boxes s c k v st other = decided p (suc (suc n)) g s c v st.cast other (passes s boxes k v) (hijacked_asks p (suc n) g boxes s c k v st ∙ test_passes p n st.tested.home boxes s k v st.tested.boxes_stand)
+hijacked_casts_tell p n g boxes s c k v st other = decided p (suc (suc n)) g s c v st.cast other (passes s boxes k v) (hijacked_asks p (suc n) st.cast.test_home boxes s c k v st.test_is st.tested ∙ test_passes p n st.tested.home boxes s k v st.tested.boxes_stand)
 
 pub class_casts_tell : ClassCastsTell
 class_casts_tell = record {

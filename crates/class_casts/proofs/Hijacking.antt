@@ -76,21 +76,21 @@ module _ (w : Classes) (plain : IsPlain w) (h : Name) (hijacked : is_hijacked h 
   below_it c _ stay e = e
   below_it c _ (on b d path step) e = absurd (no_child b (subst (λ (x : Name). IsParent w b x) e step))
 
-  alone : (c : Name) → IsAncestor w c h → c ≡ h
+  pub alone : (c : Name) → IsAncestor w c h → c ≡ h
   alone c a = go a.way
     where
       go : Way w c h → c ≡ h
       go (by_path path) = below_it c h path refl
       go (is_object e) = absurd (not_object e)
 
-  itself : IsAncestor w h h
+  pub itself : IsAncestor w h h
   itself = record { known = ap (λ (b : Bool). is_some (class_of w h) || b) hijacked ∙ or_true (is_some (class_of w h)); way = by_path stay }
     where
       or_true : (a : Bool) → (a || true) ≡ true
       or_true true = refl
       or_true false = refl
 
-kind_hijacked : (k : Kind) → is_hijacked (kind_class k) ≡ true
+pub kind_hijacked : (k : Kind) → is_hijacked (kind_class k) ≡ true
 kind_hijacked Undefined = refl
 kind_hijacked Boolean = refl
 kind_hijacked Char = refl
@@ -123,7 +123,7 @@ passes_told s boxes Int v told = refl
 passes_told s boxes Long v told = refl
 passes_told s boxes Text v told = refl
 
-object_fails : (s : State) (boxes : List ClassLink) (k : Kind) (a : ℕ) → is_box s boxes (object a) ≡ false → passes s boxes k (object a) ≡ false
+pub object_fails : (s : State) (boxes : List ClassLink) (k : Kind) (a : ℕ) → is_box s boxes (object a) ≡ false → passes s boxes k (object a) ≡ false
 object_fails s boxes Undefined a e = refl
 object_fails s boxes Boolean a e = refl
 object_fails s boxes Char a e = e
@@ -170,7 +170,7 @@ module _ (w : Classes) (plain : IsPlain w) (s : State) (boxes : List ClassLink) 
   same_is k v e = inl (subst (λ (z : Kind). IsAncestor w (kind_class j) (kind_class z)) e (itself w plain (kind_class j) (kind_hijacked j)))
 
   -- what passes is an instance
-  passed_is : (k : Kind) (v : Value) → is_of s boxes j v ≡ true → passes s boxes k v ≡ true → Instance k v
+  pub passed_is : (k : Kind) (v : Value) → is_of s boxes j v ≡ true → passes s boxes k v ≡ true → Instance k v
   passed_is Undefined v of_j e = same_is Undefined v (one_kind s boxes v j Undefined of_j e)
   passed_is Boolean v of_j e = same_is Boolean v (one_kind s boxes v j Boolean of_j e)
   passed_is Char v of_j e = same_is Char v (one_kind s boxes v j Char of_j e)
@@ -206,7 +206,7 @@ module _ (w : Classes) (plain : IsPlain w) (s : State) (boxes : List ClassLink) 
   small_passes k z (inl b) = subst (λ (i : Kind). passes s boxes i (number z) ≡ true) (same_kind Byte k (sym b.class_is)) (passes_byte s boxes z (kind_class k) b)
   small_passes k z (inr b) = subst (λ (i : Kind). passes s boxes i (number z) ≡ true) (same_kind Short k (sym b.class_is)) (passes_short s boxes z (kind_class k) b)
 
-  is_passed : (k : Kind) (v : Value) → is_of s boxes j v ≡ true → Instance k v → passes s boxes k v ≡ true
+  pub is_passed : (k : Kind) (v : Value) → is_of s boxes j v ≡ true → Instance k v → passes s boxes k v ≡ true
   is_passed k v of_j (inl a) = same_passes k v of_j (same_kind j k (alone w plain (kind_class k) (kind_hijacked k) (kind_class j) a))
   is_passed k undefined of_j (inr small) = absurd small
   is_passed k null of_j (inr small) = absurd small

@@ -12,8 +12,7 @@ use Rattle.helper_rules.specs.declared.kinds.Kind.{Kind}
 use Rattle.helper_rules.specs.declared.kinds.Kind.TheVariants.{Undefined, Boolean, Char, Byte, Short, Int, Long, Text}
 use Rattle.helper_rules.specs.Helpers.{kind_zero, kind_word, unboxed, cast_failure, unboxed_or_throw, cast_of}
 use Rattle.helper_rules.specs.Words.{is_name, is_null, call1, x}
-use Rattle.class_tests.specs.Kinds.{is_of, test_code, BoxesStand}
-use Rattle.class_tests.specs.Instances.{is_worded}
+use Rattle.class_tests.specs.Kinds.{test_code, BoxesStand}
 use Rattle.class_tests.proofs.Telling.{tests_tell}
 use Rattle.class_tests.proofs.Smallest.{small_tests_tell}
 use Rattle.class_casts.specs.Kinds.{passes, zero_value, unboxed_value, cast_code, throwing_name, failed, CastStands, CastsTell}
@@ -48,70 +47,15 @@ module _ (p : Program) where
   pub throw_comes : (low : Low) (home : Name) (us : List ℕ) (sc : Scope) (s : State) → sc.bindings throwing_name ≡ absent → IsTopFunction p sc.file throwing_name home s → evaluate p low (call1 throwing_name (text_literal us)) sc s ≡ code_call low home (code_of p home throwing_name) (text us ∷ []) s
   throw_comes low home us sc s free top = call_given p low throwing_name home top.const (expression (text_literal us) no_expressions) sc s free top.cell_is
 
-  worded_tells : (n : ℕ) (g : Name) (boxes : List ClassLink) (s : State) (k : Kind) (v : Value) → is_worded k ≡ true → code_call (below p (suc n)) g (Some (test_code k)) (v ∷ []) s ≡ done (gives (boolean (is_of s boxes k v)) s)
-  worded_tells n g boxes s Undefined undefined e = refl
-  worded_tells n g boxes s Undefined null e = refl
-  worded_tells n g boxes s Undefined (boolean b) e = refl
-  worded_tells n g boxes s Undefined (number z) e = refl
-  worded_tells n g boxes s Undefined (big_int z) e = refl
-  worded_tells n g boxes s Undefined (text us) e = refl
-  worded_tells n g boxes s Undefined (object a) e = refl
-  worded_tells n g boxes s Undefined (function f y) e = refl
-  worded_tells n g boxes s Undefined (class ls) e = refl
-  worded_tells n g boxes s Undefined (method ls y) e = refl
-  worded_tells n g boxes s Boolean undefined e = refl
-  worded_tells n g boxes s Boolean null e = refl
-  worded_tells n g boxes s Boolean (boolean b) e = refl
-  worded_tells n g boxes s Boolean (number z) e = refl
-  worded_tells n g boxes s Boolean (big_int z) e = refl
-  worded_tells n g boxes s Boolean (text us) e = refl
-  worded_tells n g boxes s Boolean (object a) e = refl
-  worded_tells n g boxes s Boolean (function f y) e = refl
-  worded_tells n g boxes s Boolean (class ls) e = refl
-  worded_tells n g boxes s Boolean (method ls y) e = refl
-  worded_tells n g boxes s Char v e = cc
-  worded_tells n g boxes s Byte v e = cc
-  worded_tells n g boxes s Short v e = cc
-  worded_tells n g boxes s Int undefined e = refl
-  worded_tells n g boxes s Int null e = refl
-  worded_tells n g boxes s Int (boolean b) e = refl
-  worded_tells n g boxes s Int (number z) e = refl
-  worded_tells n g boxes s Int (big_int z) e = refl
-  worded_tells n g boxes s Int (text us) e = refl
-  worded_tells n g boxes s Int (object a) e = refl
-  worded_tells n g boxes s Int (function f y) e = refl
-  worded_tells n g boxes s Int (class ls) e = refl
-  worded_tells n g boxes s Int (method ls y) e = refl
-  worded_tells n g boxes s Long undefined e = refl
-  worded_tells n g boxes s Long null e = refl
-  worded_tells n g boxes s Long (boolean b) e = refl
-  worded_tells n g boxes s Long (number z) e = refl
-  worded_tells n g boxes s Long (big_int z) e = refl
-  worded_tells n g boxes s Long (text us) e = refl
-  worded_tells n g boxes s Long (object a) e = refl
-  worded_tells n g boxes s Long (function f y) e = refl
-  worded_tells n g boxes s Long (class ls) e = refl
-  worded_tells n g boxes s Long (method ls y) e = refl
-  worded_tells n g boxes s Text undefined e = refl
-  worded_tells n g boxes s Text null e = refl
-  worded_tells n g boxes s Text (boolean b) e = refl
-  worded_tells n g boxes s Text (number z) e = refl
-  worded_tells n g boxes s Text (big_int z) e = refl
-  worded_tells n g boxes s Text (text us) e = refl
-  worded_tells n g boxes s Text (object a) e = refl
-  worded_tells n g boxes s Text (function f y) e = refl
-  worded_tells n g boxes s Text (class ls) e = refl
-  worded_tells n g boxes s Text (method ls y) e = refl
-
   pub test_passes : (n : ℕ) (g : Name) (boxes : List ClassLink) (s : State) (k : Kind) (v : Value) → (k ≡ Char → BoxesStand p g boxes s) → code_call (below p (suc n)) g (Some (test_code k)) (v ∷ []) s ≡ done (gives (boolean (passes s boxes k v)) s)
-  test_passes n g boxes s Undefined v stand = worded_tells n g boxes s Undefined v refl
-  test_passes n g boxes s Boolean v stand = worded_tells n g boxes s Boolean v refl
-  test_passes n g boxes s Char v stand = tests_tell p n g boxes s Char v refl (stand refl)
+  test_passes n g boxes s Undefined v stand = tests_tell p n g boxes s Undefined v refl stand
+  test_passes n g boxes s Boolean v stand = tests_tell p n g boxes s Boolean v refl stand
+  test_passes n g boxes s Char v stand = tests_tell p n g boxes s Char v refl stand
   test_passes n g boxes s Byte v stand = small_tests_tell.byte p n g s v
   test_passes n g boxes s Short v stand = small_tests_tell.short p n g s v
-  test_passes n g boxes s Int v stand = worded_tells n g boxes s Int v refl
-  test_passes n g boxes s Long v stand = worded_tells n g boxes s Long v refl
-  test_passes n g boxes s Text v stand = worded_tells n g boxes s Text v refl
+  test_passes n g boxes s Int v stand = tests_tell p n g boxes s Int v refl stand
+  test_passes n g boxes s Long v stand = tests_tell p n g boxes s Long v refl stand
+  test_passes n g boxes s Text v stand = tests_tell p n g boxes s Text v refl stand
 
   x_comes : (low : Low) (sc : Scope) (s : State) (v u : Value) → sc.bindings (codes "x") ≡ holds false v → Some v ≡ Some u → evaluate p low x sc s ≡ done (gives u s)
   x_comes low sc s v u held e = let same : v ≡ u = cc in name_held p (codes "x") false v sc s held ∙ ap (λ (w : Value). done (gives w s)) same
@@ -138,7 +82,7 @@ test_name_free g k v Int = refl
 test_name_free g k v Long = refl
 test_name_free g k v Text = refl
 
-null_fails : (s : State) (boxes : List ClassLink) (k : Kind) → passes s boxes k null ≡ false
+pub null_fails : (s : State) (boxes : List ClassLink) (k : Kind) → passes s boxes k null ≡ false
 null_fails s boxes Undefined = refl
 null_fails s boxes Boolean = refl
 null_fails s boxes Char = refl

@@ -5,4 +5,6 @@ pub mod Shortly
 pub mod Spelled
 pub mod Worldly
 pub use Rattle.class_tests.proofs.Bridge
+pub use Rattle.class_tests.proofs.Instanced
+pub use Rattle.class_tests.proofs.Marked
 pub use Rattle.class_tests.proofs.Smallest

@@ -42,7 +42,7 @@ module _ (p : Program) (g : Name) (boxes : List ClassLink) (s : State) (c : Name
   joined_goes e [] h = h
   joined_goes e (j ∷ js) h = joined_goes (either e (kind_test j)) js (either_goes e (kind_test j) h)
 
-  test_goes : TestStands p g boxes s k → v ≢ null → code_call (below p 1) g (Some (class_test_code c (k ∷ ks))) (v ∷ []) s ≡ going
+  pub test_goes : TestStands p g boxes s k → v ≢ null → code_call (below p 1) g (Some (class_test_code c (k ∷ ks))) (v ∷ []) s ≡ going
   test_goes st other =
       return_hands_on p (below p 0) (instance_test c (k ∷ ks) None) no_statements sc s
       ∙ ap (λ (b : Bool). both_of (evaluate p (below p 0) (any_of (k ∷ ks) (has_marker c))) (boolean (not b)) sc s) (differs_from_null v other)
@@ -66,5 +66,5 @@ short_casts_go = record {
   class_within_1 = λ p g boxes s c kinds v st other. goes p 0 g s c v st.cast other (ap (λ (o : Option Code). code_call (below p 0) st.cast.test_home o (v ∷ []) s) st.test_is);
   of_class = λ p g boxes s c kinds v st other. test_short p g boxes s c kinds v st other;
   hijacked_within_1 = λ p g boxes s c k v st other. goes p 0 g s c v st.cast other (ap (λ (o : Option Code). code_call (below p 0) st.cast.test_home o (v ∷ []) s) st.test_is);
-  of_hijacked = λ p g boxes s c k v st other. goes p 1 g s c v st.cast other (hijacked_asks p 0 g boxes s c k v st);
+  of_hijacked = λ p g boxes s c k v st other. goes p 1 g s c v st.cast other (hijacked_asks p 0 st.cast.test_home boxes s c k v st.test_is st.tested);
 }

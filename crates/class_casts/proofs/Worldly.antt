@@ -104,7 +104,7 @@ module _ (p : Program) (n : ℕ) (g : Name) (s : State) (c : Name) where
   marker_tells v b (on_big_int z) = refl
   marker_tells v b (on_text us) = refl
 
-test_tells : (p : Program) (n : ℕ) (g : Name) (boxes : List ClassLink) (s : State) (c : Name) (kinds : List Kind) (v : Value) (b : Bool) → TestsStand p g boxes s kinds → HasMarker p s c v b → code_call (below p (test_units kinds + n)) g (Some (class_test_code c kinds)) (v ∷ []) s ≡ done (gives (boolean (class_told s boxes kinds v b)) s)
+pub test_tells : (p : Program) (n : ℕ) (g : Name) (boxes : List ClassLink) (s : State) (c : Name) (kinds : List Kind) (v : Value) (b : Bool) → TestsStand p g boxes s kinds → HasMarker p s c v b → code_call (below p (test_units kinds + n)) g (Some (class_test_code c kinds)) (v ∷ []) s ≡ done (gives (boolean (class_told s boxes kinds v b)) s)
 test_tells p n g boxes s c [] v b tests has_it = let more : 1 + n ≡ suc n = omega arith in ap (λ (m : ℕ). code_call (below p m) g (Some (class_test_code c [])) (v ∷ []) s) more ∙ marker_tells p n g s c v b has_it
 test_tells p n g boxes s c (k ∷ ks) v b tests has_it = let more : 2 + n ≡ suc (suc n) = omega arith in ap (λ (m : ℕ). code_call (below p m) g (Some (class_test_code c (k ∷ ks))) (v ∷ []) s) more ∙ class_tests_tell p n g boxes s c (k ∷ ks) v b tests has_it
 

@@ -5,4 +5,6 @@ pub mod Kinds
 pub mod Shorts
 pub mod Worked
 pub mod Worlds
+pub use Rattle.class_tests.specs.Instances
 pub use Rattle.class_tests.specs.Kinds as ClassTestsKinds
+pub use Rattle.class_tests.specs.Tests

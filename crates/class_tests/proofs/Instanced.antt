@@ -44,7 +44,7 @@ worded_at [] i k all e = cc
 worded_at (j ∷ ks) zero k all e = let same : j ≡ k = cc in subst (λ (z : Kind). is_worded z ≡ true) same (and_parts (is_worded j) (list_all is_worded ks) all).0
 worded_at (j ∷ ks) (suc i) k all e = worded_at ks i k (and_parts (is_worded j) (list_all is_worded ks) all).1 e
 
-worded_among : (k : Kind) → Contains worded_kinds k → is_worded k ≡ true
+pub worded_among : (k : Kind) → Contains worded_kinds k → is_worded k ≡ true
 worded_among k h = worded_at worded_kinds h.0 k refl (stands_at worded_kinds k h)
 
 module _ (w : Classes) (c : Name) (s : State) (boxes : List ClassLink) where

@@ -111,17 +111,17 @@ module _ (p : Program) where
     char_tells : (v : Value) → BoxesStand p g boxes s → comes_to Char v (is_of s boxes Char v)
     char_tells v stand = ap (λ (o : Out ExpressionEnd). then_do o (with_value (λ k. instance (v ∷ k ∷ []) (scope_of Char v)))) (ap (λ (c : Cell). cell_value c s) stand.cell_is) ∙ box_of v (scope_of Char v)
 
-    tells : (k : Kind) (v : Value) → is_told k ≡ true → BoxesStand p g boxes s → comes_to k v (is_of s boxes k v)
+    tells : (k : Kind) (v : Value) → is_told k ≡ true → (k ≡ Char → BoxesStand p g boxes s) → comes_to k v (is_of s boxes k v)
     tells Undefined v among stand = undefined_tells v
     tells Boolean v among stand = boolean_tells v
-    tells Char v among stand = char_tells v stand
+    tells Char v among stand = char_tells v (stand refl)
     tells Int v among stand = int_tells v
     tells Long v among stand = long_tells v
     tells Text v among stand = text_tells v
     tells Byte v among stand = cc
     tells Short v among stand = cc
 
-  test_runs : (n : ℕ) (g : Name) (boxes : List ClassLink) (s : State) (k : Kind) (v : Value) → is_told k ≡ true → BoxesStand p g boxes s → code_call (below p (suc n)) g (Some (test_code k)) (v ∷ []) s ≡ done (gives (boolean (is_of s boxes k v)) s)
+  test_runs : (n : ℕ) (g : Name) (boxes : List ClassLink) (s : State) (k : Kind) (v : Value) → is_told k ≡ true → (k ≡ Char → BoxesStand p g boxes s) → code_call (below p (suc n)) g (Some (test_code k)) (v ∷ []) s ≡ done (gives (boolean (is_of s boxes k v)) s)
   test_runs n g boxes s k v among stand = return_hands_on p (below p n) (kind_condition k) no_statements (function_scope g (test_code k) (v ∷ [])) s ∙ tells n g boxes s k v among stand
 
   abbrev ret : Scope → ExpressionEnd → Out StatementEnd

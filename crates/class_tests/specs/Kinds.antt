@@ -47,9 +47,9 @@ pub record BoxesStand (p : Program) (g : Name) (boxes : List ClassLink) (s : Sta
   pub const : Bool
   pub cell_is : top_cell (owner p g (codes "$C")) (codes "$C") s ≡ holds const (class boxes)
 
--- `$isX` costs one unit, and tells whether its value is of the kind
+-- `$isX` costs one unit, and tells whether its value is of the kind; that of chars asks for their class
 abbrev pub TestsTell : Type 0
-TestsTell = (p : Program) (n : ℕ) (g : Name) (boxes : List ClassLink) (s : State) (k : Kind) (v : Value) → is_told k ≡ true → BoxesStand p g boxes s → code_call (below p (suc n)) g (Some (test_code k)) (v ∷ []) s ≡ done (gives (boolean (is_of s boxes k v)) s)
+TestsTell = (p : Program) (n : ℕ) (g : Name) (boxes : List ClassLink) (s : State) (k : Kind) (v : Value) → is_told k ≡ true → (k ≡ Char → BoxesStand p g boxes s) → code_call (below p (suc n)) g (Some (test_code k)) (v ∷ []) s ≡ done (gives (boolean (is_of s boxes k v)) s)
 
 -- what a case of a dispatch uses: the test of its kind, and the function that it calls
 pub record CaseStands (p : Program) (g : Name) (home : Name → Name) (boxes : List ClassLink) (m : MethodName) (s : State) (t : Told) : Type 0 where
@@ -57,7 +57,7 @@ pub record CaseStands (p : Program) (g : Name) (home : Name → Name) (boxes : L
   pub kind_told : is_told t.kind ≡ true
   pub test : IsTopFunction p g (is_name t.kind) test_home s
   pub test_is : code_of p test_home (is_name t.kind) ≡ Some (test_code t.kind)
-  pub boxes_stand : BoxesStand p test_home boxes s
+  pub boxes_stand : t.kind ≡ Char → BoxesStand p test_home boxes s
   pub called : IsTopFunction p g (public_function t.owner m) (home t.owner) s
 
 pub data CasesStand (p : Program) (g : Name) (home : Name → Name) (boxes : List ClassLink) (m : MethodName) (s : State) : List Told → Type 0 where

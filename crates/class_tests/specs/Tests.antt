@@ -11,6 +11,7 @@ use Rattle.js_mean.specs.Meaning.{Code, below, code_of, code_call}
 use Rattle.file_tops.specs.Tops.{literal_properties}
 use Rattle.class_code.specs.Bridges.{IsTopFunction}
 use Rattle.helper_rules.specs.declared.kinds.Kind.{Kind}
+use Rattle.helper_rules.specs.declared.kinds.Kind.TheVariants.{Char}
 use Rattle.helper_rules.specs.Words.{is_name, marker, only_return}
 use Rattle.helper_rules.specs.Helpers.{constants}
 use Rattle.piece_rules.specs.Pieces.{instance_test}
@@ -35,7 +36,7 @@ pub record TestStands (p : Program) (g : Name) (boxes : List ClassLink) (s : Sta
   pub kind_told : is_told k ≡ true
   pub test : IsTopFunction p g (is_name k) home s
   pub test_is : code_of p home (is_name k) ≡ Some (test_code k)
-  pub boxes_stand : BoxesStand p home boxes s
+  pub boxes_stand : k ≡ Char → BoxesStand p home boxes s
 
 pub data TestsStand (p : Program) (g : Name) (boxes : List ClassLink) (s : State) : List Kind → Type 0 where
   tests_none : TestsStand p g boxes s []

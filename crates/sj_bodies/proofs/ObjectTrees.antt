@@ -22,6 +22,7 @@ use Rattle.sj_names.proofs.Same.{impossible}
 use Rattle.sj_names.specs.declared.method_names.MethodName.{MethodName}
 use Rattle.sj_names.specs.declared.method_names.Namespace.{Namespace}
 use Rattle.sj_names.specs.declared.method_names.Namespace.TheVariants.{Constructor}
+use Rattle.sj_world.specs.Known.{is_hijacked}
 use Rattle.sj_trees.specs.Term.{Term, Terms, assign, apply_statically, new_object, select, throw, this_ref}
 use Rattle.sj_trees.specs.TypeOf.{type_of_term}
 use Rattle.sj_trees.specs.Types.{class_type}
@@ -29,7 +30,7 @@ use Rattle.sj_trees.specs.declared.positions.Position.{Position}
 use Rattle.sj_trees.specs.declared.types.IrType.{IrType}
 use Rattle.sj_trees.specs.declared.types.IrType.TheVariants.{Any, Nothing, NoType}
 use Rattle.sure_receivers.specs.Sure.{is_sure}
-use Rattle.body_rules.specs.Standing.{is_bare, Fits, types_referred, call_type}
+use Rattle.body_rules.specs.Standing.{Fits, types_referred, call_type}
 use Rattle.sj_plain.specs.Settings.{Setting, shown, SameState, Valued, Lawful, Inside, Receiving, no_receiver, on_receiver, Sees, usable}
 use Rattle.sj_plain.proofs.Objects.{null_act, select_alike, setter_text, static_set_alike, field_written, new_alike, received_call_alike, checked_alike}
 use Rattle.sj_plain.proofs.Told.{tells}
@@ -134,8 +135,8 @@ module _ (z : Setting) (lawful : Lawful z) (low : LowAlike z) where
       given _ _ w env s sc u inside (more_operands own q g _ _ _ told one no_operands) same = select_alike z lawful.base w env s sc u own q g d f t (lawful.base.fields d f t has).field (more_operands own q g [] [] [] told one no_operands) same
 
   -- a new object
-  pub new_does : (p : Position) (c : Context) (k : Destination) (j : ℕ) (d : List ℕ) (m : MethodName) (ts : Terms) → Sound z.is_mutable c → Ahead c j → Writes c.writable k → FitsIn (usable z) k (class_type d) → (usable z).built (member d Constructor m) ≡ true → (usable z).made d ≡ true → is_bare (class_type d) ≡ false → StandForAll z (types_referred m.params) (types_of ts) → OperandsDo z lawful c j (list_of z lawful low c.targets ts) → Does z lawful c k j (new_object p d m ts)
-  new_does p c k j d m ts sound ahead wr fits built made bare fit ds w env s sc u r same = subst (λ os. Ends z lawful c c.scope k w sc (ir_meaning.in_order (ir_meaning.operands z.place.classes z.low ts) act env s) (then_use (spill os j) (λ es. finish k p (class_type d) false (text es))).statements sc u) (sym (operands-list z lawful low c.targets ts)) (subst (λ rs. Ends z lawful c c.scope k w sc (ir_meaning.in_order rs act env s) (then_use (spill (operands_in z lawful (list_of z lawful low c.targets ts)) j) (λ es. finish k p (class_type d) false (text es))).statements sc u) (sym (runs-list z lawful low c.targets ts)) (expression_does c k j (list_of z lawful low c.targets ts) (class_type d) p act text sound ahead wr fits ds given w env s sc u r same))
+  pub new_does : (p : Position) (c : Context) (k : Destination) (j : ℕ) (d : List ℕ) (m : MethodName) (ts : Terms) → Sound z.is_mutable c → Ahead c j → Writes c.writable k → FitsIn (usable z) k (class_type d) → (usable z).built (member d Constructor m) ≡ true → (usable z).made d ≡ true → is_hijacked d ≡ false → StandForAll z (types_referred m.params) (types_of ts) → OperandsDo z lawful c j (list_of z lawful low c.targets ts) → Does z lawful c k j (new_object p d m ts)
+  new_does p c k j d m ts sound ahead wr fits built made free fit ds w env s sc u r same = subst (λ os. Ends z lawful c c.scope k w sc (ir_meaning.in_order (ir_meaning.operands z.place.classes z.low ts) act env s) (then_use (spill os j) (λ es. finish k p (class_type d) false (text es))).statements sc u) (sym (operands-list z lawful low c.targets ts)) (subst (λ rs. Ends z lawful c c.scope k w sc (ir_meaning.in_order rs act env s) (then_use (spill (operands_in z lawful (list_of z lawful low c.targets ts)) j) (λ es. finish k p (class_type d) false (text es))).statements sc u) (sym (runs-list z lawful low c.targets ts)) (expression_does c k j (list_of z lawful low c.targets ts) (class_type d) p act text sound ahead wr fits ds given w env s sc u r same))
     where
       act : List ir.Value → ir.Run
       act = ir_meaning.construct z.place.classes z.low d m
@@ -144,7 +145,7 @@ module _ (z : Setting) (lawful : Lawful z) (low : LowAlike z) where
       text es = core.made_of (member d Constructor m) (expressions_of (coerced_arguments m.params (types_of ts) es))
 
       given : (rs : List ir.Run) (es : List core.Expression) (w : World) (env : ir.Env) (s : ir.State) (sc : js.Scope) (u : js.State) → Inside z.place z.code sc → OperandsAlike z w env sc (types z lawful (list_of z lawful low c.targets ts)) rs es → SameState z.place w s u → Sim z.direction (Valued z.place w env (class_type d)) (ir_meaning.in_order rs act env s) (shown z (text es) sc u)
-      given rs es w env s sc u inside alike same = new_alike z lawful.base d m (all_stood (types_referred m.params) (types_of ts) fit.0) rs (coerced_arguments m.params (types_of ts) es) (coerced_arguments m.params (types_of ts) es) refl built made bare (all-stood-fit (types_referred m.params) (types_of ts) fit.0) w env s sc u inside (operands_coerced z lawful.base w env sc inside m.params (types_of ts) rs es fit.0 fit.1 (subst (λ is. OperandsAlike z w env sc is rs es) (sym (types-list z lawful low c.targets ts)) alike)) same
+      given rs es w env s sc u inside alike same = new_alike z lawful.base d m (all_stood (types_referred m.params) (types_of ts) fit.0) rs (coerced_arguments m.params (types_of ts) es) (coerced_arguments m.params (types_of ts) es) refl built made free (all-stood-fit (types_referred m.params) (types_of ts) fit.0) w env s sc u inside (operands_coerced z lawful.base w env sc inside m.params (types_of ts) rs es fit.0 fit.1 (subst (λ is. OperandsAlike z w env sc is rs es) (sym (types-list z lawful low c.targets ts)) alike)) same
 
   -- This, where there is one
   pub this_does : (p : Position) (c : Context) (k : Destination) (j : ℕ) (t : IrType) → Sound z.is_mutable c → Writes c.writable k → FitsIn (usable z) k t → Plain z.place.classes (usable z) z.code c.scope (this_ref p t) → Does z lawful c k j (this_ref p t)

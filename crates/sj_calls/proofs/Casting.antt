@@ -12,7 +12,7 @@ use Rattle.class_casts.specs.Kinds.{CastStands, passes, unboxed_value}
 use Rattle.helper_rules.specs.Helpers.{helper_name, init_name, kind_word, raise}
 use Rattle.helper_rules.specs.Words.{class_name}
 use Rattle.helper_rules.specs.declared.kinds.Failure.TheVariants.{Cast}
-use Rattle.helper_rules.specs.declared.kinds.Helper.TheVariants.{CastTo, TestOf, Throws}
+use Rattle.helper_rules.specs.declared.kinds.Helper.TheVariants.{CastTo, Throws}
 use Rattle.helper_rules.specs.declared.kinds.Kind.{Kind}
 use Rattle.helper_rules.specs.declared.kinds.Kind.TheVariants as kinds
 use Rattle.ir_mean.specs.Meaning as ir_meaning
@@ -26,20 +26,20 @@ use Rattle.js_tree.specs.Terms.{Name, name_use, text_literal}
 use Rattle.sj_desugar.specs.Coercions.{is_char}
 use Rattle.sj_emit_expr.specs.Tests.{cast_name}
 use Rattle.sj_names.proofs.Same.{impossible}
-use Rattle.sj_plain.specs.Settings.{Place, SameState, Valued, valued, thrown, a_cast, a_helper, top_call}
+use Rattle.sj_plain.specs.Settings.{Place, SameState, Valued, valued, thrown, a_cast, a_helper, top_function, top_call}
 use Rattle.sj_plain.specs.Standing.{suits}
 use Rattle.sj_plain.proofs.Worlds.{World, grows-refl, SameValue, Stands, same_undefined, same_null, same_boolean, same_char, same_box, same_number, same_long, same_text, same_reference}
 use Rattle.sj_trees.specs.declared.types.IrType.{IrType}
 use Rattle.sj_trees.specs.declared.types.IrType.TheVariants.{Any, Undefined, Boolean, Char, Byte, Short, Int, Long, String, Nothing}
 use Rattle.sj_calls.specs.Helpers.{HelperStands, Failed, failed_so, failing_code, helper_code, kind_of}
 use Rattle.sj_calls.specs.Made.{zero_value}
-use Rattle.sj_calls.specs.Worlds.{CanCast}
+use Rattle.sj_calls.specs.Worlds.{CanCast, ThrowsCast}
 use Rattle.sj_calls.proofs.Boxed.{boxes, object_apart, unit_held}
 use Rattle.sj_calls.proofs.Helps.{FailsAs, FailsOn, throws_on, thrown_on}
 use Rattle.sj_calls.proofs.Shapes.{zero_alike}
-use Rattle.sj_calls.proofs.Testing.{each_kind, kind_told, boxes_there}
+use Rattle.sj_calls.proofs.Testing.{each_kind, kind_told, kind_stands}
 
-abbrev cast_exception : List ℕ
+abbrev pub cast_exception : List ℕ
 cast_exception = codes "java.lang.ClassCastException"
 
 -- the cast to a primitive type has the name of its helper; what it gives of null is the zero of the type; and what it shows where it fails is the word of the type
@@ -90,6 +90,10 @@ module _ (p : Place) (us : List ℕ) where
       ∙ throws_on told_scope (js_meaning.evaluate p.program (js_meaning.below p.program n) (raise cast_exception (name_use (codes "t"))) told_scope u)
       ∙ ap (λ (e : js.State → Out js.ExpressionEnd). then_do (e u) thrown_on) (same_raised (js_meaning.below p.program n))
       ∙ sym (throws_on own_scope (js_meaning.evaluate p.program (js_meaning.below p.program n) (raise cast_exception (text_literal us)) own_scope u))
+
+-- a file that reaches what a cast throws finds it
+pub throwing_there : (p : Place) (w : World) (s : ir.State) (u : js.State) → SameState p w s u → (f : Name) → ThrowsCast p f → js_meaning.top_cell (owner p.program f (helper_name (Throws Cast))) (helper_name (Throws Cast)) u ≡ js.holds false (top_function p (a_helper (Throws Cast)))
+throwing_there p w s u same f throws = ap (λ (o : Option Name). js_meaning.top_cell o (helper_name (Throws Cast)) u) throws.owned ∙ same.tops throws.user (a_helper (Throws Cast)) throws.usable
 
 module _ (p : Place) (w : World) (s : ir.State) (u : js.State) (same : SameState p w s u) where
   -- what a cast gives of a value of the kind, which stands for the IR's value at the type
@@ -152,14 +156,9 @@ module _ (p : Place) (w : World) (s : ir.State) (u : js.State) (same : SameState
 
     abbrev uses_stand : CastStands p.program file (boxes p) u can.kind
     uses_stand = record {
-      tested = record {
-        home = p.home (a_helper (TestOf can.kind));
-        test = record { const = false; cell_is = ap (λ (o : Option Name). js_meaning.top_cell o (helper_name (TestOf can.kind)) u) can.test_owned ∙ can.test_held w s u same };
-        test_is = can.test;
-        boxes_stand = λ e. boxes_there p w s u same (p.home (a_helper (TestOf can.kind))) (can.boxes e);
-      };
+      tested = kind_stands p w s u same file can.kind can.tests;
       throwing_home = p.home (a_helper (Throws Cast));
-      throwing = record { const = false; cell_is = ap (λ (o : Option Name). js_meaning.top_cell o (helper_name (Throws Cast)) u) can.owned ∙ can.held w s u same };
+      throwing = record { const = false; cell_is = throwing_there p w s u same file can.throws };
     }
 
     module _ (d : Direction) (low : ir_meaning.Low) (env : ir.Env) where

@@ -29,7 +29,8 @@ use Rattle.helper_rules.specs.declared.kinds.Helper.TheVariants.{NotNull, Throws
 use Rattle.helper_rules.specs.declared.kinds.Failure.TheVariants.{NullReceiver}
 use Rattle.sj_plain.specs.Settings.{Place, Code, Setting, usable, shown, SameState, Valued, valued, thrown, Based, a_helper, top_function, top_call}
 use Rattle.sj_plain.specs.Standing.{suits}
-use Rattle.body_rules.specs.Standing.{is_bare, Fits}
+use Rattle.body_rules.specs.Standing.{Fits}
+use Rattle.sj_world.specs.Known.{is_hijacked}
 use Rattle.sj_plain.proofs.Objects.{new_alike}
 use Rattle.sj_plain.proofs.Orders.{OperandsAlike, no_operands, more_operands}
 use Rattle.sj_plain.proofs.Worlds.{World, grows-refl, SameValue, Stands, same_undefined, same_null, same_boolean, same_char, same_box, same_number, same_long, same_text, same_reference, value-fits}
@@ -81,8 +82,8 @@ module _ (d : Direction) (p : Place) (h : Helper) (low : ir_meaning.Low) (n : �
   message_alike w env = more_operands String (ir.given (ir.text message)) (core.text_value message) [] [] [] refl (λ y s u g same. sim_done d (Valued p y env String) (ir.ends (ir.gives (ir.text message)) env s) (js.gives (js.text message) u) (valued y (ir.text message) (js.text message) s u (grows-refl y) (record { stands = same_text message; suits = refl }) same)) no_operands
 
   -- an exception is made and thrown: by the IR, and by the function of a helper
-  pub fails_alike : Based inside → FailsAs p h xs e message → (usable inside).built (member e Constructor ir_meaning.with_message) ≡ true → (usable inside).made e ≡ true → is_bare (class_type e) ≡ false → Fits Any (class_type e) → (w : World) (env : ir.Env) (s : ir.State) (u : js.State) → SameState p w s u → Sim d (Failed p w env) (ir_meaning.raise p.classes low e message env s) (top_call p (js_meaning.below p.program (suc n)) (a_helper h) xs u)
-  fails_alike law fails built is_made bare f w env s u same = subst (λ o. Sim d (Failed p w env) (ir_meaning.raise p.classes low e message env s) o) (sym js_is) (sim_then d (Valued p w env (class_type e)) (Failed p w env) (ir_meaning.construct p.classes low e ir_meaning.with_message (ir.text message ∷ []) env s) (shown inside made scope u) (ir.onward (λ v. ir_meaning.throw_value (v ∷ []))) thrown_on (new_alike inside law e ir_meaning.with_message (String ∷ []) (ir.given (ir.text message) ∷ []) (core.text_value message ∷ []) (core.text_value message ∷ []) refl built is_made bare (refl, tt) w env s scope u (record { file = refl; free = λ y none. refl }) (message_alike w env) same) (then_thrown w env f))
+  pub fails_alike : Based inside → FailsAs p h xs e message → (usable inside).built (member e Constructor ir_meaning.with_message) ≡ true → (usable inside).made e ≡ true → is_hijacked e ≡ false → Fits Any (class_type e) → (w : World) (env : ir.Env) (s : ir.State) (u : js.State) → SameState p w s u → Sim d (Failed p w env) (ir_meaning.raise p.classes low e message env s) (top_call p (js_meaning.below p.program (suc n)) (a_helper h) xs u)
+  fails_alike law fails built is_made free f w env s u same = subst (λ o. Sim d (Failed p w env) (ir_meaning.raise p.classes low e message env s) o) (sym js_is) (sim_then d (Valued p w env (class_type e)) (Failed p w env) (ir_meaning.construct p.classes low e ir_meaning.with_message (ir.text message ∷ []) env s) (shown inside made scope u) (ir.onward (λ v. ir_meaning.throw_value (v ∷ []))) thrown_on (new_alike inside law e ir_meaning.with_message (String ∷ []) (ir.given (ir.text message) ∷ []) (core.text_value message ∷ []) (core.text_value message ∷ []) refl built is_made free (refl, tt) w env s scope u (record { file = refl; free = λ y none. refl }) (message_alike w env) same) (then_thrown w env f))
     where
       js_is : top_call p (js_meaning.below p.program (suc n)) (a_helper h) xs u ≡ then_do (shown inside made scope u) thrown_on
       js_is = fails (suc n) u ∙ throws_on scope (shown inside made scope u)

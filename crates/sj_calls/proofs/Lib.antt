@@ -3,6 +3,8 @@ pub mod Boxing
 pub mod Calls
 pub mod Casting
 pub mod Chains
+pub mod ClassCasting
+pub mod ClassTesting
 pub mod Items
 pub mod Helps
 pub mod Dividing

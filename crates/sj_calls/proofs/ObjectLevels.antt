@@ -5,6 +5,7 @@ use Rattle.outcomes.specs.Agreement.{Direction, forward, backward, Enough, Sim}
 use Rattle.outcomes.proofs.Simulation.{sim_over, sim_going}
 use Rattle.helper_rules.specs.declared.kinds.Failure.TheVariants.{NullReceiver, Division, Cast}
 use Rattle.helper_rules.specs.Helpers.{kind_word}
+use Rattle.helper_rules.specs.Words.{units_of}
 use Rattle.helper_rules.specs.declared.kinds.Helper.{Helper}
 use Rattle.helper_rules.specs.declared.kinds.Helper.TheVariants.{Equal, NotNull, Throws}
 use Rattle.dispatch_laws.proofs.OwnTargets.{called_target}
@@ -24,8 +25,8 @@ use Rattle.sj_desugar.specs.Coercions.{is_char}
 use Rattle.body_rules.proofs.Fitting.{fits-sub}
 use Rattle.sj_plain.proofs.Boxes.{class-no-char}
 use Rattle.sure_receivers.specs.Sure.{sure_locals}
-use Rattle.sj_plain.specs.Settings.{Place, Code, a_function, a_method, a_constructor, a_setter, a_helper, division_helper, Setting, SameState, Valued, Built, NamesDiffer, Reaches, Based, Lawful, BuildsAlike, ReceivesAlike, SetsAlike, ChecksAlike, DividesAlike, TestsAlike, CastsAlike, ComparesAlike, IsReceiver, a_test, a_cast, top_call}
-use Rattle.body_rules.specs.Standing.{is_bare, Fits, types_referred, call_type}
+use Rattle.sj_plain.specs.Settings.{Place, Code, a_function, a_method, a_constructor, a_setter, a_helper, division_helper, Setting, SameState, Valued, Built, NamesDiffer, Reaches, Based, Lawful, BuildsAlike, ReceivesAlike, SetsAlike, ChecksAlike, DividesAlike, HasFunction, TestsAlike, CastsAlike, ComparesAlike, IsReceiver, a_test, a_cast, top_call}
+use Rattle.body_rules.specs.Standing.{Fits, types_referred, call_type}
 use Rattle.built_forms.proofs.Statics.{set_static}
 use Rattle.built_forms.specs.Built.{divides}
 use Rattle.ir_mean.specs.Operators.{binary_value}
@@ -36,21 +37,25 @@ use Rattle.sj_trees.specs.Types.{class_type}
 use Rattle.sj_trees.specs.declared.operators.BinaryOp.{BinaryOp}
 use Rattle.sj_trees.specs.declared.operators.BinaryOp.TheVariants.{StrictEqual}
 use Rattle.sj_trees.specs.declared.types.IrType.{IrType}
-use Rattle.sj_trees.specs.declared.types.IrType.TheVariants.{Any, Boolean, NoType}
+use Rattle.sj_trees.specs.declared.types.IrType.TheVariants.{Any, Boolean, NoType, Class}
 use Rattle.sj_plain.proofs.Worlds.{World, SameValues, value-fits}
 use Rattle.sj_bodies.proofs.Contexts.{Came}
 use Rattle.sj_bodies.proofs.Main.{does}
 use Rattle.sj_bodies.proofs.Trees.{LowAlike}
 use Rattle.body_rules.specs.Subtyping.{IsSubtyping}
+use Rattle.sj_world.specs.Known.{is_hijacked}
+use Rattle.sj_world.specs.Laws.{IsPlain}
 use Rattle.sj_world.specs.Subtypes.{IsSub}
-use Rattle.sj_calls.specs.Helpers.{Failed, CanTest, CanCompare}
+use Rattle.sj_calls.specs.Helpers.{Failed, CanTest, ClassTest, Tested, of_kind, of_class, CanCompare}
 use Rattle.sj_calls.specs.Methods.{Linked, CallsAgree, ir_call, js_call}
 use Rattle.sj_calls.specs.Objects.{RunsOn, Constructs}
-use Rattle.sj_calls.specs.Worlds.{IsMade, CanCheck, CanDivide, CanCast, HasObjects}
+use Rattle.sj_calls.specs.Worlds.{IsMade, CanCheck, CanDivide, CanCast, CanCastClass, Casted, to_kind, to_class, HasObjects}
 use Rattle.sj_calls.proofs.Boxing.{boxes_alike}
 use Rattle.sj_calls.proofs.Calls.{call_alike}
 use Rattle.sj_calls.proofs.Dividing.{divides_alike}
 use Rattle.sj_calls.proofs.Casting.{cast_fails_as, casts_alike, short_cast}
+use Rattle.sj_calls.proofs.ClassCasting.{class_casts_alike}
+use Rattle.sj_calls.proofs.ClassTesting.{class_tests_alike}
 use Rattle.sj_calls.proofs.Helps.{FailsAs, FailsOn, fails_itself, fails_alike, checks_alike, in_helper}
 use Rattle.sj_calls.proofs.News.{made_alike}
 use Rattle.sj_calls.proofs.Receivers.{receive_alike, build_alike}
@@ -58,7 +63,7 @@ use Rattle.sj_calls.proofs.Sameness.{compares_alike}
 use Rattle.sj_calls.proofs.Setters.{sets_alike}
 use Rattle.sj_calls.proofs.Testing.{primitive, tests_alike}
 
-module _ (p : Place) (ordered : IsSubtyping (IsSub p.classes)) (names : NamesDiffer p) (has : HasObjects p) where
+module _ (p : Place) (plain : IsPlain p.classes) (ordered : IsSubtyping (IsSub p.classes)) (names : NamesDiffer p) (has : HasObjects p) where
   -- a body in a file of the place, with what the levels of these bounds give
   abbrev within : Code → Direction → (List ℕ → Bool) → ℕ → ℕ → Setting
   within f d is_mutable n k = record { place = p; code = f; direction = d; is_mutable = is_mutable; low = ir_meaning.below p.classes n; js_low = js_meaning.below p.program k }
@@ -129,10 +134,10 @@ module _ (p : Place) (ordered : IsSubtyping (IsSub p.classes)) (names : NamesDif
   }
 
   -- a helper that fails, within what is left of the units around a call
-  fails_at : (h : Helper) (xs : List js.Value) (e message : List ℕ) → FailsAs p h xs e message → Reaches p (p.home (a_helper h)) → (p.has (p.home (a_helper h))).built (member e Constructor ir_meaning.with_message) ≡ true → (p.has (p.home (a_helper h))).made e ≡ true → is_bare (class_type e) ≡ false → Fits Any (class_type e) → (d : Direction) (n m : ℕ) → Levels d n → Enough p.room p.room.each d n (suc m) → FailsOn d p (ir_meaning.below p.classes n) m h xs e message
-  fails_at h xs e message fails reaches built made bare any d n (suc q) levels enough = fails_alike d p h (ir_meaning.below p.classes n) q xs e message (based d n q levels (two_fewer d n q enough) (in_helper p h) reaches (λ x. false)) fails built made bare any
-  fails_at h xs e message fails reaches built made bare any forward n zero levels enough = let k = has.each in absurd (omega (arith, k, enough))
-  fails_at h xs e message fails reaches built made bare any backward n zero levels enough = λ w env s u same. subst (λ o. Sim backward (Failed p w env) (ir_meaning.raise p.classes (ir_meaning.below p.classes n) e message env s) o) (sym (fails 0 u)) (sim_going (Failed p w env) (ir_meaning.raise p.classes (ir_meaning.below p.classes n) e message env s))
+  fails_at : (h : Helper) (xs : List js.Value) (e message : List ℕ) → FailsAs p h xs e message → Reaches p (p.home (a_helper h)) → (p.has (p.home (a_helper h))).built (member e Constructor ir_meaning.with_message) ≡ true → (p.has (p.home (a_helper h))).made e ≡ true → is_hijacked e ≡ false → Fits Any (class_type e) → (d : Direction) (n m : ℕ) → Levels d n → Enough p.room p.room.each d n (suc m) → FailsOn d p (ir_meaning.below p.classes n) m h xs e message
+  fails_at h xs e message fails reaches built made free any d n (suc q) levels enough = fails_alike d p h (ir_meaning.below p.classes n) q xs e message (based d n q levels (two_fewer d n q enough) (in_helper p h) reaches (λ x. false)) fails built made free any
+  fails_at h xs e message fails reaches built made free any forward n zero levels enough = let k = has.each in absurd (omega (arith, k, enough))
+  fails_at h xs e message fails reaches built made free any backward n zero levels enough = λ w env s u same. subst (λ o. Sim backward (Failed p w env) (ir_meaning.raise p.classes (ir_meaning.below p.classes n) e message env s) o) (sym (fails 0 u)) (sim_going (Failed p w env) (ir_meaning.raise p.classes (ir_meaning.below p.classes n) e message env s))
 
   checks_at : CanCheck p → (f : Code) (is_mutable : List ℕ → Bool) (d : Direction) (n k : ℕ) → Levels d n → Enough p.room p.room.each d n k → ChecksAlike (within f d is_mutable n k)
   checks_at can f is_mutable d n (suc m) levels h = checks_alike d p (ir_meaning.below p.classes n) m can.check can.owned (fails_at (Throws NullReceiver) [] (codes "java.lang.NullPointerException") (codes "null") (fails_itself p (Throws NullReceiver) (codes "java.lang.NullPointerException") (codes "null") can.failure) can.reaches can.built can.made refl refl d n m levels h) can.held
@@ -150,11 +155,35 @@ module _ (p : Place) (ordered : IsSubtyping (IsSub p.classes)) (names : NamesDif
   tests_at f is_mutable t can backward n zero h = λ w v x env s u a same. subst (λ q. Sim backward (Valued p w env Boolean) (ir.given (ir_meaning.is_instance_value p.classes t s v) env s) q) (sym (ap (λ c. js_meaning.code_call (js_meaning.below p.program 0) (p.home (a_test t)) c (x ∷ []) u) can.test)) (sim_going (Valued p w env Boolean) (ir.given (ir_meaning.is_instance_value p.classes t s v) env s))
 
   casts_at : (f : Code) (is_mutable : List ℕ → Bool) (t : IrType) → CanCast p t → (d : Direction) (n k : ℕ) → Levels d n → Enough p.room p.room.each d n k → CastsAlike (within f d is_mutable n k) t
-  casts_at f is_mutable t can d n (suc (suc m)) levels h = λ w v x env s u a same. casts_alike p w s u same t can d (ir_meaning.below p.classes n) env m (fails_at (Throws Cast) (js.text (kind_word can.kind) ∷ []) (codes "java.lang.ClassCastException") (kind_word can.kind) (cast_fails_as p (kind_word can.kind) can.failure) can.reaches can.built can.made refl refl d n (suc m) levels h) v x a
+  casts_at f is_mutable t can d n (suc (suc m)) levels h = λ w v x env s u a same. casts_alike p w s u same t can d (ir_meaning.below p.classes n) env m (fails_at (Throws Cast) (js.text (kind_word can.kind) ∷ []) (codes "java.lang.ClassCastException") (kind_word can.kind) (cast_fails_as p (kind_word can.kind) can.throws.failure) can.throws.reaches can.throws.built can.throws.made refl refl d n (suc m) levels h) v x a
   casts_at f is_mutable t can forward n (suc zero) levels h = let e = has.each in absurd (omega (arith, e, h))
   casts_at f is_mutable t can backward n (suc zero) levels h = λ w v x env s u a same. short_cast p w s u same t can (ir_meaning.below p.classes n) env v x a
   casts_at f is_mutable t can forward n zero levels h = let e = has.beyond in absurd (omega (arith, e, h))
   casts_at f is_mutable t can backward n zero levels h = λ w v x env s u a same. subst (λ q. Sim backward (Valued p w env t) (ir_meaning.answered p.classes (ir_meaning.below p.classes n) (ir_meaning.cast_answer p.classes t s v) env s) q) (sym (ap (λ c. js_meaning.code_call (js_meaning.below p.program 0) (p.home (a_cast t)) c (x ∷ []) u) can.cast)) (sim_going (Valued p w env t) (ir_meaning.answered p.classes (ir_meaning.below p.classes n) (ir_meaning.cast_answer p.classes t s v) env s))
+
+  -- the cast of a class takes three units: itself, its test, and the test of a kind
+  class_room : (d : Direction) (n k : ℕ) → Enough p.room p.room.each d n k → d ≡ forward → 3 ≤ k
+  class_room forward n k h e = let a = has.each in let b = has.beyond in omega (arith, a, b, h)
+  class_room backward n k h e = absurd (cc)
+
+  test_room : (d : Direction) (n m : ℕ) → Enough p.room p.room.each d n (suc m) → d ≡ forward → 2 ≤ m
+  test_room d n m h e = let l = class_room d n (suc m) h e in omega (arith, l)
+
+  class_tests_at : (f : Code) (is_mutable : List ℕ → Bool) (c : List ℕ) → ClassTest p c → (d : Direction) (n k : ℕ) → Enough p.room p.room.each d n k → TestsAlike (within f d is_mutable n k) (Class c)
+  class_tests_at f is_mutable c test d n k h = λ w v x env s u a same. class_tests_alike p plain w s u same c test d k (λ e. let l = class_room d n k h e in omega (arith, l)) env v x a
+
+  class_casts_at : (f : Code) (is_mutable : List ℕ → Bool) (c : List ℕ) → CanCastClass p c → (d : Direction) (n k : ℕ) → Levels d n → Enough p.room p.room.each d n k → CastsAlike (within f d is_mutable n k) (Class c)
+  class_casts_at f is_mutable c can d n (suc m) levels h = λ w v x env s u a same. class_casts_alike p plain w s u same c can d (ir_meaning.below p.classes n) env m (fails_at (Throws Cast) (js.text (units_of c) ∷ []) (codes "java.lang.ClassCastException") (units_of c) (cast_fails_as p (units_of c) can.throws.failure) can.throws.reaches can.throws.built can.throws.made refl refl d n m levels h) (test_room d n m h) v x a
+  class_casts_at f is_mutable c can forward n zero levels h = let e = has.beyond in absurd (omega (arith, e, h))
+  class_casts_at f is_mutable c can backward n zero levels h = λ w v x env s u a same. subst (λ q. Sim backward (Valued p w env (Class c)) (ir_meaning.answered p.classes (ir_meaning.below p.classes n) (ir_meaning.cast_answer p.classes (Class c) s v) env s) q) (sym (ap (λ o. js_meaning.code_call (js_meaning.below p.program 0) (p.home (a_cast (Class c))) o (x ∷ []) u) can.cast)) (sim_going (Valued p w env (Class c)) (ir_meaning.answered p.classes (ir_meaning.below p.classes n) (ir_meaning.cast_answer p.classes (Class c) s v) env s))
+
+  test_there : (f : Code) (is_mutable : List ℕ → Bool) (t : IrType) → Tested p t → (d : Direction) (n k : ℕ) → Enough p.room p.room.each d n k → HasFunction t × TestsAlike (within f d is_mutable n k) t
+  test_there f is_mutable _ (of_kind t can) d n k h = (primitive t can.kind can.its_kind, tests_at f is_mutable t can d n k h)
+  test_there f is_mutable _ (of_class c test) d n k h = (tt, class_tests_at f is_mutable c test d n k h)
+
+  cast_there : (f : Code) (is_mutable : List ℕ → Bool) (t : IrType) → Casted p t → (d : Direction) (n k : ℕ) → Levels d n → Enough p.room p.room.each d n k → HasFunction t × CastsAlike (within f d is_mutable n k) t
+  cast_there f is_mutable _ (to_kind t can) d n k levels h = (primitive t can.kind can.its_kind, casts_at f is_mutable t can d n k levels h)
+  cast_there f is_mutable _ (to_class c can) d n k levels h = (tt, class_casts_at f is_mutable c can d n k levels h)
 
   compares_at : (f : Code) (is_mutable : List ℕ → Bool) → CanCompare p → (d : Direction) (n k : ℕ) → Enough p.room p.room.each d n k → ComparesAlike (within f d is_mutable n k)
   compares_at f is_mutable can d n (suc m) h = λ w v v' x x' env s u a b same. compares_alike p can w s u same m d (ir_meaning.below p.classes n) env v v' x x' a b
@@ -167,7 +196,7 @@ module _ (p : Place) (ordered : IsSubtyping (IsSub p.classes)) (names : NamesDif
   box_room backward n k h e = absurd (cc)
 
   lawful : (d : Direction) (n k : ℕ) → Levels d n → Enough p.room p.room.each d n k → (f : Code) → Reaches p f.file → (is_mutable : List ℕ → Bool) → Lawful (within f d is_mutable n k)
-  lawful d n k levels h f reaches is_mutable = record { base = based d n k levels (fewer d p.room.each n k h) f reaches is_mutable; checks = λ i. checks_at (has.checked f.file i) f is_mutable d n k levels h; divisions = λ o i. divides_at f is_mutable o i (has.divided f.file o i) d n k levels h; boxes = λ i. boxes_alike (within f d is_mutable n k) k (has.boxes f.file i) refl (box_room d n k h); tests = λ t i. let can = has.tested f.file t i in (primitive t can.kind can.its_kind, tests_at f is_mutable t can d n k h); casts = λ t i. let can = has.cast f.file t i in (primitive t can.kind can.its_kind, casts_at f is_mutable t can d n k levels h); compares = λ i. compares_at f is_mutable (has.compared f.file i) d n k h }
+  lawful d n k levels h f reaches is_mutable = record { base = based d n k levels (fewer d p.room.each n k h) f reaches is_mutable; checks = λ i. checks_at (has.checked f.file i) f is_mutable d n k levels h; divisions = λ o i. divides_at f is_mutable o i (has.divided f.file o i) d n k levels h; boxes = λ i. boxes_alike (within f d is_mutable n k) k (has.boxes f.file i) refl (box_room d n k h); tests = λ t i. test_there f is_mutable t (has.tested f.file t i) d n k h; casts = λ t i. cast_there f is_mutable t (has.cast f.file t i) d n k levels h; compares = λ i. compares_at f is_mutable (has.compared f.file i) d n k h }
 
   next : (d : Direction) (n k : ℕ) → Levels d n → Enough p.room p.room.each d n k → Level d (suc n) (suc k)
   next d n k levels h f reaches is_mutable c q j t sound ahead out wr fine w env s sc u ready same = does (within f d is_mutable n k) (lawful d n k levels h f reaches is_mutable) (levels k (fewer d p.room.each n k h) f reaches is_mutable) t c q j sound ahead out wr fine w env s sc u ready same

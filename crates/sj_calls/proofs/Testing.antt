@@ -9,7 +9,7 @@ use Rattle.outcomes.specs.Outcome.{done}
 use Rattle.outcomes.specs.Agreement.{Direction, Sim}
 use Rattle.outcomes.proofs.Simulation.{sim_done}
 use Rattle.class_casts.proofs.Kinded.{test_passes}
-use Rattle.class_casts.specs.Kinds.{passes}
+use Rattle.class_casts.specs.Kinds.{KindTestStands, passes}
 use Rattle.class_casts.proofs.Smallest.{small_tests_tell}
 use Rattle.class_casts.specs.ClassTestsKinds.{BoxesStand}
 use Rattle.helper_rules.specs.Helpers.{helper_name}
@@ -28,12 +28,12 @@ use Rattle.sj_trees.specs.declared.types.IrType.{IrType}
 use Rattle.sj_trees.specs.declared.types.IrType.TheVariants.{Any, Undefined, Boolean, Char, Byte, Short, Int, Long, String, Array}
 use Rattle.sj_plain.specs.Settings.{Place, SameState, Valued, valued, HasFunction, a_test, a_helper, top_call}
 use Rattle.sj_plain.proofs.Worlds.{World, grows-refl, SameValue, Stands, same_boolean, same_char, same_box, same_number, same_reference}
-use Rattle.sj_calls.specs.Helpers.{kind_of, CanTest, ReachesBoxes}
+use Rattle.sj_calls.specs.Helpers.{kind_of, CanTest, ReachesBoxes, ReachesTest}
 use Rattle.sj_calls.proofs.Boxed.{boxes, box_below, object_apart}
 use Rattle.sj_calls.proofs.Sameness.{both_pass}
 
 -- the range of bytes and that of shorts, by both meanings
-or_false : (b : Bool) → (b || false) ≡ b
+pub or_false : (b : Bool) → (b || false) ≡ b
 or_false true = refl
 or_false false = refl
 
@@ -41,7 +41,7 @@ and_true : (b : Bool) → (b && true) ≡ b
 and_true true = refl
 and_true false = refl
 
-byte_small : (z : ℤ) → is_small z (codes "java.lang.Byte") ≡ int_eq (wrapped_to_byte z) z
+pub byte_small : (z : ℤ) → is_small z (codes "java.lang.Byte") ≡ int_eq (wrapped_to_byte z) z
 byte_small (pos n) = or_false (leb n 127) ∙ both_pass (leb n 127) (int_eq (wrapped_to_byte (pos n)) (pos n)) (λ h. (small_tests_tell.byte_range (pos n)).1 (fits (leb-true n 127 h))) (λ h. le-leb n 127 (below ((small_tests_tell.byte_range (pos n)).0 h)))
   where
     fits : n ≤ 127 → FitsSigned w8 (pos n)
@@ -57,7 +57,7 @@ byte_small (negsuc n) = or_false (leb n 127 && true) ∙ and_true (leb n 127) �
     below : FitsSigned w8 (negsuc n) → n ≤ 127
     below f = let l = f.sfits in omega arith
 
-short_small : (z : ℤ) → is_small z (codes "java.lang.Short") ≡ int_eq (wrapped_to_short z) z
+pub short_small : (z : ℤ) → is_small z (codes "java.lang.Short") ≡ int_eq (wrapped_to_short z) z
 short_small (pos n) = both_pass (leb n 32767) (int_eq (wrapped_to_short (pos n)) (pos n)) (λ h. (small_tests_tell.short_range (pos n)).1 (fits (leb-true n 32767 h))) (λ h. le-leb n 32767 (below ((small_tests_tell.short_range (pos n)).0 h)))
   where
     fits : n ≤ 32767 → FitsSigned w16 (pos n)
@@ -148,6 +148,15 @@ module _ (p : Place) (w : World) (s : ir.State) (u : js.State) (same : SameState
   -- the test of chars finds their class
   pub boxes_there : (g : Name) → ReachesBoxes p g → BoxesStand p.program g (boxes p) u
   boxes_there g r = record { const = false; cell_is = ap (λ (o : Option Name). js_meaning.top_cell o (helper_name BoxedChar) u) r.reached ∙ same.tops r.user (a_helper BoxedChar) r.usable }
+
+  -- a file that reaches the test of a kind finds it
+  pub kind_stands : (f : Name) (k : Kind) → ReachesTest p f k → KindTestStands p.program f (boxes p) u k
+  kind_stands f k r = record {
+    home = p.home (a_helper (TestOf k));
+    test = record { const = false; cell_is = ap (λ (o : Option Name). js_meaning.top_cell o (helper_name (TestOf k)) u) r.owned ∙ same.tops r.user (a_helper (TestOf k)) r.usable };
+    test_is = r.test;
+    boxes_stand = λ e. boxes_there (p.home (a_helper (TestOf k))) (r.boxes e);
+  }
 
   -- a test of a value, and its function
   pub tests_alike : (t : IrType) → CanTest p t → (d : Direction) (m : ℕ) (env : ir.Env) (v : ir.Value) (x : js.Value) → SameValue w Any v x → Sim d (Valued p w env Boolean) (ir.given (ir_meaning.is_instance_value p.classes t s v) env s) (top_call p (js_meaning.below p.program (suc m)) (a_test t) (x ∷ []) u)

@@ -231,8 +231,10 @@ nothing_there o e = cc
 no_heaps : (p : Place) → SameHeap p (nothing_made (box_link p ∷ [])) [] []
 no_heaps p = record {
   objects = λ i a e. absurd (nothing_there a e);
+  free = λ i a e. absurd (nothing_there a e);
   differ = λ i j a e g. absurd (nothing_there a e);
   owned = λ a o e. absurd (nothing_there o e);
+  marked = λ a constants e. absurd (nothing_there (js.plain [] constants) e);
   pending = λ a o e. absurd (nothing_there o e);
   apart = λ i a o e g. nothing_there a e;
   unborn = λ i a o e g. nothing_there a e;

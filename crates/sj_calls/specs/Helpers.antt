@@ -1,5 +1,8 @@
--- Helpers that fail: what each does, and its function; the class of objects that hold chars; and helpers that tell values apart.
-use Rattle.std.specs.Prelude.{◌≡◌, ℕ, true, List, [], ◌∷◌, Option, Some, None, codes}
+-- Helpers that fail: what each does, and its function; the class of objects that hold chars; helpers that tell values apart; and tests.
+use Rattle.std.specs.Prelude.{◌≡◌, ℕ, true, false, List, [], ◌∷◌, Option, Some, None, codes}
+use Rattle.std.specs.List.{Contains}
+use Rattle.class_casts.specs.Classes.{hijacked_test_code}
+use Rattle.class_casts.specs.Tests.{class_test_code}
 use Rattle.ir_mean.specs.States as ir
 use Rattle.js_mean.specs.Classes.{members_of}
 use Rattle.js_mean.specs.Files.{owner}
@@ -9,16 +12,19 @@ use Rattle.js_mean.specs.States as js
 use Rattle.js_tree.specs.Terms.{Name, Expression, Item, function_item, throw_of, return_of, text_literal}
 use Rattle.js_tree.specs.Views.{statements_of}
 use Rattle.helper_rules.specs.Helpers.{raise, zero_check, helper_name, helper_item, box_constructor}
+use Rattle.helper_rules.specs.Words.{kind_class, worded_kinds}
 use Rattle.helper_rules.specs.declared.kinds.Helper.{Helper}
 use Rattle.helper_rules.specs.declared.kinds.Helper.TheVariants.{BoxedChar, ConstantsOf, Equal, NotNull, TestOf}
 use Rattle.helper_rules.specs.declared.kinds.Kind.{Kind}
 use Rattle.helper_rules.specs.declared.kinds.Kind.TheVariants as kinds
+use Rattle.piece_rules.specs.Classes.{AreInstances}
 use Rattle.sj_emit_expr.specs.Tests.{test_name}
 use Rattle.sj_plain.specs.Settings.{Place, a_test, a_helper, box_link, division_helper, SameState}
 use Rattle.sj_plain.specs.Worlds.{World, Grows, SameValue}
 use Rattle.sj_trees.specs.declared.operators.BinaryOp.{BinaryOp}
 use Rattle.sj_trees.specs.declared.types.IrType.{IrType}
-use Rattle.sj_trees.specs.declared.types.IrType.TheVariants.{Any, Undefined, Boolean, Char, Byte, Short, Int, Long, String}
+use Rattle.sj_trees.specs.declared.types.IrType.TheVariants.{Any, Undefined, Boolean, Char, Byte, Short, Int, Long, String, Class}
+use Rattle.sj_world.specs.Known.{is_hijacked}
 
 -- the code of an item that declares a function
 abbrev pub code_of_item : Item → js_meaning.Code
@@ -84,6 +90,26 @@ pub record CanTest (p : Place) (t : IrType) : Type 0 where
   pub its_kind : kind_of t ≡ Some kind
   pub test : js_meaning.code_of p.program (p.home (a_test t)) (test_name t) ≡ Some (helper_code (TestOf kind))
   pub boxes : kind ≡ kinds.Char → ReachesBoxes p (p.home (a_test t))
+
+-- the test of a kind stands in its file, with the class of objects that hold chars in reach where it needs that; this file reaches it, and the code of some
+-- file can use it
+pub record ReachesTest (p : Place) (f : Name) (k : Kind) : Type 0 where
+  pub test : HelperStands p (TestOf k) (helper_code (TestOf k))
+  pub boxes : k ≡ kinds.Char → ReachesBoxes p (p.home (a_helper (TestOf k)))
+  pub owned : owner p.program f (helper_name (TestOf k)) ≡ Some (p.home (a_helper (TestOf k)))
+  pub user : Name
+  pub usable : (p.has user).helper (helper_name (TestOf k)) ≡ true
+
+-- the test of a class stands in its file: that of one that isn't hijacked tells the kinds whose values are instances of it, and objects by its marker; that of
+-- a hijacked one tells its kind
+pub data ClassTest (p : Place) : List ℕ → Type 0 where
+  by_marker : (c : List ℕ) (kinds : List Kind) → is_hijacked c ≡ false → AreInstances p.classes c worded_kinds kinds → js_meaning.code_of p.program (p.home (a_test (Class c))) (test_name (Class c)) ≡ Some (class_test_code c kinds) → ((k : Kind) → Contains kinds k → ReachesTest p (p.home (a_test (Class c))) k) → ClassTest p c
+  by_kind : (k : Kind) → js_meaning.code_of p.program (p.home (a_test (Class (kind_class k)))) (test_name (Class (kind_class k))) ≡ Some (hijacked_test_code k) → ReachesTest p (p.home (a_test (Class (kind_class k)))) k → ClassTest p (kind_class k)
+
+-- a test that stands: of a primitive type, or of a class
+pub data Tested (p : Place) : IrType → Type 0 where
+  of_kind : (t : IrType) → CanTest p t → Tested p t
+  of_class : (c : List ℕ) → ClassTest p c → Tested p (Class c)
 
 -- the properties of an object that holds this value, with its constants at this address
 abbrev pub box_properties : ℕ → js.Value → Name → Option js.Value

@@ -1,16 +1,18 @@
--- What the code of a program has of objects: members that run on receivers, constructors, classes, fields, static fields, the null check, divisions, objects that hold chars, tests
--- of primitive types, casts to them and identity, each where code can use it.
+-- What the code of a program has of objects: members that run on receivers, constructors, classes, fields, static fields, the null check, divisions, objects that hold chars, tests,
+-- casts and identity, each where code can use it.
 use Rattle.std.specs.Prelude.{◌≡◌, ℕ, ◌≤◌, true, false, List, length, codes, Option, Some}
 use Rattle.built_forms.specs.Built.{has_static, can_box, divides, compares}
+use Rattle.class_casts.specs.Classes.{class_cast_code}
 use Rattle.dispatch_laws.specs.Targets.{IsTargetOf}
 use Rattle.helper_rules.specs.Helpers.{helper_name}
+use Rattle.helper_rules.specs.Words.{units_of}
 use Rattle.helper_rules.specs.declared.kinds.Failure.TheVariants.{NullReceiver, Division, Cast}
-use Rattle.helper_rules.specs.declared.kinds.Helper.TheVariants.{NotNull, TestOf, CastTo, Throws}
+use Rattle.helper_rules.specs.declared.kinds.Helper.TheVariants.{NotNull, CastTo, Throws}
 use Rattle.helper_rules.specs.declared.kinds.Kind.{Kind}
-use Rattle.helper_rules.specs.declared.kinds.Kind.TheVariants as kinds
 use Rattle.ir_mean.specs.Dispatch.{chain_of}
 use Rattle.ir_mean.specs.Meaning.{with_message}
 use Rattle.ir_mean.specs.States as ir
+use Rattle.ir_mean.specs.World as ir_world
 use Rattle.js_mean.specs.Files.{owner}
 use Rattle.js_mean.specs.Meaning as js_meaning
 use Rattle.js_mean.specs.States as js
@@ -18,16 +20,16 @@ use Rattle.js_tree.specs.Terms.{Name}
 use Rattle.sj_desugar.specs.Desugar.{member}
 use Rattle.piece_rules.specs.Pieces.{setter}
 use Rattle.sj_emit_expr.specs.Templates.{check_name, static_name, setter_name}
-use Rattle.sj_emit_expr.specs.Tests.{cast_name}
+use Rattle.sj_emit_expr.specs.Tests.{test_name, cast_name}
 use Rattle.sj_names.specs.declared.method_names.Member.{Member}
 use Rattle.sj_names.specs.declared.method_names.Namespace.TheVariants.{Constructor}
 use Rattle.sj_trees.specs.declared.operators.BinaryOp.{BinaryOp}
 use Rattle.sj_trees.specs.declared.types.IrType.{IrType}
-use Rattle.sj_plain.specs.Settings.{Place, SameState, SameStored, HasField, HasStatic, Reaches, a_static, a_setter, a_cast, a_helper, division_helper, top_function, link_of, links_of, zeroed}
-use Rattle.body_rules.specs.Standing.{is_bare}
+use Rattle.sj_plain.specs.Settings.{Place, SameState, SameStored, HasField, HasStatic, Reaches, a_static, a_setter, a_test, a_cast, a_helper, division_helper, top_function, link_of, links_of, zeroed}
 use Rattle.sj_plain.specs.Worlds.{World}
-use Rattle.sj_trees.specs.Types.{class_type}
-use Rattle.sj_calls.specs.Helpers.{HelperStands, BoxStands, ReachesBoxes, CanTest, CanCompare, kind_of, code_of_item, helper_code, checking_code, division_code}
+use Rattle.sj_trees.specs.declared.types.IrType.TheVariants.{Class}
+use Rattle.sj_world.specs.Known.{is_hijacked}
+use Rattle.sj_calls.specs.Helpers.{HelperStands, BoxStands, ReachesTest, ClassTest, Tested, CanCompare, kind_of, code_of_item, helper_code, checking_code, division_code}
 use Rattle.sj_calls.specs.Made.{Makers}
 use Rattle.sj_calls.specs.Methods.{Linked}
 use Rattle.sj_calls.specs.Objects.{RunsOn, Constructs}
@@ -63,22 +65,38 @@ pub record CanDivide (p : Place) (o : BinaryOp) : Type 0 where
   pub built : (p.has (p.home (a_helper (Throws Division)))).built (member (codes "java.lang.ArithmeticException") Constructor with_message) ≡ true
   pub made : (p.has (p.home (a_helper (Throws Division)))).made (codes "java.lang.ArithmeticException") ≡ true
 
--- the cast to a primitive type stands in its file, as the helper of its kind, and so does what it uses: the test of the kind, that of chars with the class of objects
--- that hold them, and what is thrown
+-- what a cast throws where it fails stands in its file; this file reaches it, the code of some file can use it, and the exception can be made there
+pub record ThrowsCast (p : Place) (f : Name) : Type 0 where
+  pub failure : HelperStands p (Throws Cast) (helper_code (Throws Cast))
+  pub owned : owner p.program f (helper_name (Throws Cast)) ≡ Some (p.home (a_helper (Throws Cast)))
+  pub user : Name
+  pub usable : (p.has user).helper (helper_name (Throws Cast)) ≡ true
+  pub reaches : Reaches p (p.home (a_helper (Throws Cast)))
+  pub built : (p.has (p.home (a_helper (Throws Cast)))).built (member (codes "java.lang.ClassCastException") Constructor with_message) ≡ true
+  pub made : (p.has (p.home (a_helper (Throws Cast)))).made (codes "java.lang.ClassCastException") ≡ true
+
+-- the cast to a primitive type stands in its file, as the helper of its kind, and so does what it uses: the test of the kind, and what is thrown
 pub record CanCast (p : Place) (t : IrType) : Type 0 where
   pub kind : Kind
   pub its_kind : kind_of t ≡ Some kind
   pub cast : js_meaning.code_of p.program (p.home (a_cast t)) (cast_name t) ≡ Some (helper_code (CastTo kind))
-  pub test : HelperStands p (TestOf kind) (helper_code (TestOf kind))
-  pub boxes : kind ≡ kinds.Char → ReachesBoxes p (p.home (a_helper (TestOf kind)))
-  pub test_owned : owner p.program (p.home (a_cast t)) (helper_name (TestOf kind)) ≡ Some (p.home (a_helper (TestOf kind)))
-  pub test_held : (w : World) (s : ir.State) (u : js.State) → SameState p w s u → u.tops (p.home (a_helper (TestOf kind))) (helper_name (TestOf kind)) ≡ js.holds false (top_function p (a_helper (TestOf kind)))
-  pub failure : HelperStands p (Throws Cast) (helper_code (Throws Cast))
-  pub owned : owner p.program (p.home (a_cast t)) (helper_name (Throws Cast)) ≡ Some (p.home (a_helper (Throws Cast)))
-  pub held : (w : World) (s : ir.State) (u : js.State) → SameState p w s u → u.tops (p.home (a_helper (Throws Cast))) (helper_name (Throws Cast)) ≡ js.holds false (top_function p (a_helper (Throws Cast)))
-  pub reaches : Reaches p (p.home (a_helper (Throws Cast)))
-  pub built : (p.has (p.home (a_helper (Throws Cast)))).built (member (codes "java.lang.ClassCastException") Constructor with_message) ≡ true
-  pub made : (p.has (p.home (a_helper (Throws Cast)))).made (codes "java.lang.ClassCastException") ≡ true
+  pub tests : ReachesTest p (p.home (a_cast t)) kind
+  pub throws : ThrowsCast p (p.home (a_cast t))
+
+-- the cast of a class stands in its file, and so does what it uses: the test of the class, and what is thrown, with the name of the class as the IR tells it
+pub record CanCastClass (p : Place) (c : List ℕ) : Type 0 where
+  pub cast : js_meaning.code_of p.program (p.home (a_cast (Class c))) (cast_name (Class c)) ≡ Some (class_cast_code c)
+  pub test : ClassTest p c
+  pub owned : owner p.program (p.home (a_cast (Class c))) (test_name (Class c)) ≡ Some (p.home (a_test (Class c)))
+  pub user : Name
+  pub usable : (p.has user).tests (Class c) ≡ true
+  pub throws : ThrowsCast p (p.home (a_cast (Class c)))
+  pub named : units_of c ≡ ir_world.type_text (Class c)
+
+-- a cast that stands: to a primitive type, or to a class
+pub data Casted (p : Place) : IrType → Type 0 where
+  to_kind : (t : IrType) → CanCast p t → Casted p t
+  to_class : (c : List ℕ) → CanCastClass p c → Casted p (Class c)
 
 -- the function that sets a variable, by its item
 abbrev pub setter_code : List ℕ → List ℕ → js_meaning.Code
@@ -91,21 +109,21 @@ pub record StaticStands (p : Place) (c f : List ℕ) (t : IrType) : Type 0 where
   pub sets : js_meaning.code_of p.program (p.home (a_setter c f t)) (setter_name c f) ≡ Some (setter_code c f)
   pub owned : owner p.program (p.home (a_setter c f t)) (static_name c f) ≡ Some (p.home (a_setter c f t))
 
--- what the code of any file can use is there, and what a call of a public member runs is its target; an object stands at its class; and around a call there are two units for a helper, and one beyond those of the IR
+-- what the code of any file can use is there, and what a call of a public member runs is its target; no object is made of a hijacked class; and around a call there are two units for a helper, and one beyond those of the IR: the cast of a class takes all three, for itself, its test and that of a kind
 pub record HasObjects (p : Place) : Type 0 where
   pub linked : (f : Name) (m : Member) → (p.has f).linked m ≡ true → Linked p m
   pub received : (f : Name) (m : Member) → (p.has f).received m ≡ true → RunsOn p m
   pub targets : (f : Name) (m : Member) → (p.has f).received ((p.has f).target m) ≡ true → IsTargetOf p.classes m ((p.has f).target m)
   pub built : (f : Name) (m : Member) → (p.has f).built m ≡ true → Constructs p m
   pub made : (f : Name) (c : List ℕ) → (p.has f).made c ≡ true → IsMade p c
-  pub objects : (f : Name) (c : List ℕ) → (p.has f).made c ≡ true → is_bare (class_type c) ≡ false
+  pub objects : (f : Name) (c : List ℕ) → (p.has f).made c ≡ true → is_hijacked c ≡ false
   pub field : (f : Name) (c g : List ℕ) (t : IrType) → (p.has f).field c g t ≡ true → HasField p c g t
   pub statics : (f : Name) (c g : List ℕ) (t : IrType) → has_static (p.has f) c g t ≡ true → StaticStands p c g t
   pub checked : (f : Name) → (p.has f).helper check_name ≡ true → CanCheck p
   pub divided : (f : Name) (o : BinaryOp) → divides (p.has f) o ≡ true → CanDivide p o
   pub boxes : (f : Name) → can_box (p.has f) ≡ true → BoxStands p
-  pub tested : (f : Name) (t : IrType) → (p.has f).tests t ≡ true → CanTest p t
-  pub cast : (f : Name) (t : IrType) → (p.has f).casts t ≡ true → CanCast p t
+  pub tested : (f : Name) (t : IrType) → (p.has f).tests t ≡ true → Tested p t
+  pub cast : (f : Name) (t : IrType) → (p.has f).casts t ≡ true → Casted p t
   pub compared : (f : Name) → compares (p.has f) ≡ true → CanCompare p
   pub each : 2 ≤ p.room.each
   pub beyond : 1 ≤ p.room.beyond

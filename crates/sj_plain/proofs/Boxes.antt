@@ -21,6 +21,7 @@ use Rattle.ir_mean.specs.States as ir
 use Rattle.js_mean.specs.Meaning as js_meaning
 use Rattle.js_mean.specs.Objects as js_objects
 use Rattle.js_mean.specs.States as js
+use Rattle.js_tree.specs.Terms.{Name}
 use Rattle.sj_core.specs.Terms as core
 use Rattle.sj_desugar.specs.Coercions.{is_char, coerced, coerced_arguments, coerced_receiver}
 use Rattle.sj_desugar.specs.Desugar.{types_of}
@@ -56,8 +57,8 @@ module _ (p : Place) (w : World) (s : ir.State) (u : js.State) (same : SameState
   abbrev pub more_owned : World
   more_owned = with_owned (js_objects.next_address u) o w
 
-  pub state-owns : SameState p more_owned s (js_objects.with_stored o u)
-  state-owns = record { heaps = owns p w s.heap u.heap same.heaps o; tops = λ f t h. top-carry p w.owned more_owned.owned (owned-still p w s.heap u.heap same.heaps o) t (u.tops (p.home t) (top_name t)) (same.tops f t h); statics = λ f c n t h. holding-carry w more_owned t (λ i a e. e) (owned-still p w s.heap u.heap same.heaps o) refl (s.statics c n) (u.tops (p.home (a_static c n t)) (static_name c n)) (same.statics f c n t h) }
+  pub state-owns : ((constants : Name → Option js.Value) → o ≡ js.plain [] constants → ⊥) → SameState p more_owned s (js_objects.with_stored o u)
+  state-owns classed = record { heaps = owns p w s.heap u.heap same.heaps o classed; tops = λ f t h. top-carry p w.owned more_owned.owned (owned-still p w s.heap u.heap same.heaps o) t (u.tops (p.home t) (top_name t)) (same.tops f t h); statics = λ f c n t h. holding-carry w more_owned t (λ i a e. e) (owned-still p w s.heap u.heap same.heaps o) refl (s.statics c n) (u.tops (p.home (a_static c n t)) (static_name c n)) (same.statics f c n t h) }
 
   pub grows-owned : Grows w more_owned
   grows-owned = record { places = λ i a e. e; owns = owned-still p w s.heap u.heap same.heaps o; pends = λ a b e. e; boxes = refl }

@@ -8,7 +8,7 @@ use Rattle.js_tree.specs.Terms.{Name}
 use Rattle.sj_mangling.specs.Bindings.{field_binding}
 use Rattle.sj_mangling.specs.declared.bindings.FieldBinding.TheVariants.{Property}
 use Rattle.sj_trees.specs.declared.types.IrType.{IrType}
-use Rattle.sj_plain.specs.Settings.{Place, link_of, TellsClass, SameField, same_field, no_field, SameStored, same_object, SameHeap, Holding, holding}
+use Rattle.sj_plain.specs.Settings.{Place, link_of, TellsClass, SameField, same_field, no_field, SameStored, same_object, MarksAncestors, IsFree, SameHeap, Holding, holding}
 use Rattle.sj_plain.specs.Worlds.{with_pending, with_owned, with_born}
 use Rattle.sj_plain.proofs.Worlds.{World, value-carry}
 
@@ -84,7 +84,9 @@ module _ (p : Place) (w : World) (s : List ir.Stored) (u : List js.Stored) (h : 
   pub pends : (o : js.Stored) → SameHeap p (with_pending (length u) o w) s (u ++ o ∷ [])
   pends o = record {
     objects = λ i a e. subst (λ q. SameStored p (with_pending (length u) o w) (slice_get s i) q) (sym (front-there i a o e)) (stored-carry p w (with_pending (length u) o w) (λ i a e. e) (λ a o e. e) refl (slice_get s i) (slice_get u a) (h.objects i a e));
+    free = h.free;
     differ = h.differ;
+    marked = h.marked;
     boxes = h.boxes;
     owned = λ a b e. get-front u (o ∷ []) a b (h.owned a b e);
     pending = λ a b e. here a b (a == length u) refl e;
@@ -116,11 +118,13 @@ module _ (p : Place) (w : World) (s : List ir.Stored) (u : List js.Stored) (h : 
       go true k = absurd (not-past u b (subst (λ x. slice_get u x ≡ Some b) (numbers-same a (length u) k) (h.owned a b e)))
       go false k = ap (λ (t : Bool). if t then Some o else w.owned a) k ∙ e
 
-  -- an object that the emitted code makes for itself
-  pub owns : (o : js.Stored) → SameHeap p (with_owned (length u) o w) s (u ++ o ∷ [])
-  owns o = record {
+  -- an object of some class that the emitted code makes for itself
+  pub owns : (o : js.Stored) → ((constants : Name → Option js.Value) → o ≡ js.plain [] constants → ⊥) → SameHeap p (with_owned (length u) o w) s (u ++ o ∷ [])
+  owns o classed = record {
     objects = λ i a e. subst (λ q. SameStored p (with_owned (length u) o w) (slice_get s i) q) (sym (front-there i a o e)) (stored-carry p w (with_owned (length u) o w) (λ i a e. e) (owned-still o) refl (slice_get s i) (slice_get u a) (h.objects i a e));
+    free = h.free;
     differ = h.differ;
+    marked = λ a constants e. marks a constants (a == length u) refl e;
     boxes = h.boxes;
     owned = λ a b e. here a b (a == length u) refl e;
     pending = λ a b e. get-front u (o ∷ []) a b (h.pending a b e);
@@ -129,6 +133,13 @@ module _ (p : Place) (w : World) (s : List ir.Stored) (u : List js.Stored) (h : 
     separate = λ a b d e k. waits a b d (a == length u) refl e k;
   }
     where
+      one-stored : (a b : js.Stored) → ◌≡◌ {A = Option js.Stored} (Some a) (Some b) → a ≡ b
+      one-stored a b e = cc
+
+      marks : (a : ℕ) (constants : Name → Option js.Value) (t : Bool) → (a == length u) ≡ t → (if t then Some o else w.owned a) ≡ Some (js.plain [] constants) → MarksAncestors p.classes constants
+      marks a constants true e k = absurd (classed constants (one-stored o (js.plain [] constants) k))
+      marks a constants false e k = h.marked a constants k
+
       here : (a : ℕ) (b : js.Stored) (t : Bool) → (a == length u) ≡ t → (if t then Some o else w.owned a) ≡ Some b → slice_get (u ++ o ∷ []) a ≡ Some b
       here a b true e k = subst (λ x. slice_get (u ++ o ∷ []) x ≡ Some b) (sym (numbers-same a (length u) e)) (get-end u o ∙ k)
       here a b false e k = get-front u (o ∷ []) a b (h.owned a b k)
@@ -142,10 +153,12 @@ module _ (p : Place) (w : World) (s : List ir.Stored) (u : List js.Stored) (h : 
       waits a b d false q e k = h.separate a b d e k
 
   -- the IR makes its object for one that is pending
-  pub births : (a : ℕ) (o : js.Stored) (q : ir.Stored) → w.pending a ≡ Some o → SameStored p w (Some q) (Some o) → SameHeap p (with_born (length s) a w) (s ++ q ∷ []) u
-  births a o q there alike = record {
+  pub births : (a : ℕ) (o : js.Stored) (q : ir.Stored) → w.pending a ≡ Some o → IsFree (Some q) → SameStored p w (Some q) (Some o) → SameHeap p (with_born (length s) a w) (s ++ q ∷ []) u
+  births a o q there free alike = record {
     objects = λ i b e. object i b (i == length s) refl e;
     differ = λ i j b e k. two i j b (i == length s) (j == length s) refl refl e k;
+    free = λ i b e. frees i b (i == length s) refl e;
+    marked = h.marked;
     boxes = h.boxes;
     owned = h.owned;
     pending = λ b d e. other b d (b == a) refl e;
@@ -171,6 +184,10 @@ module _ (p : Place) (w : World) (s : List ir.Stored) (u : List js.Stored) (h : 
       object i b true k e = subst (λ x. SameStored p y (slice_get (s ++ q ∷ []) x) (slice_get u b)) (sym (numbers-same i (length s) k)) (subst (λ x. SameStored p y x (slice_get u b)) (sym (get-end s q)) (subst (λ x. SameStored p y (Some q) (slice_get u x)) (some-same a b e) (subst (λ x. SameStored p y (Some q) x) (sym (h.pending a o there)) (stored-carry p w y placed (λ a o e. e) refl (Some q) (Some o) alike))))
       object i b false k e = let r = (stored-there p w (slice_get s i) (slice_get u b) (h.objects i b e)).0 in subst (λ x. SameStored p y x (slice_get u b)) (r.is ∙ sym (get-front s (q ∷ []) i r.what r.is)) (stored-carry p w y placed (λ a o e. e) refl (slice_get s i) (slice_get u b) (h.objects i b e))
 
+      frees : (i b : ℕ) (t : Bool) → (i == length s) ≡ t → (if t then Some a else w.place i) ≡ Some b → IsFree (slice_get (s ++ q ∷ []) i)
+      frees i b true k e = subst (λ x. IsFree (slice_get (s ++ q ∷ []) x)) (sym (numbers-same i (length s) k)) (subst IsFree (sym (get-end s q)) free)
+      frees i b false k e = let r = (stored-there p w (slice_get s i) (slice_get u b) (h.objects i b e)).0 in subst IsFree (r.is ∙ sym (get-front s (q ∷ []) i r.what r.is)) (h.free i b e)
+
       two : (i j b : ℕ) (t v : Bool) → (i == length s) ≡ t → (j == length s) ≡ v → (if t then Some a else w.place i) ≡ Some b → (if v then Some a else w.place j) ≡ Some b → i ≡ j
       two i j b true true k l e f = numbers-same i (length s) k ∙ sym (numbers-same j (length s) l)
       two i j b true false k l e f = absurd (h.unborn j a o (subst (λ x. w.place j ≡ Some x) (sym (some-same a b e)) f) there)
@@ -195,10 +212,12 @@ module _ (p : Place) (w : World) (s : List ir.Stored) (u : List js.Stored) (h : 
       sep b d f e false k l = h.separate b d f e l
 
   -- something else stands at an address of both
-  pub writes : (i a : ℕ) (q : ir.Stored) (o : js.Stored) → w.place i ≡ Some a → SameStored p w (Some q) (Some o) → SameHeap p w (set s i q) (set u a o)
-  writes i a q o there alike = record {
+  pub writes : (i a : ℕ) (q : ir.Stored) (o : js.Stored) → w.place i ≡ Some a → IsFree (Some q) → SameStored p w (Some q) (Some o) → SameHeap p w (set s i q) (set u a o)
+  writes i a q o there free alike = record {
     objects = λ j b e. object j b (j == i) refl e;
+    free = λ j b e. frees j b (j == i) refl e;
     differ = h.differ;
+    marked = h.marked;
     boxes = h.boxes;
     owned = λ b d e. get-set_other u b a o (λ k. h.apart i a d there (subst (λ x. w.owned x ≡ Some d) k e)) ∙ h.owned b d e;
     pending = λ b d e. get-set_other u b a o (λ k. h.unborn i a d there (subst (λ x. w.pending x ≡ Some d) k e)) ∙ h.pending b d e;
@@ -209,6 +228,10 @@ module _ (p : Place) (w : World) (s : List ir.Stored) (u : List js.Stored) (h : 
     where
       some-same : (c d : ℕ) → ◌≡◌ {A = Option ℕ} (Some c) (Some d) → c ≡ d
       some-same c d e = cc
+
+      frees : (j b : ℕ) (t : Bool) → (j == i) ≡ t → w.place j ≡ Some b → IsFree (slice_get (set s i q) j)
+      frees j b true k e = let r = (stored-there p w (slice_get s i) (slice_get u a) (h.objects i a there)).0 in subst (λ x. IsFree (slice_get (set s i q) x)) (sym (numbers-same j i k)) (subst IsFree (sym (get-set s i r.what q r.is)) free)
+      frees j b false k e = subst IsFree (sym (get-set_other s j i q (numbers-apart j i k))) (h.free j b e)
 
       object : (j b : ℕ) (t : Bool) → (j == i) ≡ t → w.place j ≡ Some b → SameStored p w (slice_get (set s i q) j) (slice_get (set u a o) b)
       object j b true k e = let same : j ≡ i = numbers-same j i k in let to : a ≡ b = some-same a b (sym there ∙ ap w.place (sym same) ∙ e) in let r = stored-there p w (slice_get s i) (slice_get u a) (h.objects i a there) in subst (λ x. SameStored p w (slice_get (set s i q) x) (slice_get (set u a o) b)) (sym same) (subst (λ x. SameStored p w (slice_get (set s i q) i) (slice_get (set u a o) x)) to (subst (λ x. SameStored p w x (slice_get (set u a o) a)) (sym (get-set s i r.0.what q r.0.is)) (subst (λ x. SameStored p w (Some q) x) (sym (get-set u a r.1.what o r.1.is)) alike)))

@@ -1,17 +1,35 @@
 -- A value that suits a type suits each type for which that one may stand.
-use Rattle.std.proofs.Common.{◌≡◌, ℕ, Bool, true, false, refl, ap, sym, ◌∙◌}
-use Rattle.std.specs.Prelude.{not, ◌||◌}
+use Rattle.std.proofs.Common.{◌≡◌, ℕ, Bool, true, false, List, refl, ap, sym, ◌∙◌, subst, if◌then◌else◌}
+use Rattle.std.specs.Prelude.{not, ◌||◌, codes, nat_eq}
+use Rattle.std.specs.Cmp.Lexicographic.{pointwise}
 use Rattle.ir_mean.specs.States as ir
 use Rattle.sj_desugar.specs.Coercions.{is_char}
-use Rattle.sj_names.proofs.Same.{impossible}
+use Rattle.sj_names.proofs.Same.{impossible, text-same}
+use Rattle.sj_trees.specs.Types.{class_type}
 use Rattle.sj_trees.specs.declared.types.IrType.{IrType}
 use Rattle.sj_trees.specs.declared.types.IrType.TheVariants.{Any, Nothing, Undefined, Boolean, Char, Byte, Short, Int, Long, String, Class, Null, Array, NoType}
 use Rattle.sj_plain.specs.Standing.{suits}
 use Rattle.body_rules.specs.Standing.{is_bare, Fits}
+use Rattle.sj_world.specs.Known.{is_hijacked}
 
 not-true : (b : Bool) → not b ≡ true → b ≡ false
 not-true true h = impossible h
 not-true false h = refl
+
+-- a class that isn't hijacked isn't that of texts, and objects stand at its type
+pub class-open : (c : List ℕ) → is_hijacked c ≡ false → is_bare (Class c) ≡ false
+class-open c free = go (is_bare (Class c)) refl
+  where
+    go : (b : Bool) → is_bare (Class c) ≡ b → is_bare (Class c) ≡ false
+    go false e = e
+    go true e = impossible (sym free ∙ subst (λ (n : List ℕ). is_hijacked n ≡ true) (sym (text-same c (codes "java.lang.String") e)) refl)
+
+pub type-open : (c : List ℕ) → is_hijacked c ≡ false → is_bare (class_type c) ≡ false
+type-open c free = go (pointwise nat_eq c (codes "java.lang.Object"))
+  where
+    go : (b : Bool) → is_bare (if b then Any else Class c) ≡ false
+    go true = refl
+    go false = class-open c free
 
 -- a reference that suits a type isn't of a bare one
 not_bare : (t : IrType) (i : ℕ) → suits t (ir.reference i) ≡ true → is_bare t ≡ false

@@ -1,5 +1,5 @@
 -- What a body is compared in: the two programs, how things are named, and what the levels below give.
-use Rattle.std.specs.Prelude.{◌≡◌, ℕ, ◌^◌, ◌<◌, Bool, true, false, ◌&&◌, not, List, [], ◌∷◌, map, slice_get, codes, nat_eq, pos, Option, Some, None}
+use Rattle.std.specs.Prelude.{◌≡◌, ◌↔◌, ℕ, ◌^◌, ◌<◌, Bool, true, false, ◌&&◌, not, List, [], ◌∷◌, map, slice_get, codes, nat_eq, pos, Option, Some, None, is_some}
 use Rattle.std.specs.Cmp.Lexicographic.{pointwise}
 use Rattle.std.specs.List.{Contains}
 use Rattle.js_tree.specs.Terms.{Name}
@@ -32,10 +32,12 @@ use Rattle.sj_names.specs.declared.method_names.Member.{Member}
 use Rattle.body_rules.specs.Subtyping.{IsSubtyping}
 use Rattle.sj_plain.specs.Standing.{suits}
 use Rattle.sj_plain.specs.Worlds.{World, with_pending, Grows, SameValue, SameValues}
+use Rattle.sj_world.specs.Ancestors.{IsAncestor}
+use Rattle.sj_world.specs.Known.{is_hijacked}
 use Rattle.sj_world.specs.Subtypes.{IsSub}
 use Rattle.built_forms.specs.Built.{Usable, has_static, can_box, divides, compares}
 use Rattle.body_rules.specs.Locals.{Scope, HasValue}
-use Rattle.body_rules.specs.Standing.{is_bare, types_referred, call_type}
+use Rattle.body_rules.specs.Standing.{types_referred, call_type}
 use Rattle.sj_trees.specs.declared.classes.ClassDef.{ClassDef}
 use Rattle.sj_trees.specs.declared.classes.FieldDef.{FieldDef}
 use Rattle.sj_trees.specs.TypeOf.{binary_result}
@@ -194,12 +196,24 @@ box_link p = record { file = p.home (a_helper BoxedChar); name = helper_name Box
 pub data SameStored (p : Place) (w : World) : Option ir.Stored → Option js.Stored → Type 0 where
   same_object : (c : List ℕ) (fields : ir.Fields) (properties : Name → Option js.Value) → TellsClass w c properties → ((d f : List ℕ) (t : IrType) → IsField p.classes d f t → SameField w t (fields d f) (properties (field_binding Property d f))) → SameStored p w (Some (ir.object c fields)) (Some (js.plain (links_of p c) properties))
 
--- the heaps stand for each other: what has an address in the world stands on both; two addresses of the IR have two; what the emitted code has for
--- itself, or has made before the IR, stands where it stood, at no address of the world; and objects that hold chars are of their class
+-- constants with the marker of a class under `s` have the markers of the classes that stand above it, and of no other
+abbrev pub MarksAncestors : ir_world.World → (Name → Option js.Value) → Type 0
+MarksAncestors classes constants = (c b : List ℕ) → constants (codes "s") ≡ Some (js.text (class_binding Marker c)) → (is_some (constants (class_binding Marker b)) ≡ true) ↔ IsAncestor classes c b
+
+-- an object of the IR is of no hijacked class: the values of these are primitive
+abbrev pub IsFree : Option ir.Stored → Type 0
+IsFree (Some (ir.object c fields)) = is_hijacked c ≡ false
+IsFree _ = Unit {0}
+
+-- the heaps stand for each other: what has an address in the world stands on both, and is of no hijacked class; two addresses of the IR have two; what the emitted
+-- code has for itself, or has made before the IR, stands where it stood, at no address of the world; constants among it have the markers of ancestors; and objects
+-- that hold chars are of their class
 pub record SameHeap (p : Place) (w : World) (s : List ir.Stored) (u : List js.Stored) : Type 0 where
   pub objects : (i a : ℕ) → w.place i ≡ Some a → SameStored p w (slice_get s i) (slice_get u a)
+  pub free : (i a : ℕ) → w.place i ≡ Some a → IsFree (slice_get s i)
   pub differ : (i j a : ℕ) → w.place i ≡ Some a → w.place j ≡ Some a → i ≡ j
   pub owned : (a : ℕ) (o : js.Stored) → w.owned a ≡ Some o → slice_get u a ≡ Some o
+  pub marked : (a : ℕ) (constants : Name → Option js.Value) → w.owned a ≡ Some (js.plain [] constants) → MarksAncestors p.classes constants
   pub pending : (a : ℕ) (o : js.Stored) → w.pending a ≡ Some o → slice_get u a ≡ Some o
   pub apart : (i a : ℕ) (o : js.Stored) → w.place i ≡ Some a → w.owned a ≡ Some o → ⊥
   pub unborn : (i a : ℕ) (o : js.Stored) → w.place i ≡ Some a → w.pending a ≡ Some o → ⊥
@@ -329,7 +343,7 @@ pub record HasStatic (p : Place) (c f : List ℕ) (t : IrType) : Type 0 where
   pub value : HasValue t
   pub differ : StaticsDiffer p
 
--- subtyping is ordered, and what the levels below give of what is called, set and made; an object stands at its class
+-- subtyping is ordered, and what the levels below give of what is called, set and made; no object is made of a hijacked class
 pub record Based (z : Setting) : Type 0 where
   pub ordered : IsSubtyping (IsSub z.place.classes)
   pub names : NamesDiffer z.place
@@ -341,7 +355,7 @@ pub record Based (z : Setting) : Type 0 where
   pub receives : (m : Member) → (usable z).received (called_member (usable z).target m.namespace m) ≡ true → ReceivesAlike z m
   pub builds : (m : Member) → (usable z).built m ≡ true → BuildsAlike z m
   pub makes : (c : List ℕ) → (usable z).made c ≡ true → MakesAlike z c
-  pub objects : (c : List ℕ) → (usable z).made c ≡ true → is_bare (class_type c) ≡ false
+  pub objects : (c : List ℕ) → (usable z).made c ≡ true → is_hijacked c ≡ false
 
 -- the null check of a value, and its helper
 abbrev pub ChecksAlike : Setting → Type 0
