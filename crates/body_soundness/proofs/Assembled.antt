@@ -1,22 +1,10 @@
 -- A world that has what its classes give has the laws on objects.
-use Rattle.std.proofs.Common.{◌≡◌, Bool, true, false, codes, refl, sym, ◌∙◌, subst}
-use Rattle.body_rules.specs.Standing.{is_bare}
 use Rattle.body_soundness.proofs.Chains.{on_chain, no_primitive, class_hijacked}
 use Rattle.body_soundness.proofs.Lengths.{chain_of_has}
 use Rattle.body_soundness.specs.Laws.{ObjectLaws}
 use Rattle.body_soundness.specs.Worlds.{ObjectWorld}
 use Rattle.built_forms.specs.Built.{Usable}
-use Rattle.sj_names.proofs.Same.{impossible, text-same}
-use Rattle.sj_trees.specs.declared.types.IrType.TheVariants.{Class}
-use Rattle.sj_world.specs.Known.{Name, Classes, is_hijacked}
-
--- a class that isn't hijacked isn't that of texts
-not_bare : (c : Name) → is_hijacked c ≡ false → is_bare (Class c) ≡ false
-not_bare c free = go (is_bare (Class c)) refl
-  where
-    go : (b : Bool) → is_bare (Class c) ≡ b → is_bare (Class c) ≡ false
-    go false e = e
-    go true e = impossible (sym free ∙ subst (λ (n : Name). is_hijacked n ≡ true) (sym (text-same c (codes "java.lang.String") e)) refl)
+use Rattle.sj_world.specs.Known.{Classes}
 
 pub laws_of : (w : Classes) (has : Usable) → ObjectWorld w has → ObjectLaws w has
 laws_of w has h = record {
@@ -24,7 +12,7 @@ laws_of w has h = record {
   targets = h.targets;
   built = h.built;
   once = h.once;
-  made = λ c m. not_bare c (h.made c m).0;
+  made = λ c m. (h.made c m).0;
   fields = λ c f t i. ((h.fields c f t i).1, (h.fields c f t i).2);
   one_type = h.one_type;
   holders = λ c f t i d m sub. let its = h.made d m in chain_of_has w h.kept h.acyclic c d its.0 (on_chain w h.kept c d (h.fields c f t i).0 its.0 its.1 sub);

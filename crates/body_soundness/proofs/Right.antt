@@ -42,7 +42,7 @@ use Rattle.typing_rules.specs.Rules.{IsStatic, IsReceiver, ArgumentsFit, Yields,
 use Rattle.body_rules.specs.Operators.{IsDivision, a_quotient, a_remainder, IsLongDivision, a_long_quotient, a_long_remainder, DividesBy, by_int, by_long}
 use Rattle.built_forms.proofs.Statics.{read_static, set_static}
 use Rattle.built_forms.specs.Built.{Usable, has_static, can_cast}
-use Rattle.body_rules.specs.Standing.{call_type}
+use Rattle.body_rules.specs.Standing.{is_bare, call_type}
 use Rattle.body_rules.specs.Typing.{RunsOnObject, AllHaveValues, may_check, IsTrueLiteral, true_literal, Scene, behind, in_label, Typed, TypedBlock, TypedAll, TypedCases}
 use Rattle.body_rules.specs.Locals.{Own, OwnAll, OwnCases, IsParameter, local_of, HasValue, HaveValues}
 use Rattle.body_rules.proofs.Equal.{is-equal}
@@ -55,6 +55,7 @@ use Rattle.body_rules.proofs.RulesGive.{class_has_value, Takes, its_types, texts
 use Rattle.built_forms.proofs.Around.{type_inside}
 use Rattle.sj_world.specs.Ancestors.{by_path}
 use Rattle.sj_world.specs.Known as known
+use Rattle.sj_world.specs.Known.{is_hijacked}
 use Rattle.sj_world.specs.Paths.{stay}
 use Rattle.sj_world.specs.Subtypes.{IsSub, to_any, null_to_class, null_to_array, primitive_to_class}
 use Rattle.body_rules.proofs.Topped.{string_class}
@@ -86,6 +87,14 @@ comes_then P Q o f h k = comes_after P Q o.lines o.end f h k
 -- it doesn't hold null
 abbrev pub NeverNull : Option ir.Value → Type 0
 NeverNull o = o ≡ Some ir.null → ⊥
+
+-- a class that isn't hijacked isn't that of texts
+not_bare : (c : List ℕ) → is_hijacked c ≡ false → is_bare (Class c) ≡ false
+not_bare c free = go (is_bare (Class c)) refl
+  where
+    go : (b : Bool) → is_bare (Class c) ≡ b → is_bare (Class c) ≡ false
+    go false e = e
+    go true e = impossible (sym free ∙ subst (λ (n : List ℕ). is_hijacked n ≡ true) (sym (text-same c (codes "java.lang.String") e)) refl)
 
 some_same : (v a : ir.Value) → ◌≡◌ {A = Option ir.Value} (Some v) (Some a) → v ≡ a
 some_same v a e = cc
@@ -676,7 +685,7 @@ module _ (w : World) (law : IsSubtyping (IsSub w)) (has : Usable) where
         more = adds_one laws at c made st i.heap
 
         its_type : (k : Classes) → Adds after_it k → HasType (IsSub w) law k object (class_type c)
-        its_type k b = has_type (Class c) (of_object (ir.next_address st) c (b.keeps (ir.next_address st) c (class_there laws at c made st i.heap)) (laws.made c made)) (class_below c)
+        its_type k b = has_type (Class c) (of_object (ir.next_address st) c (b.keeps (ir.next_address st) c (class_there laws at c made st i.heap)) (not_bare c (laws.made c made))) (class_below c)
 
     -- an exception that is made and thrown
     raise_right : (c message : List ℕ) → has.made c ≡ true → has.built (member c Constructor ir_meaning.with_message) ≡ true → (s : Scene) (t : IrType) (at : Classes) (env : ir.Env) (st : ir.State) → Ready at (frame_of s) s.locals env st → FullRight at s t (ir_meaning.raise w low c message env st)

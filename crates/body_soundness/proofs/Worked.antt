@@ -5,7 +5,6 @@ use Rattle.std.proofs.lemmas.Bool.{and_parts}
 use Rattle.body_rules.proofs.Lists.{nothing_in, in_front_or_behind, at_front, further_on}
 use Rattle.body_rules.proofs.Plain.{class_found, plain_world}
 use Rattle.body_rules.specs.Locals.{HasValue}
-use Rattle.body_rules.specs.Standing.{is_bare}
 use Rattle.body_rules.proofs.RulesGive.{no_division}
 use Rattle.dispatch_laws.proofs.OwnTargets.{own_target}
 use Rattle.body_soundness.proofs.Modules.{never_wrong}
@@ -41,7 +40,7 @@ use Rattle.sj_trees.specs.declared.classes.MethodDef.{MethodDef}
 use Rattle.sj_trees.specs.declared.types.IrType.{IrType}
 use Rattle.sj_trees.specs.declared.types.IrType.TheVariants.{Class, Int}
 use Rattle.sj_world.specs.Ancestors.{next_on_chain, IsOnChain}
-use Rattle.sj_world.specs.Known.{Name, stands_as}
+use Rattle.sj_world.specs.Known.{Name, stands_as, is_hijacked}
 use Rattle.sj_world.specs.Laws.{IsPlain}
 use Rattle.sj_world.specs.Paths.{stay, on}
 use Rattle.sj_world.specs.Subtypes.{hijacked_class, IsSub, equal}
@@ -126,9 +125,9 @@ made_is c h = go (is_same_text c class_name) refl h
     go true e k = inl (text-same c class_name e)
     go false e k = inr (text-same c object_name k)
 
-none_bare : (c : List ℕ) → (c ≡ class_name) ⊎ (c ≡ object_name) → is_bare (Class c) ≡ false
-none_bare c (inl e) = subst (λ (n : List ℕ). is_bare (Class n) ≡ false) (sym e) refl
-none_bare c (inr e) = subst (λ (n : List ℕ). is_bare (Class n) ≡ false) (sym e) refl
+none_hijacked : (c : List ℕ) → (c ≡ class_name) ⊎ (c ≡ object_name) → is_hijacked c ≡ false
+none_hijacked c (inl e) = subst (λ (n : List ℕ). is_hijacked n ≡ false) (sym e) refl
+none_hijacked c (inr e) = subst (λ (n : List ℕ). is_hijacked n ≡ false) (sym e) refl
 
 only_top : (c : Name) → IsOnChain object_world object_name c → c ≡ object_name
 only_top _ stay = refl
@@ -194,7 +193,7 @@ object_laws = record {
   targets = λ m h. own_target object_world m;
   built = built_right;
   once = λ r m d e found body. names m d e found body;
-  made = λ c h. none_bare c (made_is c h);
+  made = λ c h. none_hijacked c (made_is c h);
   fields = λ c f t h. zeros c f t (field_is c f t h);
   one_type = λ c f s t h k. same_types c f s t (field_is c f s h) (field_is c f t k);
   holders = λ c f t h d m sub. on_chain c f t d (field_is c f t h) (made_is d m) sub;

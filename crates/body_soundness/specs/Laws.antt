@@ -2,7 +2,6 @@
 use Rattle.std.specs.Prelude.{◌≡◌, ℕ, true, false, List, Some, codes}
 use Rattle.std.specs.List.{list_any}
 use Rattle.body_rules.specs.Locals.{HasValue}
-use Rattle.body_rules.specs.Standing.{is_bare}
 use Rattle.body_soundness.specs.Rules.{RightMember}
 use Rattle.built_forms.specs.Built.{Usable, has_static, divides}
 use Rattle.dispatch_laws.specs.Targets.{IsTargetOf}
@@ -21,6 +20,7 @@ use Rattle.sj_trees.specs.Types.{class_type}
 use Rattle.sj_trees.specs.declared.operators.BinaryOp.{BinaryOp}
 use Rattle.sj_trees.specs.declared.types.IrType.{IrType}
 use Rattle.sj_trees.specs.declared.types.IrType.TheVariants.{Class}
+use Rattle.sj_world.specs.Known.{is_hijacked}
 use Rattle.sj_world.specs.Subtypes.{hijacked_class, IsSub}
 
 -- there are receivers that have to be known or checked: those of fields that are read, and of calls
@@ -37,8 +37,8 @@ arithmetic = codes "java.lang.ArithmeticException"
 abbrev pub class_cast : List ℕ
 class_cast = codes "java.lang.ClassCastException"
 
--- Members that run on an object and constructors keep the rules, and what a call of a member runs is its target; where there are receivers, bodies define no local twice; objects of a class that is made
--- stand at no bare type. A field that can be read has one type, with values, and is an instance field of its class, which stands on the chain of
+-- Members that run on an object and constructors keep the rules, and what a call of a member runs is its target; where there are receivers, bodies define no local twice; no class
+-- that is made is hijacked. A field that can be read has one type, with values, and is an instance field of its class, which stands on the chain of
 -- superclasses of each class that is made below it; no primitive type is below it. A static field that can be used has one type, with values, and is one of its class. Where the null check can be used, its exception is
 -- made, and so are that of a division whose helper can be used and that of a cast that can be used.
 pub record ObjectLaws (w : World) (has : Usable) : Type 0 where
@@ -46,7 +46,7 @@ pub record ObjectLaws (w : World) (has : Usable) : Type 0 where
   pub targets : (m : Member) → has.received (has.target m) ≡ true → IsTargetOf w m (has.target m)
   pub built : (m : Member) → has.built m ≡ true → RightMember w has m
   pub once : HasReceivers has → (m : Member) (d : MethodDef) (e : Term) → member_of w m.class m.namespace m.method ≡ Some d → d.body ≡ Some e → NamesOnce d e
-  pub made : (c : List ℕ) → has.made c ≡ true → is_bare (Class c) ≡ false
+  pub made : (c : List ℕ) → has.made c ≡ true → is_hijacked c ≡ false
   pub fields : (c f : List ℕ) (t : IrType) → has.field c f t ≡ true → HasValue t × (zeros_in (class_of w c) f ≡ Some (zero_of t))
   pub one_type : (c f : List ℕ) (s t : IrType) → has.field c f s ≡ true → has.field c f t ≡ true → s ≡ t
   pub holders : (c f : List ℕ) (t : IrType) → has.field c f t ≡ true → (d : List ℕ) → has.made d ≡ true → IsSub w (Class d) (class_type c) → list_any (is_same_text c) (chain_of w d) ≡ true

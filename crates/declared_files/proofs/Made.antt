@@ -1,29 +1,24 @@
 -- What stands on the heap behind files that declare are the objects that they declare, and constants tell the classes above theirs.
-use Rattle.std.proofs.Common.{◌≡◌, ◌⊎◌, ℕ, true, List, [], ◌∷◌, ◌++◌, map, Option, Some, inl, inr, slice_get, sym, subst, ◌∙◌, Contains, codes}
-use Rattle.std.specs.Prelude.{◌↔◌, is_some}
-use Rattle.std.proofs.lemmas.List.{append_cancel_left}
+use Rattle.std.proofs.Common.{◌≡◌, ◌⊎◌, ℕ, true, List, [], ◌∷◌, ◌++◌, map, Option, Some, inl, inr, ⊎_elim, slice_get, sym, subst, Contains}
 use Rattle.std.proofs.lemmas.List.Elements.{Contains-append_left, Contains-append_right}
-use Rattle.class_tests.proofs.Marked.{markers_tell}
-use Rattle.file_declarations.proofs.Begun.{marker_held}
+use Rattle.body_rules.proofs.Lists.{nothing_in, in_front_or_behind, at_front, further_on}
+use Rattle.file_declarations.proofs.Begun.{marks_above}
 use Rattle.file_tops.proofs.Made.{heaps_are_of_items}
 use Rattle.file_tops.proofs.Run.{each}
 use Rattle.file_tops.specs.Laws.{OfItem, of_item}
 use Rattle.file_tops.specs.Tops.{literal_properties, after_items, after_files}
-use Rattle.helper_rules.specs.Helpers.{constants}
-use Rattle.helper_rules.specs.Words.{marker}
 use Rattle.js_mean.specs.Files.{module_among, items_in}
 use Rattle.js_mean.specs.Objects.{no_properties}
-use Rattle.js_mean.specs.States.{Value, text, Stored, plain, State, Program}
+use Rattle.js_mean.specs.States.{Value, Stored, plain, State, Program}
 use Rattle.js_tree.specs.Terms.{Name, Property, Item, object_item}
-use Rattle.sj_mangling.proofs.Injective.{mangled_texts_differ}
-use Rattle.sj_mangling.specs.Mangling.{mangled}
 use Rattle.sj_plain.specs.Settings.{MarksAncestors}
-use Rattle.sj_split.proofs.Members.{into_map}
-use Rattle.sj_world.specs.Ancestors.{IsAncestor}
 use Rattle.sj_world.specs.Known.{Classes}
-use Rattle.sj_world.specs.Tables.{AreAncestors}
 use Rattle.declared_files.specs.Declared.{AreConstants}
 use Rattle.declared_files.specs.Placed.{Placed, placed, items_until, OfPlaced, of_placed}
+
+into_map : (g : Name) (is : List Item) (i : Item) → Contains is i → Contains (map (placed g) is) (placed g i)
+into_map g [] i h = nothing_in i h
+into_map g (j ∷ js) i h = ⊎_elim (λ same. subst (λ (k : Item). Contains (map (placed g) (j ∷ js)) (placed g k)) same (at_front (placed g j) (map (placed g) js))) (λ later. further_on (placed g j) (map (placed g) js) (placed g i) (into_map g js i later)) (in_front_or_behind j js i h)
 
 -- an object of an item that stands among these
 of_its : (is : List Item) (g : Name) (ls : List Placed) (y : Stored) → ((i : Item) → Contains is i → Contains ls (placed g i)) → OfItem is y → OfPlaced ls y
@@ -41,7 +36,7 @@ made_by_files p [] f is s front end runs last a y h = go (heaps_are_of_items p f
 
     go : (slice_get front.heap a ≡ Some y) ⊎ OfItem is y → (slice_get s.heap a ≡ Some y) ⊎ OfPlaced (map (placed f) is) y
     go (inl before) = inl (subst (λ (r : State). slice_get r.heap a ≡ Some y) (sym same) before)
-    go (inr its) = inr (of_its is f (map (placed f) is) y (into_map (placed f) is) its)
+    go (inr its) = inr (of_its is f (map (placed f) is) y (into_map f is) its)
 made_by_files p (g ∷ fs) f is s front end runs last a y h = let k = each (after_items p g js s) (after_files p fs) front runs in go k.0 k.1 (made_by_files p fs f is k.0 front end k.2 last a y h)
   where
     abbrev js : List Item
@@ -55,19 +50,11 @@ made_by_files p (g ∷ fs) f is s front end runs last a y h = let k = each (afte
 
     first : (slice_get s.heap a ≡ Some y) ⊎ OfItem js y → (slice_get s.heap a ≡ Some y) ⊎ OfPlaced (own ++ later) y
     first (inl before) = inl before
-    first (inr its) = inr (of_its js g (own ++ later) y (λ i c. Contains-append_left own later (placed g i) (into_map (placed g) js i c)) its)
+    first (inr its) = inr (of_its js g (own ++ later) y (λ i c. Contains-append_left own later (placed g i) (into_map g js i c)) its)
 
     go : (r : State) → after_items p g js s ≡ Some r → (slice_get r.heap a ≡ Some y) ⊎ OfPlaced later y → (slice_get s.heap a ≡ Some y) ⊎ OfPlaced (own ++ later) y
     go r ran (inl before) = first (heaps_are_of_items p g js s r ran a y before)
     go r ran (inr its) = inr (behind own later y its)
-
--- constants tell the classes above their own
-marks_above : (w : Classes) (d : Name) (names : List Name) (own : Name → Option Value) → AreAncestors w d names → literal_properties (constants d names) no_properties ≡ Some own → MarksAncestors w own
-marks_above w d names own above literal c b e =
-    let texts : ◌≡◌ {A = Option Value} (Some (text (marker d))) (Some (text (marker c))) = sym (marker_held d names own literal) ∙ e in
-    let markers : marker d ≡ marker c = cc in
-    let same : d ≡ c = mangled_texts_differ d c (append_cancel_left (codes "i_") (mangled d) (mangled c) markers) in
-    subst (λ (x : Name). (is_some (own (marker b)) ≡ true) ↔ IsAncestor w x b) same (markers_tell w d b names own above literal)
 
 -- what stands on the heap marks the classes above its own, where each object that is declared is the constants of a class
 pub marks_ancestors : (w : Classes) (ls : List Placed) → ((f x : Name) (ps : List Property) → Contains ls (placed f (object_item x ps)) → AreConstants w ps) → (own : Name → Option Value) → OfPlaced ls (plain [] own) → MarksAncestors w own

@@ -1,15 +1,10 @@
 -- Files that declare what can be used: their state behind the declarations stands for the opening of the IR, and they have what objects ask.
 use Rattle.std.proofs.Common.{◌≡◌, ◌≤◌, ℕ, suc, Bool, true, false, List, [], ◌∷◌, ◌++◌, length, map, slice_get, refl, sym, ap, ◌∙◌, subst, Contains, inl, inr, ⊎_elim, Option, Some, None, cond, codes, arith}
-use Rattle.std.specs.Prelude.{nat_eq}
-use Rattle.std.specs.Cmp.Lexicographic.{pointwise}
 use Rattle.body_rules.proofs.Lists.{nothing_in, in_front_or_behind, at_front, further_on}
-use Rattle.body_rules.specs.Standing.{is_bare}
 use Rattle.built_forms.proofs.Statics.{set_static, static_among}
 use Rattle.built_forms.specs.Built.{has_static, can_box, divides, compares}
 use Rattle.file_declarations.proofs.Fields.{fields_differ, begins, statics_differ, static_begins}
 use Rattle.file_declarations.proofs.Items.{IsClassItem, alone as class_alone, extending, code_found, members_found}
-use Rattle.class_casts.specs.Classes.{class_cast_code, hijacked_test_code}
-use Rattle.class_tests.specs.Tests.{class_test_code}
 use Rattle.file_declarations.proofs.Begun.{marker_held, same_classes, chain_length, zero_literal_is}
 use Rattle.file_declarations.specs.Declarations.{behind}
 use Rattle.file_declarations.specs.Declared.{Running, alone as by_itself, on_receiver, completing, running, is_covered}
@@ -37,6 +32,8 @@ use Rattle.outcomes.specs.Shown as shown_ends
 use Rattle.piece_rules.specs.Pieces.{class_item_of, constructor_body, setter, test_piece, cast_piece, zero_of as zero_literal}
 use Rattle.sj_calls.proofs.Shapes.{stands_there, zero_alike}
 use Rattle.sj_calls.specs.Chains as chains
+use Rattle.sj_calls.specs.ClassCasts.{class_cast_code, hijacked_test_code}
+use Rattle.sj_calls.specs.ClassTests.{class_test_code}
 use Rattle.sj_calls.proofs.Casting.{cast_named}
 use Rattle.sj_calls.proofs.Testing.{test_named}
 use Rattle.sj_calls.specs.Helpers.{ReachesBoxes, ReachesTest, ClassTest, by_marker, by_kind, CanTest, Tested, of_kind, of_class, CanCompare, helper_code, HelperStands, BoxStands, failing_code, checking_code, division_code}
@@ -59,14 +56,14 @@ use Rattle.sj_names.specs.declared.method_names.Namespace.TheVariants.{Public, P
 use Rattle.sj_plain.specs.Settings.{Place, Top, a_function, a_method, a_constructor, a_class, some_constants, a_static, a_setter, a_test, a_cast, a_helper, top_name, is_usable, IsField, HasField, Holding, holding, HoldsConstants, TopHolds, SameHeap, SameState, Reaches, link_of, box_link, division_helper}
 use Rattle.sj_plain.specs.Worlds.{World}
 use Rattle.sj_trees.specs.Term.{Term}
-use Rattle.sj_trees.specs.Types.{class_type}
+use Rattle.sj_world.specs.Known.{is_hijacked}
 use Rattle.sj_trees.specs.declared.classes.ClassDef.{ClassDef}
 use Rattle.sj_trees.specs.declared.classes.FieldDef.{FieldDef}
 use Rattle.sj_trees.specs.declared.classes.MethodDef.{MethodDef}
 use Rattle.sj_trees.specs.declared.operators.BinaryOp.{BinaryOp}
 use Rattle.sj_trees.specs.declared.operators.BinaryOp.TheVariants.{IntDivide, IntRemainder, LongDivide, LongRemainder}
 use Rattle.sj_trees.specs.declared.types.IrType.{IrType}
-use Rattle.sj_trees.specs.declared.types.IrType.TheVariants.{Any, Class}
+use Rattle.sj_trees.specs.declared.types.IrType.TheVariants.{Class}
 use Rattle.built_forms.specs.Built.{Usable}
 use Rattle.declared_files.specs.Declared as declared
 use Rattle.declared_files.specs.Declared.{Spread, all_items, Stands, FunctionDeclared, ClassDeclared, ChainDeclared, KindTestDeclared, ClassTestDeclared, TestDeclared, CastThrows, KindCastDeclared, ClassCastDeclared, CastDeclared, Declared, IsLawful}
@@ -199,12 +196,8 @@ module _ (z : Spread) where
     helper_there f h l = (can.helper f h l).1
 
     module _ (all : Usable) (laws : IsLawful z all) where
-      object_here : (f c : Name) → (z.has f).made c ≡ true → is_bare (class_type c) ≡ false
-      object_here f c l = go (pointwise nat_eq c (codes "java.lang.Object"))
-        where
-          go : (b : Bool) → is_bare (cond b Any (Class c)) ≡ false
-          go true = refl
-          go false = laws.objects.made c ((laws.among f).tops (a_class c) l)
+      object_here : (f c : Name) → (z.has f).made c ≡ true → is_hijacked c ≡ false
+      object_here f c l = laws.objects.made c ((laws.among f).tops (a_class c) l)
 
       field_here : (f c g : Name) (t : IrType) → (z.has f).field c g t ≡ true → HasField place c g t
       field_here f c g t l = record { field = can.field f c g t l; value = (laws.objects.fields c g t ((laws.among f).fields c g t l)).0; differ = fields_differ place can.kept }
@@ -319,6 +312,7 @@ module _ (z : Spread) where
       class_cast_here c d = let g = z.home (a_cast (Class c)) in record {
         cast = function_there g (cast_name (Class c)) (class_cast_code c).parameters (class_cast_code c).body d.cast;
         test = class_test_here c d.test;
+        named = refl;
         owned = reaches g (a_test (Class c)) d.tests;
         user = g;
         usable = d.tests;
@@ -367,6 +361,7 @@ module _ (z : Spread) where
         unborn = λ i a o e g. none_there a e;
         separate = λ a o b e g. none_there b g;
         marked = λ a constants e. marks_ancestors z.classes (all_items z) can.marked constants (made a (js.plain [] constants) e);
+        free = λ i a e. absurd (none_there a e);
         boxes = refl;
       }
 

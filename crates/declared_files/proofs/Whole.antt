@@ -43,7 +43,7 @@ module _ (z : Spread) (all : Usable) (entries : List EntryPoint) (id : List ℕ)
   tops = declarations_of_files_hold z.program z.front z.last z.declared calls runs public.declares
 
   agree : InitializersAgreeAt (place z) z.last (reaches z calls runs can z.last)
-  agree e l y s u same = levels.calls_agree (place z) (in_world z.classes plain) names (has_objects z calls runs can all laws) z.last (initializer_member e) l y [] [] ir_showing.outside s u no_values same
+  agree e l y s u same = levels.calls_agree (place z) plain (in_world z.classes plain) names (has_objects z calls runs can all laws) z.last (initializer_member e) l y [] [] ir_showing.outside s u no_values same
 
   order_is : running_order z.program (js_showing.file_of id) ≡ z.front ++ z.last ∷ []
   order_is = ap (running_order z.program) (sym public.last) ∙ public.order

@@ -1,6 +1,7 @@
--- What constants and variables begin with, and how long chains of classes are.
-use Rattle.std.proofs.Common.{◌≡◌, ◌≤◌, ℕ, zero, suc, Bool, true, false, List, [], ◌∷◌, length, map, sym, ap, refl, Option, Some, None, cond, codes, arith}
-use Rattle.std.specs.Prelude.{pos}
+-- What constants and variables begin with, that constants tell the classes above their own, and how long chains of classes are.
+use Rattle.std.proofs.Common.{◌≡◌, ◌≤◌, ℕ, zero, suc, Bool, true, false, List, [], ◌∷◌, length, map, sym, ap, subst, ◌∙◌, refl, Option, Some, None, cond, codes, arith}
+use Rattle.std.specs.Prelude.{◌↔◌, pos, is_some}
+use Rattle.std.proofs.lemmas.List.{append_cancel_left}
 use Rattle.std.specs.List.{list_any}
 use Rattle.file_tops.proofs.Run.{some_same}
 use Rattle.file_tops.specs.Tops.{literal_value, literal_properties}
@@ -12,13 +13,18 @@ use Rattle.js_mean.specs.Objects.{with_property, no_properties}
 use Rattle.js_mean.specs.States as js
 use Rattle.js_tree.specs.Terms.{Name}
 use Rattle.piece_rules.specs.Pieces.{zero_of as zero_literal}
+use Rattle.sj_calls.proofs.Marked.{markers_tell}
 use Rattle.sj_calls.specs.Made.{zero_value}
+use Rattle.sj_mangling.proofs.Injective.{mangled_texts_differ}
 use Rattle.sj_mangling.specs.Bindings.{class_binding}
+use Rattle.sj_mangling.specs.Mangling.{mangled}
 use Rattle.sj_mangling.specs.declared.bindings.ClassBinding.TheVariants.{Marker}
 use Rattle.sj_trees.specs.declared.types.IrType.{IrType}
 use Rattle.sj_trees.specs.declared.types.IrType.TheVariants.{Undefined, Boolean, Char, Byte, Short, Int, Long, String}
-use Rattle.sj_world.specs.Ancestors.{next_on_chain}
-use Rattle.sj_world.specs.Known.{is_same}
+use Rattle.sj_plain.specs.Settings.{MarksAncestors}
+use Rattle.sj_world.specs.Ancestors.{IsAncestor, next_on_chain}
+use Rattle.sj_world.specs.Known.{Classes, is_same}
+use Rattle.sj_world.specs.Tables.{AreAncestors}
 
 -- the marker of a class is the first of its constants, and none behind it hides it
 markers_stay : (names : List Name) (own all : Name → Option js.Value) → literal_properties (map marker_property names) own ≡ Some all → all (codes "s") ≡ own (codes "s")
@@ -27,6 +33,14 @@ markers_stay (a ∷ names) own all h = markers_stay names (with_property (marker
 
 pub marker_held : (c : Name) (names : List Name) (all : Name → Option js.Value) → literal_properties (constants c names) no_properties ≡ Some all → all (codes "s") ≡ Some (js.text (class_binding Marker c))
 marker_held c names all h = markers_stay names (with_property (codes "s") (js.text (marker c)) no_properties) all h
+
+-- constants tell the classes above their own
+pub marks_above : (w : Classes) (d : Name) (names : List Name) (own : Name → Option js.Value) → AreAncestors w d names → literal_properties (constants d names) no_properties ≡ Some own → MarksAncestors w own
+marks_above w d names own above literal c b e =
+    let texts : ◌≡◌ {A = Option js.Value} (Some (js.text (marker d))) (Some (js.text (marker c))) = sym (marker_held d names own literal) ∙ e in
+    let markers : marker d ≡ marker c = cc in
+    let same : d ≡ c = mangled_texts_differ d c (append_cancel_left (codes "i_") (mangled d) (mangled c) markers) in
+    subst (λ (x : Name). (is_some (own (marker b)) ≡ true) ↔ IsAncestor w x b) same (markers_tell w d b names own above literal)
 
 pub same_classes : (a b : List js.ClassLink) → js.holds false (js.class a) ≡ js.holds false (js.class b) → a ≡ b
 same_classes a b e = cc

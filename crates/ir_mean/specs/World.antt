@@ -1,6 +1,8 @@
 -- The classes of a program, and what is found in them.
 use Rattle.std.specs.Prelude.{ℕ, pos, Bool, true, false, not, List, [], ◌∷◌, ◌&&◌, ◌||◌, slice_get, codes, Option, Some, None, if◌then◌else◌}
-use Rattle.std.specs.List.{list_any}
+use Rattle.std.specs.Char.Escape.{encode_utf16}
+use Rattle.std.specs.List.{flat_map, list_any}
+use Rattle.std.specs.Str.{chars}
 use Rattle.sj_names.specs.References.{spelled_array}
 use Rattle.sj_names.specs.declared.references.ArrayRef.{ArrayRef}
 use Rattle.sj_names.specs.declared.method_names.MethodName.{MethodName}
@@ -120,6 +122,10 @@ is_of_type w s v t = false
 abbrev pub cast_of_null : IrType → Value
 cast_of_null t = zero_of t
 
+-- the units of a text in UTF-8
+abbrev pub units_of : List ℕ → List ℕ
+units_of text = flat_map encode_utf16 (chars text)
+
 -- how a type is named by a cast that fails: a class by its name, an array by its reference, a primitive type by its word
 abbrev pub type_text : IrType → List ℕ
 type_text IrType.Undefined = codes "undef"
@@ -130,6 +136,6 @@ type_text IrType.Short = codes "short"
 type_text IrType.Int = codes "int"
 type_text IrType.Long = codes "long"
 type_text IrType.String = codes "string"
-type_text (IrType.Class c) = c
-type_text (IrType.Array r) = spelled_array r
+type_text (IrType.Class c) = units_of c
+type_text (IrType.Array r) = units_of (spelled_array r)
 type_text _ = []

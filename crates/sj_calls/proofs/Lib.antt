@@ -21,3 +21,4 @@ pub mod Shapes
 pub mod Whole
 pub mod Zeros
 pub use Rattle.entry_rules.proofs.Owners
+pub use Rattle.class_casts.proofs.Marked
