@@ -1,5 +1,5 @@
 pub mod Calls
-pub mod Kinds
+pub mod KindHelpers
 pub mod Once
 pub mod Order
 pub mod Place

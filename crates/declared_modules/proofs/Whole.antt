@@ -7,7 +7,7 @@ use Rattle.std.proofs.lemmas.List.Elements.{Contains-append_left, Contains-appen
 use Rattle.declared_pieces.proofs.BodyUsesTested.{kind_uses, cast_kind_uses}
 use Rattle.declared_pieces.proofs.Written.{divisors_fit}
 use Rattle.class_code.proofs.Markers.{marked}
-use Rattle.declared_files.proofs.Kinds.{helpers_of}
+use Rattle.declared_files.proofs.KindHelpers.{helpers_of}
 use Rattle.declared_files.specs.Declared.{Spread, all_items, Leads, FunctionDeclared, ClassDeclared, ChainDeclared, extends_none, extends_one, MadeDeclared, StaticDeclared, TestDeclared, CastDeclared, Uses as UsesTop}
 use Rattle.declared_files.specs.Placed.{placed}
 use Rattle.declared_pieces.proofs.Blocks.{method_there}
