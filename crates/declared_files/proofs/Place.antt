@@ -8,7 +8,7 @@ use Rattle.built_forms.proofs.Statics.{set_static, static_among}
 use Rattle.built_forms.specs.Built.{has_static, can_box, divides, compares}
 use Rattle.file_declarations.proofs.Fields.{fields_differ, begins, statics_differ, static_begins}
 use Rattle.file_declarations.proofs.Items.{IsClassItem, alone as class_alone, extending, code_found, members_found}
-use Rattle.file_declarations.proofs.Place.{marker_held, same_classes, chain_length, zero_literal_is}
+use Rattle.file_declarations.proofs.Begun.{marker_held, same_classes, chain_length, zero_literal_is}
 use Rattle.file_declarations.specs.Declarations.{behind}
 use Rattle.file_declarations.specs.Declared.{Running, alone as by_itself, on_receiver, completing, running, is_covered}
 use Rattle.file_tops.proofs.Run.{some_same}
