@@ -27,10 +27,7 @@ pub fn operand_of(
         }
         BinaryOp::StrictEqual | BinaryOp::StrictNotEqual => {
             let own = type_of(alloc, tree)?;
-            Ok(Box::new(
-                alloc,
-                coerced(alloc, &IrType::Any, &own, expression)?,
-            )?)
+            Ok(Box::new(alloc, coerced(alloc, &IrType::Any, &own, expression)?)?)
         }
         _ => Ok(Box::new(alloc, expression)?),
     }

@@ -151,10 +151,7 @@ fn any_value(
 ) -> Result<Box<CoreExpression>, NoMemory>
     ensures { IfOk result (λ e. expression_view e.value ≡ coercions.coerced Any (type_of_term (view tree.now)) (expression_view value)) }
 {
-    Ok(Box::new(
-        alloc,
-        coerced_value(alloc, &IrType::Any, tree, value)?,
-    )?)
+    Ok(Box::new(alloc, coerced_value(alloc, &IrType::Any, tree, value)?)?)
 }
 
 /// Whether what this tree comes to as an operand is an instance of the type. That goes to a destination.
