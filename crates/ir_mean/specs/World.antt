@@ -124,7 +124,7 @@ cast_of_null t = zero_of t
 
 -- the units of a text in UTF-8
 abbrev pub units_of : List ℕ → List ℕ
-units_of text = flat_map encode_utf16 (chars text)
+units_of name = flat_map encode_utf16 (chars name)
 
 -- how a type is named by a cast that fails: a class by its name, an array by its reference, a primitive type by its word
 abbrev pub type_text : IrType → List ℕ
