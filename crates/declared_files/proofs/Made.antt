@@ -39,13 +39,13 @@ made_by_files p [] f is s front end runs last a y h = go (heaps_are_of_items p f
     go (inr its) = inr (of_its is f (map (placed f) is) y (into_map f is) its)
 made_by_files p (g ∷ fs) f is s front end runs last a y h = let k = each (after_items p g js s) (after_files p fs) front runs in go k.0 k.1 (made_by_files p fs f is k.0 front end k.2 last a y h)
   where
-    abbrev js : List Item
+    js : List Item
     js = items_in (module_among p g)
 
-    abbrev own : List Placed
+    own : List Placed
     own = map (placed g) js
 
-    abbrev later : List Placed
+    later : List Placed
     later = items_until p fs f is
 
     first : (slice_get s.heap a ≡ Some y) ⊎ OfItem js y → (slice_get s.heap a ≡ Some y) ⊎ OfPlaced (own ++ later) y

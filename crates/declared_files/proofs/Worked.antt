@@ -252,7 +252,7 @@ above_object = record { sorted = one_sorted; once = one_distinct; exact = λ o. 
 above_class : AreAncestors object_world class_name (class_name ∷ object_name ∷ [])
 above_class = record { sorted = two_sorted; once = two_distinct; exact = λ o. (λ i. (ancestors_are_worked_out object_world class_name o).0 (to o i), λ a. from o ((ancestors_are_worked_out object_world class_name o).1 a)) }
   where
-    abbrev both : List Name
+    both : List Name
     both = class_name ∷ object_name ∷ []
 
     to : (o : Name) → Contains both o → is_ancestor object_world class_name o ≡ true
