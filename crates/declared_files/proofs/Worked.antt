@@ -283,7 +283,7 @@ tells_class : Tells its_constants
 tells_class x ps e = let same : constants class_name (class_name ∷ object_name ∷ []) ≡ ps = cc in record { class = class_name; ancestors = class_name ∷ object_name ∷ []; are = sym same; above = above_class }
 
 all_tell : AllTell (all_items spread)
-all_tell = (tells_object, λ x ps e. absurd (cc), tells_class, λ x ps e. absurd (cc), λ x ps e. absurd (cc), λ x ps e. absurd (cc), λ x ps e. absurd (cc), tt)
+all_tell = (tells_object, (λ x ps e. absurd (cc), (tells_class, (λ x ps e. absurd (cc), (λ x ps e. absurd (cc), (λ x ps e. absurd (cc), (λ x ps e. absurd (cc), tt)))))))
 
 pub all_declared : Declared spread
 all_declared = record {
