@@ -7,7 +7,7 @@ use Rattle.declared_pieces.proofs.Derivations.{closed}
 use Rattle.declared_pieces.proofs.Live.{classes_kept, live_there}
 use Rattle.declared_pieces.proofs.Made as made
 use Rattle.declared_pieces.proofs.Members.{defined}
-use Rattle.declared_pieces.proofs.Parts.{class_there, statics_among, in_statics, is_reached}
+use Rattle.declared_pieces.proofs.Parts.{class_there, statics_among, in_statics, is_reached, test_among, cast_among}
 use Rattle.declared_pieces.specs.Accepted.{IsAccepted}
 use Rattle.declared_pieces.specs.Bodies.{AreBodies}
 use Rattle.declared_pieces.specs.Classes.{HasForm}
