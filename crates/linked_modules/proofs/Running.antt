@@ -4,7 +4,7 @@ use Rattle.std.specs.Prelude.{◌↔◌, filter}
 use Rattle.std.specs.List.{flat_map}
 use Rattle.std.proofs.lemmas.List.Elements.{Contains-append_left, Contains-append_right}
 use Rattle.std.proofs.lemmas.Slice.Eq.{bytes_eq-Decides}
-use Rattle.running_modules.proofs.Places.{in_one}
+use Rattle.running_modules.proofs.Forms.{in_one}
 use Rattle.running_modules.specs.Placed.{Placed, placed, items_until}
 use Rattle.declared_pieces.proofs.EachTyped.{in_all}
 use Rattle.declared_pieces.specs.Closed.{IsClosed}

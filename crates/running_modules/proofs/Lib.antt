@@ -7,6 +7,7 @@ pub mod Constants
 pub mod Splits
 pub mod Declares
 pub use Rattle.closed_pieces.proofs.Declared
+pub use Rattle.closed_pieces.proofs.Forms
 pub use Rattle.closed_pieces.proofs.Places
 pub use Rattle.closed_pieces.proofs.Uses
 pub use Rattle.declared_files.proofs.Once
