@@ -1,5 +1,6 @@
 use Rattle.std.proofs.Common.{refl}
 use Rattle.std.specs.Fmt.{digits}
+use Rattle.std.specs.Str.{chars}
 use Rattle.ir_mean.proofs.worked_objects.Goals as goal
 
 pub returns-clause-fields : goal.returns-clause-fields
@@ -7,7 +8,7 @@ unfolding digits
 returns-clause-fields c = refl
 
 pub returns-clause-all_caught : goal.returns-clause-all_caught
-unfolding digits
+unfolding digits chars
 returns-clause-all_caught c = refl
 
 pub returns-clause-order : goal.returns-clause-order
