@@ -1,5 +1,5 @@
 #!/usr/bin/env python3
-"""Measures the gate: runs `rt ci --anew` in a fresh clone of the repository, so that nothing is kept from earlier runs, and sums the processor seconds of each crate's proof, tests and edits.
+"""Measures the gate: runs `rt ci` in a fresh clone of the repository, so that nothing is kept from earlier runs, and sums the processor seconds of each crate's proof, tests and edits.
 
 Usage: bench/gate/run.py [FOLDER]    The clone is made in FOLDER, or in a new folder under /tmp. Prints a table of crates, the dearest first, and
 the totals; the run's own output goes to FOLDER/gate.log. A process is seen twice a second, so what ends sooner is counted in the total alone."""
@@ -59,7 +59,7 @@ def main(words):
     seen = {}
     begun = time.time()
     with open(f"{room}/gate.log", "w") as log:
-        run = subprocess.Popen(["rt", "ci", "--anew"], cwd=clone, stdout=log, stderr=subprocess.STDOUT, stdin=subprocess.DEVNULL)
+        run = subprocess.Popen(["rt", "ci"], cwd=clone, stdout=log, stderr=subprocess.STDOUT, stdin=subprocess.DEVNULL)
         while run.poll() is None:
             sample(seen)
             time.sleep(0.5)

@@ -5,8 +5,10 @@ use Rattle.std.specs.List.{All}
 use Rattle.std.proofs.lemmas.Bool.{and_parts, and_from}
 use Rattle.std.proofs.lemmas.List.Elements.{All-nil, All-cons, All-head, All-tail}
 use Rattle.ir_mean.specs.Shows.{initializers}
+use Rattle.sj_core.specs.declared.callees.Callee.{Callee}
+use Rattle.sj_core.specs.declared.callees.Callee.TheVariants as callees
 use Rattle.sj_proper.specs.Emitted.{EmittedMethod, initializer_member}
-use Rattle.sj_desugar.specs.Desugar.{member}
+use Rattle.sj_desugar.specs.Desugar.{member, callee_of}
 use Rattle.sj_infos.specs.Infos.{asks, asked_by_body}
 use Rattle.sj_infos.specs.Sure.{sure_among}
 use Rattle.sj_infos.specs.Trees.{trees, below, all_below, cases_below}
@@ -18,9 +20,10 @@ use Rattle.sj_names.specs.declared.entry_points.EntryPoint.{EntryPoint}
 use Rattle.sj_names.specs.declared.method_names.Member.{Member}
 use Rattle.built_forms.specs.Built.{Usable}
 use Rattle.sj_judged.specs.Linked.{has_function, have_functions, functions_of}
-use Rattle.sj_trees.specs.Term.{Term, Terms, no_terms, more_terms, Cases, no_cases, more_cases, var_def, skip, block_of, labeled, assign, return_to, if_then, while_loop, do_while, match_on, apply_statically, apply_static, unary_op, binary_op, as_instance_of, undefined_literal, null_literal, boolean_literal, char_literal, byte_literal, short_literal, int_literal, long_literal, string_literal, var_ref, log_line}
+use Rattle.sj_trees.specs.Term.{Term, Terms, no_terms, more_terms, Cases, no_cases, more_cases, var_def, skip, block_of, labeled, assign, return_to, if_then, while_loop, do_while, match_on, apply_statically, apply_static, unary_op, binary_op, as_instance_of, undefined_literal, null_literal, boolean_literal, char_literal, byte_literal, short_literal, int_literal, long_literal, string_literal, var_ref, log_line, apply}
+use Rattle.sj_trees.specs.TypeOf.{type_of_term}
 use Rattle.sj_trees.specs.declared.types.IrType.{IrType}
-use Rattle.built_forms.specs.Built.{is_operation, can_cast, is_built, are_built, are_built_cases, anything, body_boxes, is_built_body}
+use Rattle.built_forms.specs.Built.{can_call, is_operation, can_cast, is_built, are_built, are_built_cases, anything, body_boxes, is_built_body}
 use Rattle.body_rules.proofs.RulesGive.{operation_kept, cast_kept}
 use Rattle.body_rules.specs.Typing.{may_check, is_built_with}
 use Rattle.sure_receivers.specs.Sure.{sure_locals}
@@ -68,6 +71,12 @@ module _ (has : Usable) (checked : Term → Bool) where
   no_call p e c Constructor m ts t k = impossible k
   no_call p e c n m ts t k = impossible k
 
+  no_callee : {A : Type 0} (k : Callee) (a b : Bool) → ((can_call anything k && true) && (b && a)) ≡ true → A
+  no_callee (callees.Member m) a b k = impossible k
+  no_callee (callees.LookedUp c m) a b k = impossible k
+  no_callee (callees.OfArray m) a b k = impossible k
+  no_callee (callees.Reflective m) a b k = impossible k
+
   mutual
     built : (t : Term) → is_built anything (λ e. true) t ≡ true → Each (trees t) → is_built has checked t ≡ true
     built (var_def p x t b e) k h = built e k (inner (var_def p x t b e) h)
@@ -110,6 +119,7 @@ module _ (has : Usable) (checked : Term → Bool) where
     built (string_literal p us) k h = refl
     built (var_ref p x t) k h = refl
     built (log_line p e) k h = built e k (inner (log_line p e) h)
+    built (apply p e m ts t) k h = no_callee (callee_of (type_of_term e) m) (are_built anything (λ e. true) ts) (is_built anything (λ e. true) e) k
     built (apply_statically p e c n m ts t) k h = no_call p e c n m ts t k
     built t k h = impossible k
 

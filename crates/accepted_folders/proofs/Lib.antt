@@ -30,3 +30,4 @@ pub use Rattle.body_soundness.proofs.Assembled
 pub use Rattle.sj_judged.proofs.Judged
 pub use Rattle.folder_verdicts.proofs.Verdict
 pub use Rattle.built_forms.proofs.Targets
+pub use Rattle.built_forms.proofs.Direct

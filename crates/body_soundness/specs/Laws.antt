@@ -43,7 +43,7 @@ class_cast = codes "java.lang.ClassCastException"
 -- made, and so are that of a division whose helper can be used and that of a cast that can be used.
 pub record ObjectLaws (w : World) (has : Usable) : Type 0 where
   pub received : (m : Member) → has.received m ≡ true → RightMember w has m
-  pub targets : (m : Member) → has.received (has.target m) ≡ true → IsTargetOf w m (has.target m)
+  pub targets : (m : Member) → has.received (has.lookup.target m) ≡ true → IsTargetOf w m (has.lookup.target m)
   pub built : (m : Member) → has.built m ≡ true → RightMember w has m
   pub once : HasReceivers has → (m : Member) (d : MethodDef) (e : Term) → member_of w m.class m.namespace m.method ≡ Some d → d.body ≡ Some e → NamesOnce d e
   pub made : (c : List ℕ) → has.made c ≡ true → is_hijacked c ≡ false

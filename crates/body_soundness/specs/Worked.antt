@@ -1,5 +1,6 @@
 -- A worked world with objects: `new A().get()`, where `get` gives a field of its object.
 use Rattle.std.specs.Prelude.{ℕ, Bool, true, false, ◌&&◌, ◌||◌, List, [], ◌∷◌, Some, None, codes}
+use Rattle.sj_core.specs.Lookup.{own_targets}
 use Rattle.built_forms.specs.Built.{Usable}
 use Rattle.ir_mean.specs.Rows.{nowhere, object_name, object_with, static_method}
 use Rattle.ir_mean.specs.World.{World}
@@ -71,7 +72,7 @@ is_member k m = is_same_text m.class k.class && (is_same_namespace m.namespace k
 abbrev pub object_use : Usable
 object_use = record {
   linked = is_member main_member;
-  target = λ m. m;
+  lookup = own_targets;
   received = is_member (member class_name Private get_name);
   built = is_member (member class_name Constructor init_name);
   made = λ c. is_same_text c class_name || is_same_text c object_name;

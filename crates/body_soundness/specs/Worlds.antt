@@ -50,7 +50,7 @@ pub record ObjectWorld (w : Classes) (has : Usable) : Type 0 where
   pub kept : AreClassesKept w
   pub acyclic : HasNoCycle w
   pub received : (m : Member) → has.received m ≡ true → RightMember w has m
-  pub targets : (m : Member) → has.received (has.target m) ≡ true → IsTargetOf w m (has.target m)
+  pub targets : (m : Member) → has.received (has.lookup.target m) ≡ true → IsTargetOf w m (has.lookup.target m)
   pub built : (m : Member) → has.built m ≡ true → RightMember w has m
   pub once : HasReceivers has → (m : Member) (d : MethodDef) (e : Term) → member_of w m.class m.namespace m.method ≡ Some d → d.body ≡ Some e → NamesOnce d e
   pub made : (c : Name) → has.made c ≡ true → (is_hijacked c ≡ false) × WritesInterfaces w c

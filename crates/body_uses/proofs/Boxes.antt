@@ -1,4 +1,6 @@
 -- Code that makes an object for a char uses the class of such objects.
+use Rattle.sj_core.specs.Lookup.{Lookup}
+use Rattle.sj_core.specs.declared.callees.Callee.TheVariants as callees
 use Rattle.sj_names.specs.declared.method_names.Member.{Member}
 use Rattle.std.proofs.Common.{◌≡◌, ℕ, Bool, true, false, List, [], ◌∷◌, ◌++◌, ◌||◌, inl, inr, Some, None, refl, sym, subst, length, arith, codes}
 use Rattle.std.specs.Prelude.{if◌then◌else◌, not, ◌&&◌, pos}
@@ -12,16 +14,16 @@ use Rattle.sj_core.specs.Terms as core
 use Rattle.sj_core.specs.Terms.{Expression, boxed_char, checked_value, followed}
 use Rattle.sj_core.specs.Views.{expressions_of}
 use Rattle.sj_desugar.specs.Coercions.{is_char, coerced, coerced_arguments, coerced_receiver}
-use Rattle.sj_desugar.specs.Desugar.{operand, receiver, received, received_text, into, block, operands, cases, finish, target_of, Targets, expression_of, all_expressions, wrapped, break_unless, first_of, second_of, rest_of, member, types_of}
+use Rattle.sj_desugar.specs.Desugar.{operand, receiver, received, received_text, into, block, operands, cases, finish, target_of, Targets, expression_of, all_expressions, wrapped, break_unless, first_of, second_of, rest_of, member, types_of, callee_of}
 use Rattle.sj_desugar.specs.Plain.{is_no_type, is_plain, are_plain}
 use Rattle.sj_desugar.specs.Spill.{Destination, discard, to_variable, to_result, Code, one, put_first, Operand, Spilled, spill, then_use}
 use Rattle.sj_desugar.specs.Texts.{operand_of}
 use Rattle.sj_emit_expr.specs.Templates.{check_name, is_nonzero_literal, called_member}
-use Rattle.sj_emit_expr.specs.Uses.{object_binding, function_binding, class_use, setter_use, helper_of, test_uses, cast_uses, uses_in, uses_in_all, uses_of, uses_of_all, uses_of_cases}
+use Rattle.sj_emit_expr.specs.Uses.{object_binding, function_binding, class_use, setter_use, helper_of, test_uses, cast_uses, uses_in, uses_in_all, uses_of, uses_of_all, uses_of_cases, call_uses}
 use Rattle.sj_names.proofs.Same.{impossible}
 use Rattle.sj_names.specs.declared.method_names.Namespace.TheVariants.{Constructor}
 use Rattle.sj_names.specs.declared.references.TypeRef.{TypeRef}
-use Rattle.sj_trees.specs.Term.{Term, Terms, no_terms, more_terms, Cases, no_cases, more_cases, var_def, block_of, labeled, assign, return_to, if_then, while_loop, do_while, match_on, throw, new_object, select, select_static, apply_statically, apply_static, unary_op, binary_op, is_instance_of, as_instance_of, char_literal, var_ref, this_ref, log_line}
+use Rattle.sj_trees.specs.Term.{Term, Terms, no_terms, more_terms, Cases, no_cases, more_cases, var_def, block_of, labeled, assign, return_to, if_then, while_loop, do_while, match_on, throw, new_object, select, select_static, apply_statically, apply_static, unary_op, binary_op, is_instance_of, as_instance_of, char_literal, var_ref, this_ref, log_line, apply}
 use Rattle.sj_trees.specs.TypeOf.{type_of_term, unary_result, binary_result}
 use Rattle.sj_trees.specs.Types.{class_type, reference_type}
 use Rattle.sj_trees.specs.declared.operators.BinaryOp.{BinaryOp}
@@ -46,7 +48,7 @@ all_expressed : (sure : List ℕ → Bool) (ts : Terms) → AsMany ts (all_expre
 all_expressed sure no_terms = tt
 all_expressed sure (more_terms t ts) = all_expressed sure ts
 
-module _ (U : Binding → Type 0) (runs : Member → Member) where
+module _ (U : Binding → Type 0) (runs : Lookup) where
   -- the class of objects that hold chars is used
   abbrev Boxed : Type 0
   Boxed = U (object_binding (codes "$C"))
@@ -107,6 +109,15 @@ module _ (U : Binding → Type 0) (runs : Member → Member) where
           let passed = All-tail U (class_use c) inside (All-tail U (function_binding (member c Constructor m)) (class_use c ∷ inside) h) in
           either (any_is_boxed m.params ts) (any_boxes_as_text ts) k (arguments_box m.params ts (all_expressions sure ts) (all_expressed sure ts) passed) (texts_box ts q (arguments_in U runs m.params (types_of ts) (all_expressions sure ts) passed))
       text_box (select p e c f t) q h k = text_box e q (received_in (is_sure sure e) (expression_of sure e) h) k
+      text_box (apply p e m ts t) q h k =
+          let q0 = and_parts (is_plain e) (are_plain ts) q in
+          let text = received_text (is_sure sure e) (expression_of sure e) in
+          let target = coerced_receiver (type_of_term e) text in
+          let inside = uses_in_all runs (expressions_of (coerced_arguments m.params (types_of ts) (all_expressions sure ts))) in
+          let names = call_uses runs (callee_of (type_of_term e) m) in
+          let own = back U runs names (uses_in runs target) (front U runs (names ++ uses_in runs target) inside h) in
+          let passed = back U runs (names ++ uses_in runs target) inside h in
+          either (is_boxed Any e || any_is_boxed m.params ts) (boxes_as_text e || any_boxes_as_text ts) k (λ i. either (is_boxed Any e) (any_is_boxed m.params ts) i (coerced_box (IrType.Class (codes "java.lang.Character")) (type_of_term e) text own) (arguments_box m.params ts (all_expressions sure ts) (all_expressed sure ts) passed)) (λ i. either (boxes_as_text e) (any_boxes_as_text ts) i (text_box e q0.0 (received_in (is_sure sure e) (expression_of sure e) (unreceived (type_of_term e) text own))) (texts_box ts q0.1 (arguments_in U runs m.params (types_of ts) (all_expressions sure ts) passed)))
       text_box (apply_statically p e c n m ts t) q h k =
           let q0 = and_parts (is_plain e) (are_plain ts) q in
           let text = received_text (is_sure sure e) (expression_of sure e) in
@@ -272,12 +283,25 @@ module _ (U : Binding → Type 0) (runs : Member → Member) where
             let parts = followed_parts U runs s.statements (finish k p t false call s.next).statements h in
             let passed = All-tail U (function_binding (member c n m)) (uses_in_all runs arguments) (finished U runs k p t call s.next parts.1) in
             either (is_boxed_at (goal_of k) t) (any_is_boxed m.params es || operands_box (goals_of ts) es) i (finish_box k p t false call s.next parts.1) (λ i. either (any_is_boxed m.params es) (operands_box (goals_of ts) es) i (arguments_box m.params es s.expressions (operands_expressed ts es s.expressions (spill_count (operands is_mutable sure ts es) j)) passed) (of_operands es ts (spill_in U runs (operands is_mutable sure ts es) j parts.0 (arguments_in U runs m.params (types_of es) s.expressions passed))))
+        tree (apply p e m es t) ts k j h i =
+            let os : List Operand = receiver_for ts e ∷ operands is_mutable sure ts es in
+            let s : Spilled = spill os j in
+            let target = coerced_receiver (type_of_term e) (first_of s.expressions) in
+            let arguments = expressions_of (coerced_arguments m.params (types_of es) (rest_of s.expressions)) in
+            let call = core.receiver_call (callee_of (type_of_term e) m) target arguments in
+            let parts = followed_parts U runs s.statements (finish k p t false call s.next).statements h in
+            let names = call_uses runs (callee_of (type_of_term e) m) in
+            let within = finished U runs k p t call s.next parts.1 in
+            let of_target = back U runs names (uses_in runs target) (front U runs (names ++ uses_in runs target) (uses_in_all runs arguments) within) in
+            let passed = back U runs (names ++ uses_in runs target) (uses_in_all runs arguments) within in
+            let written = spill_in U runs os j parts.0 (first_and_rest U runs s.expressions (unreceived (type_of_term e) (first_of s.expressions) of_target) (arguments_in U runs m.params (types_of es) (rest_of s.expressions) passed)) in
+            either (is_boxed_at (goal_of k) t) ((is_boxed Any e || any_is_boxed m.params es) || (operand_boxes (goals_of ts) e || operands_box (goals_of ts) es)) i (finish_box k p t false call s.next parts.1) (λ i. either (is_boxed Any e || any_is_boxed m.params es) (operand_boxes (goals_of ts) e || operands_box (goals_of ts) es) i (λ i. either (is_boxed Any e) (any_is_boxed m.params es) i (coerced_box (IrType.Class (codes "java.lang.Character")) (type_of_term e) (first_of s.expressions) of_target) (arguments_box m.params es (rest_of s.expressions) (rest_expressed ts (receiver_for ts e) es s.expressions (spill_count os j)) passed)) (λ i. either (operand_boxes (goals_of ts) e) (operands_box (goals_of ts) es) i (receiver_box e (tree e) ts written.0) (of_operands es ts written.1)))
         tree (apply_statically p e c n m es t) ts k j h i =
             let os : List Operand = receiver_for ts e ∷ operands is_mutable sure ts es in
             let s : Spilled = spill os j in
             let target = coerced_receiver (type_of_term e) (first_of s.expressions) in
             let arguments = expressions_of (coerced_arguments m.params (types_of es) (rest_of s.expressions)) in
-            let call = core.receiver_call (member c n m) target arguments in
+            let call = core.receiver_call (callees.Member (member c n m)) target arguments in
             let parts = followed_parts U runs s.statements (finish k p t false call s.next).statements h in
             let behind = All-tail U (function_binding (called_member runs n (member c n m))) (uses_in runs target ++ uses_in_all runs arguments) (finished U runs k p t call s.next parts.1) in
             let of_target = front U runs (uses_in runs target) (uses_in_all runs arguments) behind in

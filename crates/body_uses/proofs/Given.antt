@@ -1,4 +1,5 @@
 -- Each body of the forms with objects is built with what it is given.
+use Rattle.sj_core.specs.Lookup.{Lookup}
 use Rattle.sj_names.specs.declared.method_names.Member.{Member}
 use Rattle.std.proofs.Common.{◌≡◌, ℕ, Bool, true, false, List, [], ◌∷◌, ◌||◌, ◌⊎◌, inl, inr, None, refl, sym, subst, codes, Contains, if◌then◌else◌}
 use Rattle.std.specs.List.{All, list_any}
@@ -17,7 +18,7 @@ use Rattle.sj_names.specs.declared.method_names.Namespace.{Namespace}
 use Rattle.sj_names.specs.declared.method_names.Namespace.TheVariants.{Public, PublicStatic, Private, PrivateStatic, Constructor}
 use Rattle.accepted_folders.specs.Typing.{may_check, is_built_with}
 use Rattle.accepted_folders.specs.Built.{Usable, can_box, may_make, is_built, any_object, body_boxes, is_object_body}
-use Rattle.sj_trees.specs.Term.{Term, Terms, new_object, select, select_static, apply_statically, apply_static, is_instance_of, as_instance_of, binary_op}
+use Rattle.sj_trees.specs.Term.{Term, Terms, new_object, select, select_static, apply_statically, apply_static, is_instance_of, as_instance_of, binary_op, apply}
 use Rattle.sj_trees.specs.declared.classes.MethodDef.{MethodDef}
 use Rattle.sj_trees.specs.declared.positions.Position.{Position}
 use Rattle.sj_trees.specs.declared.types.IrType.{IrType}
@@ -54,7 +55,7 @@ pub kept : (bs seen : List Binding) (b : Binding) → Contains bs b → IsKept s
 kept [] seen b h = nothing_in b h
 kept (c ∷ bs) seen b h = kept_step c bs seen b (list_any (is_same_binding c) seen) refl (first_or_later c bs b h) (kept bs seen b) (kept bs (c ∷ seen) b)
 
-pub in_uses : (runs : Member → Member) (ss : core.Statements) (b : Binding) → Contains (uses_of_all runs ss) b → Contains (uses runs ss) b
+pub in_uses : (runs : Lookup) (ss : core.Statements) (b : Binding) → Contains (uses_of_all runs ss) b → Contains (uses runs ss) b
 in_uses runs ss b h = go (kept (uses_of_all runs ss) [] b h)
   where
     go : IsKept [] (uses_of_all runs ss) b → Contains (uses runs ss) b
@@ -65,7 +66,7 @@ pub all_from : {X : Type 0} (P : X → Type 0) (xs : List X) → ((x : X) → Co
 all_from P [] h = All-nil P
 all_from P (x ∷ xs) h = All-cons P x xs (h x (here x xs)) (all_from P xs (λ y i. h y (there x xs y i)))
 
-pub completed_uses : (U : Binding → Type 0) (runs : Member → Member) (n : Namespace) (ss : core.Statements) → All U (uses_of_all runs (completed n ss)) → All U (uses_of_all runs ss)
+pub completed_uses : (U : Binding → Type 0) (runs : Lookup) (n : Namespace) (ss : core.Statements) → All U (uses_of_all runs (completed n ss)) → All U (uses_of_all runs ss)
 completed_uses U runs Constructor ss h = (followed_parts U runs ss (core.statement (core.return_of None (core.variable_use core.receiver)) core.no_statements) h).0
 completed_uses U runs Public ss h = h
 completed_uses U runs PublicStatic ss h = h
@@ -76,14 +77,15 @@ module _ (has : Usable) (used : List Binding) where
   abbrev U : Binding → Type 0
   U = Contains used
 
-  call_given : (p : Position) (e : Term) (c : List ℕ) (n : Namespace) (m : MethodName) (ts : Terms) (t : IrType) → Given has used (apply_statically p e c n m ts t) → GivesReceived U has.target any_object has n c m
+  call_given : (p : Position) (e : Term) (c : List ℕ) (n : Namespace) (m : MethodName) (ts : Terms) (t : IrType) → Given has used (apply_statically p e c n m ts t) → GivesReceived U has.lookup any_object has n c m
   call_given p e c Constructor m ts t g = λ h u. g h u
   call_given p e c Private m ts t g = λ h u. g u
   call_given p e c Public m ts t g = λ h u. g u
   call_given p e c n m ts t g = tt
 
-  gives : (t : Term) → Given has used t → Gives U has.target any_object has t
+  gives : (t : Term) → Given has used t → Gives U has.lookup any_object has t
   gives (apply_static p c n m ts t) g = λ h u. g u
+  gives (apply p e m ts t) g = λ c same h u. g c same u
   gives (apply_statically p e c n m ts t) g = call_given p e c n m ts t g
   gives (new_object p c m ts) g = λ h k f u. g k f u
   gives (select p e c f t) g = λ h. g
@@ -98,15 +100,15 @@ pub may_make_those : (has : Usable) (boxed : Bool) → (boxed ≡ true → can_b
 may_make_those has true h = or_first (can_box has) false (h refl)
 may_make_those has false h = or_second (can_box has) true refl
 
-body_given : (has : Usable) (d : MethodDef) (e : Term) → has.objects ≡ true → is_object_body d e ≡ true → HelpersGiven has (used_by has.target d e) → ((t : Term) → Contains (trees e) t → Given has (used_by has.target d e) t) → is_built_with has d e ≡ true
+body_given : (has : Usable) (d : MethodDef) (e : Term) → has.objects ≡ true → is_object_body d e ≡ true → HelpersGiven has (used_by has.lookup d e) → ((t : Term) → Contains (trees e) t → Given has (used_by has.lookup d e) t) → is_built_with has d e ≡ true
 body_given has d e objects k helpers given =
     let sure = sure_locals e in
-    let used = used_by has.target d e in
+    let used = used_by has.lookup d e in
     let code = body_code (is_mutable_in d e) d.result e in
-    let within = completed_uses (Contains used) has.target d.namespace code (all_from (Contains used) (uses_of_all has.target (desugared_member d e).body) (in_uses has.target (desugared_member d e).body)) in
-    let each = all_from (Gives (Contains used) has.target any_object has) (trees e) (λ t i. gives has used t (given t i)) in
-    let made = may_make_those has (body_boxes d e) (λ h. helpers (codes "$C") (in_helpers (codes "$C") refl) (box_used (Contains used) has.target sure (is_mutable_in d e) e [] (result_destination d.result) 1 within h)) in
-    and_from (may_make has (body_boxes d e)) (is_built has (may_check has sure) e) made (tree (Contains used) has.target any_object has (λ e. true) sure (λ h. objects) (λ x i f u. helpers x i u) (λ e h n. refl) (is_mutable_in d e) e [] (result_destination d.result) 1 k each within)
+    let within = completed_uses (Contains used) has.lookup d.namespace code (all_from (Contains used) (uses_of_all has.lookup (desugared_member d e).body) (in_uses has.lookup (desugared_member d e).body)) in
+    let each = all_from (Gives (Contains used) has.lookup any_object has) (trees e) (λ t i. gives has used t (given t i)) in
+    let made = may_make_those has (body_boxes d e) (λ h. helpers (codes "$C") (in_helpers (codes "$C") refl) (box_used (Contains used) has.lookup sure (is_mutable_in d e) e [] (result_destination d.result) 1 within h)) in
+    and_from (may_make has (body_boxes d e)) (is_built has (may_check has sure) e) made (tree (Contains used) has.lookup any_object has (λ e. true) sure (λ h. objects) (λ x i f u. helpers x i u) (λ e h n. refl) (is_mutable_in d e) e [] (result_destination d.result) 1 k each within)
 
 pub given : BodiesUseWhatIsGiven
 given has d e = body_given has d e

@@ -1,11 +1,13 @@
 pub mod Boxes
 pub mod Given
+pub mod Hijacked
 pub mod Standing
 pub mod Statics
 pub mod Tested
 pub mod Uses
 pub mod Written
 pub use Rattle.accepted_folders.proofs.Calls
+pub use Rattle.accepted_folders.proofs.Direct
 pub use Rattle.accepted_folders.proofs.Members
 pub use Rattle.accepted_folders.proofs.EachTyped
 pub use Rattle.accepted_folders.proofs.Undenied

@@ -6,6 +6,7 @@ use Rattle.accepted_folders.proofs.RulesGive.{no_division}
 use Rattle.accepted_folders.specs.Typing.{may_check}
 use Rattle.accepted_folders.specs.Built.{Usable, members_alone, is_built}
 use Rattle.js_tree.specs.declared.items.Binding.{Binding}
+use Rattle.sj_core.specs.Lookup.{Lookup}
 use Rattle.sj_desugar.specs.Desugar.{Targets, into, member}
 use Rattle.sj_desugar.specs.Spill.{Destination}
 use Rattle.sj_emit_expr.specs.Uses.{function_binding, uses_of_all}
@@ -15,12 +16,12 @@ use Rattle.sj_names.specs.declared.method_names.Member.{Member}
 use Rattle.sj_names.specs.declared.method_names.MethodName.{MethodName}
 use Rattle.sj_names.specs.declared.method_names.Namespace.{Namespace}
 use Rattle.sj_names.specs.declared.method_names.Namespace.TheVariants.{Constructor, Public, Private}
-use Rattle.sj_trees.specs.Term.{Term, new_object, select, select_static, apply_statically, apply_static, is_instance_of, as_instance_of, binary_op}
+use Rattle.sj_trees.specs.Term.{Term, new_object, select, select_static, apply_statically, apply_static, is_instance_of, as_instance_of, binary_op, apply}
 use Rattle.sure_receivers.specs.Sure.{is_sure}
 use Rattle.body_uses.proofs.Given.{all_from}
 use Rattle.body_uses.proofs.Uses.{Gives, GivesReceived, tree}
 
-module _ (U : Binding → Type 0) (runs : Member → Member) (linked_from linked_here : Member → Bool) (sure : List ℕ → Bool) (known : (m : Member) → linked_from m ≡ true → U (function_binding m) → linked_here m ≡ true) where
+module _ (U : Binding → Type 0) (runs : Lookup) (linked_from linked_here : Member → Bool) (sure : List ℕ → Bool) (known : (m : Member) → linked_from m ≡ true → U (function_binding m) → linked_here m ≡ true) where
   abbrev from : Usable
   from = members_alone linked_from
 
@@ -35,6 +36,7 @@ module _ (U : Binding → Type 0) (runs : Member → Member) (linked_from linked
 
   gives : (t : Term) → Gives U runs from has t
   gives (apply_static p c n m ts t) = known (member c n m)
+  gives (apply p e m ts t) = λ c same h u. impossible h
   gives (apply_statically p e c n m ts t) = no_receiver c n m
   gives (new_object p c m ts) = λ h k f u. impossible h
   gives (select p e c f t) = λ h. impossible h

@@ -7,30 +7,34 @@ use Rattle.std.proofs.lemmas.Bool.{and_parts, and_from}
 use Rattle.std.proofs.lemmas.Bool.Decides.{Decides-int_eq}
 use Rattle.std.proofs.lemmas.List.Elements.{All-nil, All-cons, All-head, All-tail}
 use Rattle.std.proofs.lemmas.List.Folds.{Any-from_list_any}
+use Rattle.accepted_folders.proofs.Direct.{IsCalled, is_called}
 use Rattle.js_tree.specs.declared.items.Binding.{Binding}
+use Rattle.sj_core.specs.Lookup.{Lookup}
 use Rattle.sj_core.specs.Terms as core
 use Rattle.sj_core.specs.Terms.{Expression, boxed_char, checked_value, static_call, receiver_call, made_of, field_of, unary_of, binary_of, followed}
 use Rattle.sj_core.specs.Views.{expressions_of}
+use Rattle.sj_core.specs.declared.callees.Callee.{Callee}
+use Rattle.sj_core.specs.declared.callees.Callee.TheVariants as callees
 use Rattle.sj_desugar.specs.Coercions.{is_char, coerced, coerced_arguments, coerced_receiver}
-use Rattle.sj_desugar.specs.Desugar.{operand, receiver, received, received_text, into, block, operands, cases, finish, has_no_value, target_of, Targets, expression_of, all_expressions, labeled_code, leaving_code, wrapped, break_unless, first_of, second_of, rest_of, member, types_of}
+use Rattle.sj_desugar.specs.Desugar.{operand, receiver, received, received_text, into, block, operands, cases, finish, has_no_value, target_of, Targets, expression_of, all_expressions, labeled_code, leaving_code, wrapped, break_unless, first_of, second_of, rest_of, member, types_of, callee_of}
 use Rattle.sj_desugar.specs.Plain.{is_no_type, is_plain, are_plain, is_fixed}
 use Rattle.sj_desugar.specs.Spill.{Destination, discard, to_variable, to_result, Code, one, put_first, Operand, all_plain, texts, Spilled, spill, spill_case, then_use}
 use Rattle.sj_desugar.specs.Texts.{operand_of}
 use Rattle.sj_emit_expr.specs.Templates.{check_name, is_nonzero_literal, called_member}
 use Rattle.sj_emit_expr.specs.Tests.{same_name}
-use Rattle.sj_emit_expr.specs.Uses.{object_binding, function_binding, class_use, static_use, setter_use, helper_of, test_uses, cast_uses, uses_in, uses_in_all, uses_of, uses_of_all, uses_of_cases}
+use Rattle.sj_emit_expr.specs.Uses.{object_binding, function_binding, class_use, static_use, setter_use, helper_of, test_uses, cast_uses, uses_in, uses_in_all, uses_of, uses_of_all, uses_of_cases, call_uses}
 use Rattle.sj_infos.specs.Trees.{trees, below, all_below, cases_below}
 use Rattle.sj_names.proofs.Same.{impossible, text-same}
 use Rattle.sj_names.specs.Same.{is_same_text}
 use Rattle.sj_names.specs.declared.method_names.Member.{Member}
 use Rattle.sj_names.specs.declared.references.TypeRef.{TypeRef}
 use Rattle.accepted_folders.specs.Typing.{may_check}
-use Rattle.accepted_folders.specs.Built.{Usable, is_nonzero_int, is_nonzero_long, divides, is_operation, can_cast, stands, is_built, are_built, are_built_cases}
+use Rattle.accepted_folders.specs.Built.{Usable, is_nonzero_int, is_nonzero_long, divides, is_operation, can_cast, stands, is_built, are_built, are_built_cases, can_call}
 use Rattle.sj_names.specs.declared.method_names.MethodName.{MethodName}
 use Rattle.sj_names.specs.declared.method_names.Namespace.{Namespace}
 use Rattle.sj_names.specs.declared.method_names.Namespace.TheVariants.{Public, Private, Constructor}
 use Rattle.sure_receivers.specs.Sure.{is_sure}
-use Rattle.sj_trees.specs.Term.{Term, Terms, no_terms, more_terms, Cases, no_cases, more_cases, var_def, skip, block_of, labeled, assign, return_to, if_then, while_loop, do_while, match_on, throw, new_object, select, select_static, apply_statically, apply_static, unary_op, binary_op, is_instance_of, as_instance_of, undefined_literal, null_literal, boolean_literal, char_literal, byte_literal, short_literal, int_literal, long_literal, string_literal, var_ref, this_ref, log_line}
+use Rattle.sj_trees.specs.Term.{Term, Terms, no_terms, more_terms, Cases, no_cases, more_cases, var_def, skip, block_of, labeled, assign, return_to, if_then, while_loop, do_while, match_on, throw, new_object, select, select_static, apply_statically, apply_static, unary_op, binary_op, is_instance_of, as_instance_of, undefined_literal, null_literal, boolean_literal, char_literal, byte_literal, short_literal, int_literal, long_literal, string_literal, var_ref, this_ref, log_line, apply}
 use Rattle.sj_trees.specs.TypeOf.{type_of_term, unary_result, binary_result}
 use Rattle.sj_trees.specs.Types.{class_type, reference_type}
 use Rattle.sj_trees.specs.declared.operators.BinaryOp.{BinaryOp}
@@ -142,7 +146,7 @@ module _ {X : Type 0} (P : X → Type 0) where
   combine [] ys h k = k
   combine (x ∷ xs) ys h k = All-cons P x (xs ++ ys) (All-head P x xs h) (combine xs ys (All-tail P x xs h) k)
 
-module _ (U : Binding → Type 0) (runs : Member → Member) where
+module _ (U : Binding → Type 0) (runs : Lookup) where
   pub front : (xs ys : List Binding) → All U (xs ++ ys) → All U xs
   front = ahead U
 
@@ -265,13 +269,14 @@ module _ (U : Binding → Type 0) (runs : Member → Member) where
     -- a member that runs on an object is there where its function is used
     abbrev pub GivesReceived : Namespace → List ℕ → MethodName → Type 0
     GivesReceived Constructor c m = from.built (member c Constructor m) ≡ true → U (function_binding (member c Constructor m)) → has.built (member c Constructor m) ≡ true
-    GivesReceived Public c m = from.received (from.target (member c Public m)) ≡ true → U (function_binding (runs (member c Public m))) → has.received (has.target (member c Public m)) ≡ true
+    GivesReceived Public c m = from.received (from.lookup.target (member c Public m)) ≡ true → U (function_binding (runs.target (member c Public m))) → has.received (has.lookup.target (member c Public m)) ≡ true
     GivesReceived Private c m = from.received (member c Private m) ≡ true → U (function_binding (member c Private m)) → has.received (member c Private m) ≡ true
     GivesReceived _ c m = Unit {0}
 
     -- what a tree uses that its code names is there
     abbrev pub Gives : Term → Type 0
     Gives (apply_static p c n m ts t) = from.linked (member c n m) ≡ true → U (function_binding (member c n m)) → has.linked (member c n m) ≡ true
+    Gives (apply p e m ts t) = (c : List ℕ) → callee_of (type_of_term e) m ≡ callees.Member (member c Public m) → GivesReceived Public c m
     Gives (apply_statically p e c n m ts t) = GivesReceived n c m
     Gives (new_object p c m ts) = from.made c ≡ true → from.built (member c Constructor m) ≡ true → U (function_binding (member c Constructor m)) → U (class_use c) → (has.built (member c Constructor m) ≡ true) × (has.made c ≡ true)
     Gives (select p e c f t) = from.field c f t ≡ true → has.field c f t ≡ true
@@ -354,6 +359,7 @@ module _ (U : Binding → Type 0) (runs : Member → Member) where
     literal (string_literal p us) q k l = (λ t. impossible t, λ t. impossible t)
     literal (if_then p c a b t) q k l = impossible l
     literal (apply_static p c n m ts t) q k l = impossible l
+    literal (apply p e m ts t) q k l = impossible l
     literal (apply_statically p e c n m ts t) q k l = impossible l
     literal (new_object p c m ts) q k l = impossible l
     literal (select p e c f t) q k l = impossible l
@@ -432,10 +438,19 @@ module _ (U : Binding → Type 0) (runs : Member → Member) where
     method_there was is k e g u f h = let q = and_parts was (checked e) h in and_from is (checks e) (g q.0 f) (check_there e q.1 u)
 
     call_there : (p : Position) (e : Term) (c : List ℕ) (n : Namespace) (m : MethodName) (ts : Terms) (t : IrType) → GivesReceived from has n c m → IsChecked e → U (function_binding (called_member runs n (member c n m))) → stands from checked (apply_statically p e c n m ts t) ≡ true → stands has checks (apply_statically p e c n m ts t) ≡ true
-    call_there p e c Public m ts t g u f h = method_there (from.received (from.target (member c Public m))) (has.received (has.target (member c Public m))) (runs (member c Public m)) e g u f h
+    call_there p e c Public m ts t g u f h = method_there (from.received (from.lookup.target (member c Public m))) (has.received (has.lookup.target (member c Public m))) (runs.target (member c Public m)) e g u f h
     call_there p e c Private m ts t g u f h = method_there (from.received (member c Private m)) (has.received (member c Private m)) (member c Private m) e g u f h
     call_there p e c Constructor m ts t g u f h = let q = and_parts (from.built (member c Constructor m)) (is_no_type t) h in and_from (has.built (member c Constructor m)) (is_no_type t) (g q.0 f) q.1
     call_there p e c n m ts t g u f h = impossible h
+
+    applied_there : (p : Position) (e : Term) (m : MethodName) (ts : Terms) (t : IrType) → Gives from has (apply p e m ts t) → IsChecked e → All U (call_uses runs (callee_of (type_of_term e) m)) → stands from checked (apply p e m ts t) ≡ true → stands has checks (apply p e m ts t) ≡ true
+    applied_there p e m ts t g u f h = and_from (can_call has (callee_of (type_of_term e) m)) (checks e) (ap (can_call has) is.callee ∙ g is.direct.class is.callee (sym (ap (can_call from) is.callee) ∙ q.0) (All-head U (function_binding (runs.target (member is.direct.class Public m))) [] (subst (λ (k : Callee). All U (call_uses runs k)) is.callee f))) (check_there e q.1 u)
+      where
+        q : (can_call from (callee_of (type_of_term e) m) ≡ true) × (checked e ≡ true)
+        q = and_parts (can_call from (callee_of (type_of_term e) m)) (checked e) h
+
+        is : IsCalled (type_of_term e) m
+        is = is_called from (type_of_term e) m q.0
 
     new_there : (p : Position) (c : List ℕ) (m : MethodName) (ts : Terms) → Found (new_object p c m ts) → U (function_binding (member c Constructor m)) → U (class_use c) → stands from checked (new_object p c m ts) ≡ true → stands has checks (new_object p c m ts) ≡ true
     new_there p c m ts g f u h =
@@ -460,6 +475,18 @@ module _ (U : Binding → Type 0) (runs : Member → Member) where
           let k0 = and_parts (from.linked (member c n m)) (olds ts) k in
           let inside = uses_in_all runs (expressions_of (coerced_arguments m.params (types_of ts) (all_expressions sure ts))) in
           and_from (has.linked (member c n m)) (news ts) (All-head Found (apply_static p c n m ts t) (all_below ts) g k0.0 (All-head U (function_binding (member c n m)) inside h)) (all_plain_built ts q k0.1 (inner (apply_static p c n m ts t) g) (arguments_in m.params (types_of ts) (all_expressions sure ts) (All-tail U (function_binding (member c n m)) inside h)))
+      plain (apply p e m ts t) q k g h =
+          let tree = apply p e m ts t in
+          let q0 = and_parts (is_plain e) (are_plain ts) q in
+          let k0 = and_parts (stands from checked tree) (old e && olds ts) k in
+          let k1 = and_parts (old e) (olds ts) k0.1 in
+          let text = received_text (is_sure sure e) (expression_of sure e) in
+          let target = coerced_receiver (type_of_term e) text in
+          let inside = uses_in_all runs (expressions_of (coerced_arguments m.params (types_of ts) (all_expressions sure ts))) in
+          let names = call_uses runs (callee_of (type_of_term e) m) in
+          let before = front (names ++ uses_in runs target) inside h in
+          let own = unreceived (type_of_term e) text (back names (uses_in runs target) before) in
+          and_from (stands has checks tree) (new e && news ts) (applied_there p e m ts t (All-head Found tree (below tree) g) (checked_in (is_sure sure e) (expression_of sure e) own) (front names (uses_in runs target) before) k0.0) (and_from (new e) (news ts) (plain e q0.0 k1.0 (ahead Found (trees e) (all_below ts) (inner tree g)) (received_in (is_sure sure e) (expression_of sure e) own)) (all_plain_built ts q0.1 k1.1 (after Found (trees e) (all_below ts) (inner tree g)) (arguments_in m.params (types_of ts) (all_expressions sure ts) (back (names ++ uses_in runs target) inside h))))
       plain (apply_statically p e c n m ts t) q k g h =
           let tree = apply_statically p e c n m ts t in
           let q0 = and_parts (is_plain e) (are_plain ts) q in
@@ -675,6 +702,22 @@ module _ (U : Binding → Type 0) (runs : Member → Member) where
             let parts = followed_parts s.statements (finish k p t false call s.next).statements h in
             let inside = finished k p t call s.next parts.1 in
             and_from (has.linked (member c n m)) (news es) (All-head Found (apply_static p c n m es t) (all_below es) g k0.0 (All-head U (function_binding (member c n m)) (uses_in_all runs arguments) inside)) (operands_built es ts k0.1 (inner (apply_static p c n m es t) g) (spill_in (operands is_mutable sure ts es) j parts.0 (arguments_in m.params (types_of es) s.expressions (All-tail U (function_binding (member c n m)) (uses_in_all runs arguments) inside))))
+        tree (apply p e m es t) ts k j q g h =
+            let own = apply p e m es t in
+            let k0 = and_parts (stands from checked own) (old e && olds es) q in
+            let k1 = and_parts (old e) (olds es) k0.1 in
+            let os : List Operand = receiver_for ts e ∷ operands is_mutable sure ts es in
+            let s : Spilled = spill os j in
+            let target = coerced_receiver (type_of_term e) (first_of s.expressions) in
+            let arguments = expressions_of (coerced_arguments m.params (types_of es) (rest_of s.expressions)) in
+            let call = core.receiver_call (callee_of (type_of_term e) m) target arguments in
+            let parts = followed_parts s.statements (finish k p t false call s.next).statements h in
+            let inside = finished k p t call s.next parts.1 in
+            let names = call_uses runs (callee_of (type_of_term e) m) in
+            let before = front (names ++ uses_in runs target) (uses_in_all runs arguments) inside in
+            let written = spill_in os j parts.0 (first_and_rest s.expressions (unreceived (type_of_term e) (first_of s.expressions) (back names (uses_in runs target) before)) (arguments_in m.params (types_of es) (rest_of s.expressions) (back (names ++ uses_in runs target) (uses_in_all runs arguments) inside))) in
+            let start = receiver_built e (tree e) ts k1.0 (ahead Found (trees e) (all_below es) (inner own g)) written.0 in
+            and_from (stands has checks own) (new e && news es) (applied_there p e m es t (All-head Found own (below own) g) start.1 (front names (uses_in runs target) before) k0.0) (and_from (new e) (news es) start.0 (operands_built es ts k1.1 (after Found (trees e) (all_below es) (inner own g)) written.1))
         tree (apply_statically p e c n m es t) ts k j q g h =
             let own = apply_statically p e c n m es t in
             let k0 = and_parts (stands from checked own) (old e && olds es) q in
@@ -683,7 +726,7 @@ module _ (U : Binding → Type 0) (runs : Member → Member) where
             let s : Spilled = spill os j in
             let target = coerced_receiver (type_of_term e) (first_of s.expressions) in
             let arguments = expressions_of (coerced_arguments m.params (types_of es) (rest_of s.expressions)) in
-            let call = core.receiver_call (member c n m) target arguments in
+            let call = core.receiver_call (callees.Member (member c n m)) target arguments in
             let parts = followed_parts s.statements (finish k p t false call s.next).statements h in
             let inside = finished k p t call s.next parts.1 in
             let behind = All-tail U (function_binding (called_member runs n (member c n m))) (uses_in runs target ++ uses_in_all runs arguments) inside in

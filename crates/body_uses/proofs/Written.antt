@@ -1,5 +1,6 @@
 -- The bodies of an accepted folder whose classes are written are built with what is written.
-use Rattle.accepted_folders.specs.Refusals.{IsPresent, missing_class, missing_method, abstract_target, no_class, no_target, no_target_body}
+use Rattle.accepted_folders.specs.Refusals.{IsPresent, missing_class, missing_method, abstract_target, no_class, no_target, no_target_body, no_method, no_hijacked_body}
+use Rattle.body_uses.proofs.Hijacked.{of_hijacked}
 use Rattle.sj_world.specs.Resolution.{Answer, target, abstract, missing, Resolves}
 use Rattle.ir_mean.specs.Dispatch.{resolved}
 use Rattle.resolution_laws.proofs.Resolves.{each_call_resolves}
@@ -26,7 +27,7 @@ use Rattle.helper_rules.specs.declared.kinds.Kind.TheVariants as kinds
 use Rattle.js_tree.specs.declared.items.Binding.{Binding}
 use Rattle.accepted_folders.proofs.Derivations.{closed}
 use Rattle.accepted_folders.specs.Reachable.{Reachable}
-use Rattle.accepted_folders.specs.Rules.{Reads, of_call, of_new, asked_body, new_made, field_needed, resolved_class, resolved_body}
+use Rattle.accepted_folders.specs.Rules.{Reads, of_call, of_new, asked_body, new_made, field_needed, resolved_class, resolved_body, call_class, call_hijacked}
 use Rattle.sj_desugar.specs.Desugar.{member}
 use Rattle.sj_emit_expr.specs.Templates.{check_name}
 use Rattle.sj_emit_expr.specs.Tests.{test_name, cast_name, same_name}
@@ -38,7 +39,7 @@ use Rattle.sj_infos.specs.Trees.{trees}
 use Rattle.sj_infos.specs.declared.forms.BodyForm.{BodyForm}
 use Rattle.sj_infos.specs.declared.forms.BodyForm.TheVariants.{Test, Cast}
 use Rattle.sj_infos.specs.declared.infos.Info.{Info}
-use Rattle.sj_infos.specs.declared.infos.Info.TheVariants.{New, Static, Field, Resolved}
+use Rattle.sj_infos.specs.declared.infos.Info.TheVariants.{New, Static, Field, Resolved, Called}
 use Rattle.accepted_folders.proofs.Found.{here}
 use Rattle.sj_names.proofs.Same.{impossible, text-refl}
 use Rattle.sj_names.specs.Same.{is_same_text}
@@ -54,13 +55,13 @@ use Rattle.accepted_folders.specs.Linked.{has_function}
 use Rattle.sj_trees.proofs.SameTypes.{type-refl}
 use Rattle.sj_trees.specs.SameTypes.{is_same_type}
 use Rattle.sj_trees.specs.declared.positions.Position.{Position}
-use Rattle.sj_trees.specs.Term.{Term, new_object, select, select_static, apply_statically, apply_static, binary_op, is_instance_of, as_instance_of}
+use Rattle.sj_trees.specs.Term.{Term, new_object, select, select_static, apply_statically, apply_static, binary_op, is_instance_of, as_instance_of, apply}
 use Rattle.sj_trees.specs.declared.classes.ClassDef.{ClassDef}
 use Rattle.sj_trees.specs.declared.operators.BinaryOp.{BinaryOp}
 use Rattle.sj_trees.specs.declared.operators.BinaryOp.TheVariants.{IntDivide, IntRemainder, LongDivide, LongRemainder}
 use Rattle.sj_trees.specs.declared.types.IrType.{IrType}
 use Rattle.sj_trees.specs.declared.types.IrType.TheVariants.{Undefined, Boolean, Char, Byte, Short, Int, Long, String, Class as IrClass}
-use Rattle.sj_world.specs.Known.{Name, Classes, class_of}
+use Rattle.sj_world.specs.Known.{Name, Classes, class_of, is_hijacked}
 use Rattle.sj_world.proofs.Searches.{contains_at}
 use Rattle.sj_world.specs.Paths.{stay}
 use Rattle.sj_world.specs.Subtypes.{equal, from_nothing, to_any, null_to_class, null_to_array, class_to_class, primitive_to_class, arrays_alike, arrays_of_arrays}
@@ -167,7 +168,7 @@ module _ (entries : List EntryPoint) (files : List SourceFile) (w : Classes) (fa
   has = used_of w facts all live helpers written
 
   abbrev used : List Binding
-  used = used_by has.target e.definition e.its_body
+  used = used_by has.lookup e.definition e.its_body
 
   in_written : (b : Binding) → Contains used b → is_among written b.owner ≡ true
   in_written b u = among_names written b.owner (uses.owned e i here_written b u)
@@ -231,6 +232,29 @@ module _ (entries : List EntryPoint) (files : List SourceFile) (w : Classes) (fa
       go abstract s same = absurd (accepted.resolved (abstract_target (member c Public m)) (no_target_body c m r (present c m r) s))
       go missing s same = absurd (accepted.resolved (missing_method (member c Public m)) (no_target c m r (present c m r) s))
 
+  -- a class on whose values a method is called is there
+  called_there : (c : Name) (m : MethodName) → Reads w entries (Reachable w entries) (Called c m) → IsPresent w c
+  called_there c m r = go (class_of w c) refl
+    where
+      go : (o : Option ClassDef) → class_of w c ≡ o → IsPresent w c
+      go None none = absurd (accepted.resolved (missing_class c) (no_class c (closed w entries (Needed c) (call_class c m r)) none))
+      go (Some class) found = record { class = class; is_class = found }
+
+  -- what a hijacked class decides on is there where its function is used: it is a body, since the folder is accepted
+  hijacked_there : (c : Name) (m : MethodName) → is_hijacked c ≡ true → Reads w entries (Reachable w entries) (Called c m) → Contains used (function_binding (target_in w (member c Public m))) → has.received (target_in w (member c Public m)) ≡ true
+  hijacked_there c m h r u = go call.answer call.resolves (targets_are_worked_out w accepted.world.sorted.in_order c m call.answer call.resolves)
+    where
+      call : HasAnswer w c m
+      call = each_call_resolves w accepted.world.sorted.in_order c m
+
+      go : (a : Answer) → Resolves w c m a → resolved w c m ≡ found_by a → has.received (target_in w (member c Public m)) ≡ true
+      go (target d owner) s same =
+          let k : Member = member owner Public m in
+          let is : target_in w (member c Public m) ≡ k = ap (at_owner (member c Public m)) same in
+          subst (λ (o : Member). has.received o ≡ true) (sym is) (and_from (is_among written owner) (has_function all k) (in_written (function_binding k) (subst (λ (o : Member). Contains used (function_binding o)) is u)) (body_there k (closed w entries (Body k) (call_hijacked c m d owner r h s))))
+      go abstract s same = absurd (accepted.resolved (abstract_target (member c Public m)) (no_hijacked_body c m r (called_there c m r) h s))
+      go missing s same = absurd (accepted.resolved (missing_method (member c Public m)) (no_method c m r (called_there c m r) s))
+
   -- a helper by its name
   helper_there : (h : Helper) → Contains used (object_binding (helper_name h)) → has.helper (helper_name h) ≡ true
   helper_there h u = and_from (is_among written object) (list_any (λ (g : Helper). is_same_text (helper_name h) (helper_name g)) helpers) (in_written (object_binding (helper_name h)) u) (any_of (λ (g : Helper). is_same_text (helper_name h) (helper_name g)) helpers h (uses.helped e i here_written h u) (text-refl (helper_name h)))
@@ -279,6 +303,7 @@ module _ (entries : List EntryPoint) (files : List SourceFile) (w : Classes) (fa
 
   tree_given : (t : Term) → Contains (trees e.its_body) t → Stands (MeetsThere w e.definition.namespace) t → Given has used t
   tree_given (apply_static p c n m ts t) among s = λ u. in_used (member c n m) (is_static n) (static_there n s.asked.0) (asked (apply_static p c n m ts t) among (Static (member c n m)) (here (Static (member c n m)) [])) u
+  tree_given (apply p d m ts t) among s = λ c same u. let of = of_hijacked d m c same in hijacked_there c m of.hijacked (asked (apply p d m ts t) among (Called c m) (of.asked (sure_among [] (trees e.its_body)))) u
   tree_given (apply_statically p d c Private m ts t) among s = λ u. in_used (member c Private m) true refl (asked (apply_statically p d c Private m ts t) among (Static (member c Private m)) (here (Static (member c Private m)) (of_receiver (sure_among [] (trees e.its_body)) d))) u
   tree_given (apply_statically p d c Constructor m ts t) among s = λ v u. in_used (member c Constructor m) (has_no_value m.result) v (asked (apply_statically p d c Constructor m ts t) among (Static (member c Constructor m)) (here (Static (member c Constructor m)) (of_receiver (sure_among [] (trees e.its_body)) d))) u
   tree_given (apply_statically p d c Public m ts t) among s = λ u. target_there c m (asked (apply_statically p d c Public m ts t) among (Resolved c m) (here (Resolved c m) (of_receiver (sure_among [] (trees e.its_body)) d))) u

@@ -1,4 +1,5 @@
 -- Laws of what bodies use.
+use Rattle.sj_core.specs.Lookup.{Lookup}
 use Rattle.sj_names.specs.declared.method_names.Member.{Member}
 use Rattle.std.specs.Prelude.{◌≡◌, true, List, Contains}
 use Rattle.accepted_folders.specs.Accepted.{IsAccepted}
@@ -22,7 +23,7 @@ use Rattle.body_uses.specs.Given.{Given, HelpersGiven}
 use Rattle.body_uses.specs.Written.{AreWrittenWith}
 
 -- the bindings that the code of a method with this body uses, by the targets of public members
-abbrev pub used_by : (Member → Member) → MethodDef → Term → List Binding
+abbrev pub used_by : Lookup → MethodDef → Term → List Binding
 used_by target d e = uses target (desugared_member d e).body
 
 -- a body of the forms with objects, each of whose trees is given what its code uses, is built with what is there
@@ -30,8 +31,8 @@ abbrev pub BodiesUseWhatIsGiven : Type 0
 BodiesUseWhatIsGiven = (has : Usable) (d : MethodDef) (e : Term)
     → has.objects ≡ true
     → is_object_body d e ≡ true
-    → HelpersGiven has (used_by has.target d e)
-    → ((t : Term) → Contains (trees e) t → Given has (used_by has.target d e) t)
+    → HelpersGiven has (used_by has.lookup d e)
+    → ((t : Term) → Contains (trees e) t → Given has (used_by has.lookup d e) t)
     → is_built_with has d e ≡ true
 
 -- a body of the forms with objects that is needed in an accepted folder, of a class whose pieces are written, is built with what is written

@@ -16,7 +16,7 @@ use Rattle.body_rules.specs.Locals.{local_of}
 use Rattle.sj_proper.specs.Once.{Once, OnceAll, OnceCases}
 use Rattle.sj_trees.proofs.SameTypes.{type-same}
 use Rattle.sj_trees.specs.SameTypes.{is_same_type}
-use Rattle.sj_trees.specs.Term.{Term, Terms, no_terms, more_terms, Cases, no_cases, more_cases, var_def, skip, block_of, labeled, assign, return_to, if_then, while_loop, do_while, match_on, throw, new_object, select, select_static, apply_statically, this_ref, apply_static, unary_op, binary_op, is_instance_of, as_instance_of, undefined_literal, null_literal, boolean_literal, char_literal, byte_literal, short_literal, int_literal, long_literal, string_literal, var_ref, log_line}
+use Rattle.sj_trees.specs.Term.{Term, Terms, no_terms, more_terms, Cases, no_cases, more_cases, var_def, skip, block_of, labeled, assign, return_to, if_then, while_loop, do_while, match_on, throw, new_object, select, select_static, apply_statically, this_ref, apply_static, unary_op, binary_op, is_instance_of, as_instance_of, undefined_literal, null_literal, boolean_literal, char_literal, byte_literal, short_literal, int_literal, long_literal, string_literal, var_ref, log_line, apply}
 use Rattle.sj_trees.specs.TypeOf.{type_of_term}
 use Rattle.sj_trees.specs.Types.{reference_type}
 use Rattle.sj_trees.specs.declared.classes.ParamDef.{ParamDef}
@@ -134,6 +134,7 @@ abbrev is_found : Scene → Term → Bool
 is_found s (var_def p x t b e) = not (has_no_value t)
 is_found s (assign p (var_ref q x t) e) = is_variable (local_of s.locals x) t
 is_found s (new_object p c m ts) = false
+is_found s (apply p e m ts t) = false
 is_found s (apply_statically p e c n m ts t) = false
 is_found s (this_ref p t) = false
 is_found s (apply_static p c n m ts t) = all_have_values m.params
@@ -239,6 +240,7 @@ found : (around : List (List ℕ)) (s : Scene) (t : Term) → Once around t → 
 found around s (var_def p x t b e) o h = (when_not (has_no_value t) h, o.0)
 found around s (assign p (var_ref q x t) e) o h = variable_is s x t (local_of s.locals x) refl h
 found around s (new_object p c m ts) o h = impossible h
+found around s (apply p e m ts t) o h = impossible h
 found around s (apply_statically p e c n m ts t) o h = impossible h
 found around s (this_ref p t) o h = impossible h
 found around s (apply_static p c n m ts t) o h = values_are m.params h
@@ -348,6 +350,7 @@ module _ (w : Classes) (has : Usable) where
     typed ar s (throw p e) o h = impossible h
     typed ar s (new_object p c m ts) o h = impossible h
     typed ar s (select p e c f t) o h = impossible h
+    typed ar s (apply p e m ts t) o h = impossible h
     typed ar s (apply_statically p e c n m ts t) o h = impossible h
     typed ar s (is_instance_of p e t) o h = impossible h
     typed ar s (as_instance_of p e t) o h = impossible h

@@ -6,7 +6,7 @@ use Rattle.sj_desugar.specs.Desugar.{Targets}
 use Rattle.sj_desugar.specs.Plain.{is_plain}
 use Rattle.sj_desugar.specs.Spill.{Destination, discard, to_variable, to_result}
 use Rattle.sj_names.specs.declared.references.TypeRef.{TypeRef}
-use Rattle.sj_trees.specs.Term.{Term, Terms, no_terms, more_terms, Cases, no_cases, more_cases, var_def, block_of, labeled, assign, return_to, if_then, while_loop, do_while, match_on, throw, new_object, select, select_static, apply_statically, this_ref, apply_static, unary_op, binary_op, is_instance_of, as_instance_of, char_literal, var_ref, log_line}
+use Rattle.sj_trees.specs.Term.{Term, Terms, no_terms, more_terms, Cases, no_cases, more_cases, var_def, block_of, labeled, assign, return_to, if_then, while_loop, do_while, match_on, throw, new_object, select, select_static, apply, apply_statically, this_ref, apply_static, unary_op, binary_op, is_instance_of, as_instance_of, char_literal, var_ref, log_line}
 use Rattle.sj_trees.specs.TypeOf.{type_of_term, unary_result, binary_result}
 use Rattle.sj_trees.specs.Types.{class_type, reference_type}
 use Rattle.sj_trees.specs.declared.operators.BinaryOp.{BinaryOp}
@@ -65,6 +65,7 @@ abbrev mutual
   boxes_as_text (if_then p c a b t) = boxes_as_text c || ((is_boxed t a || boxes_as_text a) || (is_boxed t b || boxes_as_text b))
   boxes_as_text (new_object p c m ts) = any_is_boxed m.params ts || any_boxes_as_text ts
   boxes_as_text (select p e c f t) = boxes_as_text e
+  boxes_as_text (apply p e m ts t) = (is_boxed Any e || any_is_boxed m.params ts) || (boxes_as_text e || any_boxes_as_text ts)
   boxes_as_text (apply_statically p e c n m ts t) = (is_boxed Any e || any_is_boxed m.params ts) || (boxes_as_text e || any_boxes_as_text ts)
   boxes_as_text (apply_static p c n m ts t) = any_is_boxed m.params ts || any_boxes_as_text ts
   boxes_as_text (unary_op p o e) = boxes_as_text e
@@ -96,6 +97,7 @@ abbrev mutual
   boxes ls k (new_object p c m ts) = is_boxed_at k (class_type c) || (any_is_boxed m.params ts || operands_box ls ts)
   boxes ls k (select p e c f t) = is_boxed_at k t || (if is_plain e then boxes_as_text e else boxes ls (brought_to (type_of_term e)) e)
   boxes ls k (select_static p c f t) = is_boxed_at k t
+  boxes ls k (apply p e m ts t) = is_boxed_at k t || ((is_boxed Any e || any_is_boxed m.params ts) || ((if is_plain e then boxes_as_text e else boxes ls (brought_to (type_of_term e)) e) || operands_box ls ts))
   boxes ls k (apply_statically p e c n m ts t) = is_boxed_at k t || ((is_boxed Any e || any_is_boxed m.params ts) || ((if is_plain e then boxes_as_text e else boxes ls (brought_to (type_of_term e)) e) || operands_box ls ts))
   boxes ls k (apply_static p c n m ts t) = is_boxed_at k t || (any_is_boxed m.params ts || operands_box ls ts)
   boxes ls k (unary_op p o e) = is_boxed_at k (unary_result o) || (if is_plain e then boxes_as_text e else boxes ls (brought_to (type_of_term e)) e)

@@ -1,7 +1,10 @@
 -- The forms of bodies that are built: what is asked of a method beside its typing, so that the theorem on bodies covers it, one Boolean.
 use Rattle.std.specs.Prelude.{ℕ, pos, Bool, true, false, ◌&&◌, ◌||◌, not, List, [], ◌∷◌, Option, Some, None, codes}
 use Rattle.std.specs.Ordering.{int_eq}
-use Rattle.sj_desugar.specs.Desugar.{member, result_destination}
+use Rattle.sj_core.specs.Lookup.{Lookup, own_targets}
+use Rattle.sj_core.specs.declared.callees.Callee.{Callee}
+use Rattle.sj_core.specs.declared.callees.Callee.TheVariants as callees
+use Rattle.sj_desugar.specs.Desugar.{member, callee_of, result_destination}
 use Rattle.sj_desugar.specs.Plain.{is_no_type}
 use Rattle.sj_names.specs.declared.method_names.Namespace.{Namespace}
 use Rattle.sj_names.specs.declared.method_names.Namespace.TheVariants.{Public, PublicStatic, Private, PrivateStatic, Constructor}
@@ -9,7 +12,8 @@ use Rattle.sj_names.specs.declared.references.TypeRef.{TypeRef}
 use Rattle.sj_names.specs.declared.references.TypeRef.TheVariants.{Void}
 use Rattle.sj_names.specs.declared.method_names.Member.{Member}
 use Rattle.sure_receivers.specs.Sure.{is_sure_type}
-use Rattle.sj_trees.specs.Term.{Term, Terms, no_terms, more_terms, Cases, no_cases, more_cases, var_def, skip, block_of, labeled, assign, return_to, if_then, while_loop, do_while, match_on, throw, new_object, select, select_static, apply_statically, this_ref, apply_static, unary_op, binary_op, is_instance_of, as_instance_of, undefined_literal, null_literal, boolean_literal, char_literal, byte_literal, short_literal, int_literal, long_literal, string_literal, var_ref, log_line}
+use Rattle.sj_trees.specs.Term.{Term, Terms, no_terms, more_terms, Cases, no_cases, more_cases, var_def, skip, block_of, labeled, assign, return_to, if_then, while_loop, do_while, match_on, throw, new_object, select, select_static, apply, apply_statically, this_ref, apply_static, unary_op, binary_op, is_instance_of, as_instance_of, undefined_literal, null_literal, boolean_literal, char_literal, byte_literal, short_literal, int_literal, long_literal, string_literal, var_ref, log_line}
+use Rattle.sj_trees.specs.TypeOf.{type_of_term}
 use Rattle.sj_trees.specs.declared.classes.MethodDef.{MethodDef}
 use Rattle.sj_trees.specs.declared.operators.BinaryOp.{BinaryOp}
 use Rattle.sj_trees.specs.declared.operators.BinaryOp.TheVariants.{StrictEqual, StrictNotEqual, IntDivide, IntRemainder, LongDivide, LongRemainder}
@@ -26,12 +30,12 @@ abbrev pub is_nonzero_long : Term → Bool
 is_nonzero_long (long_literal p z) = not (int_eq z (pos 0))
 is_nonzero_long _ = false
 
--- what a body can use: the static members that are linked, and those that run on a receiver, with what a call of a public one runs; the constructors that
+-- what a body can use: the static members that are linked, and those that run on a receiver, with what is known of the classes where these are called; the constructors that
 -- are linked; the classes of which objects are made; their fields and the static fields that can be read and those that can be set, with their types; the types for which
 -- there is a test, and those for which there is a cast; helpers, by their names; and whether it can throw, and name the object that it runs on
 pub record Usable : Type 0 where
   pub linked : Member → Bool
-  pub target : Member → Member
+  pub lookup : Lookup
   pub received : Member → Bool
   pub built : Member → Bool
   pub made : List ℕ → Bool
@@ -53,7 +57,7 @@ may_make has boxed = can_box has || not boxed
 
 -- these static members and nothing else
 abbrev pub members_alone : (Member → Bool) → Usable
-members_alone linked = record { linked = linked; target = λ m. m; received = λ m. false; built = λ m. false; made = λ c. false; field = λ c f t. false; static_field = λ c f t. false; static_setter = λ c f t. false; tests = λ t. false; casts = λ t. false; helper = λ x. false; objects = false }
+members_alone linked = record { linked = linked; lookup = own_targets; received = λ m. false; built = λ m. false; made = λ c. false; field = λ c f t. false; static_field = λ c f t. false; static_setter = λ c f t. false; tests = λ t. false; casts = λ t. false; helper = λ x. false; objects = false }
 
 -- a static field can be read or set
 abbrev pub has_static : Usable → List ℕ → List ℕ → IrType → Bool
@@ -86,6 +90,11 @@ is_operation has LongDivide d = divides has LongDivide || is_nonzero_long d
 is_operation has LongRemainder d = divides has LongRemainder || is_nonzero_long d
 is_operation has _ d = true
 
+-- what is called on a receiver: the target of a public member can be; a method that is looked up, one of an array, and one by its reflective name can't yet
+abbrev pub can_call : Usable → Callee → Bool
+can_call has (callees.Member m) = has.received (has.lookup.target m)
+can_call has _ = false
+
 -- what a body can use, and the receivers that are never null or whose null check can be used
 module _ (has : Usable) (checked : Term → Bool) where
   -- the tree is of the forms that are built, whatever the trees in it are: what it calls, makes and reads is there, so is the helper of its division or its divisor is a literal, its
@@ -108,8 +117,9 @@ module _ (has : Usable) (checked : Term → Bool) where
   stands (select p e c f t) = has.field c f t && checked e
   stands (select_static p c f t) = has.static_field c f t
   stands (apply_statically p e c Private m ts t) = has.received (member c Private m) && checked e
-  stands (apply_statically p e c Public m ts t) = has.received (has.target (member c Public m)) && checked e
+  stands (apply_statically p e c Public m ts t) = has.received (has.lookup.target (member c Public m)) && checked e
   stands (apply_statically p e c Constructor m ts t) = has.built (member c Constructor m) && is_no_type t
+  stands (apply p e m ts t) = can_call has (callee_of (type_of_term e) m) && checked e
   stands (apply_static p c n m ts t) = has.linked (member c n m)
   stands (unary_op p o e) = true
   stands (binary_op p o e d) = is_operation has o d
@@ -147,6 +157,7 @@ module _ (has : Usable) (checked : Term → Bool) where
     is_built (new_object p c m ts) = stands (new_object p c m ts) && are_built ts
     is_built (select p e c f t) = stands (select p e c f t) && is_built e
     is_built (apply_statically p e c n m ts t) = stands (apply_statically p e c n m ts t) && (is_built e && are_built ts)
+    is_built (apply p e m ts t) = stands (apply p e m ts t) && (is_built e && are_built ts)
     is_built (apply_static p c n m ts t) = stands (apply_static p c n m ts t) && are_built ts
     is_built (unary_op p o e) = is_built e
     is_built (binary_op p o e d) = stands (binary_op p o e d) && (is_built e && is_built d)
@@ -191,9 +202,9 @@ abbrev pub is_testable : IrType → Bool
 is_testable (Class c) = true
 is_testable t = has_kind t
 
--- whatever is made and used of objects, but for constructors with a value, and tests of arrays and casts to them
+-- whatever is made and used of objects, but for methods that are looked up, constructors with a value, and tests of arrays and casts to them
 abbrev pub any_object : Usable
-any_object = record { linked = λ m. true; target = λ m. m; received = λ m. true; built = λ m. has_no_value m.method.result; made = λ c. true; field = λ c f t. true; static_field = λ c f t. true; static_setter = λ c f t. true; tests = is_testable; casts = is_testable; helper = λ x. true; objects = true }
+any_object = record { linked = λ m. true; lookup = own_targets; received = λ m. true; built = λ m. has_no_value m.method.result; made = λ c. true; field = λ c f t. true; static_field = λ c f t. true; static_setter = λ c f t. true; tests = is_testable; casts = is_testable; helper = λ x. true; objects = true }
 
 -- the body is of these forms, whatever it calls, makes and reads
 abbrev pub is_object_body : MethodDef → Term → Bool

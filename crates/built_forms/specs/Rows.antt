@@ -12,6 +12,7 @@ use Rattle.sj_trees.specs.declared.operators.BinaryOp.{BinaryOp}
 use Rattle.sj_trees.specs.declared.operators.BinaryOp.TheVariants.{StrictEqual, StrictNotEqual, IntDivide, IntEqual, LongRemainder}
 use Rattle.sj_trees.specs.declared.types.IrType.{IrType}
 use Rattle.sj_trees.specs.declared.types.IrType.TheVariants.{Any, Boolean, Char, Int, Long, String, Null, Class, Array, NoType}
+use Rattle.sj_core.specs.Lookup.{own_targets}
 use Rattle.built_forms.specs.Built.{Usable, is_built, is_built_method, not_built, body_boxes}
 
 abbrev pub method_name : TypeRef → MethodName
@@ -54,6 +55,13 @@ casted t value = as_instance_of nowhere value t
 abbrev pub direct : Namespace → Term → IrType → Term
 direct namespace receiver t = apply_statically nowhere receiver (codes "A") namespace (method_name TypeRef.Int) (more_terms (number 1) no_terms) t
 
+-- a call that is looked up on this receiver
+abbrev pub called : Term → MethodName → Term
+called receiver m = apply nowhere receiver m (more_terms (number 1) no_terms) NoType
+
+abbrev pub local_of : IrType → Term
+local_of t = var_ref nowhere (codes "x") t
+
 -- an operator between a local and this divisor
 abbrev pub operation : BinaryOp → IrType → Term → Term
 operation op t d = binary_op nowhere op (var_ref nowhere (codes "x") t) d
@@ -74,7 +82,7 @@ case (k ∷ ks) body = match_on nowhere (number 1) (more_cases (pos k ∷ []) bo
 
 -- a field can be used, whatever its class, its name and its type are
 abbrev pub with_fields : Usable
-with_fields = record { linked = λ m. true; target = λ m. m; received = λ m. false; built = λ m. false; made = λ c. false; field = λ c f t. true; static_field = λ c f t. false; static_setter = λ c f t. false; tests = λ t. false; casts = λ t. false; helper = λ x. false; objects = false }
+with_fields = record { linked = λ m. true; lookup = own_targets; received = λ m. false; built = λ m. false; made = λ c. false; field = λ c f t. true; static_field = λ c f t. false; static_setter = λ c f t. false; tests = λ t. false; casts = λ t. false; helper = λ x. false; objects = false }
 
 -- there is a test for each type, and there is a cast to each
 abbrev pub with_tests : Usable
@@ -85,7 +93,7 @@ with_casts = record with_fields { casts = λ t. true }
 
 -- objects that hold chars can be made
 abbrev pub with_boxes : Usable
-with_boxes = record { linked = λ m. true; target = λ m. m; received = λ m. false; built = λ m. false; made = λ c. false; field = λ c f t. true; static_field = λ c f t. false; static_setter = λ c f t. false; tests = λ t. false; casts = λ t. false; helper = λ x. true; objects = false }
+with_boxes = record { linked = λ m. true; lookup = own_targets; received = λ m. false; built = λ m. false; made = λ c. false; field = λ c f t. true; static_field = λ c f t. false; static_setter = λ c f t. false; tests = λ t. false; casts = λ t. false; helper = λ x. true; objects = false }
 
 -- the code of a method that gives a value of this type makes an object that holds a char
 abbrev pub makes_box : IrType → Term → Bool
@@ -139,6 +147,13 @@ pub record WorkedForms : Type 0 where
   pub makes_an_object_by_a_constructor_that_has_a_value : not_built (static (new_object nowhere (codes "A") (record { simple = codes "m"; params = []; result = Some TypeRef.Int }) no_terms)) ≡ true
   pub names_its_receiver : not_built (method Public NoType (Some (this_ref nowhere Any))) ≡ false
   pub calls_a_method_that_is_looked_up : not_built (static unbuilt) ≡ true
+  pub calls_a_method_of_a_number : not_built (static (called (number 1) (method_name TypeRef.Int))) ≡ false
+  pub calls_a_method_of_a_char : not_built (static (called letter (method_name TypeRef.Int))) ≡ false
+  pub calls_a_method_of_a_hijacked_class : not_built (static (called (local_of (Class (codes "java.lang.Byte"))) (method_name TypeRef.Int))) ≡ false
+  pub calls_a_method_of_any_value : not_built (static (called (local_of Any) (method_name TypeRef.Int))) ≡ true
+  pub calls_a_method_of_an_array : not_built (static (called (local_of (Array (record { base = BaseRef.Int; dimensions = 1 }))) (method_name TypeRef.Int))) ≡ true
+  pub calls_a_number_by_a_reflective_name : not_built (static (called (number 1) (record { simple = codes "m"; params = TypeRef.Int ∷ []; result = None }))) ≡ true
+  pub calls_a_method_of_a_number_with_what_is_not_built : not_built (static (apply nowhere (number 1) (method_name TypeRef.Int) (more_terms unbuilt no_terms) NoType)) ≡ true
   pub sets_a_field_it_can_use : is_built with_fields (λ e. true) (setting Int (number 1)) ≡ true
   pub field_set_by_a_call : is_built with_fields (λ e. true) (setting Int (apply_static nowhere (codes "A") PublicStatic (method_name TypeRef.Int) (more_terms (number 1) no_terms) Int)) ≡ true
   pub field_of_an_unchecked_object : is_built with_fields (λ e. false) (setting Int (number 1)) ≡ false

@@ -2,26 +2,30 @@
 use Rattle.std.proofs.Common.{◌≡◌, ◌∙◌, List, [], ◌∷◌, Option, Some, None, refl, sym, subst, Contains, true, false, ap, codes, if◌then◌else◌}
 use Rattle.std.specs.List.{All}
 use Rattle.std.proofs.lemmas.List.Elements.{All-nil, All-cons, All-contains, Contains-append_left}
+use Rattle.closed_pieces.proofs.Called.{Called, each_called, with_calls}
 use Rattle.declared_pieces.proofs.Calls.{needed}
 use Rattle.declared_pieces.proofs.Derivations.{closed}
+use Rattle.declared_pieces.proofs.Direct.{IsCalled}
 use Rattle.declared_pieces.proofs.EachTyped.{in_all}
 use Rattle.declared_pieces.proofs.Found.{here}
 use Rattle.declared_pieces.proofs.Given.{all_from}
+use Rattle.declared_pieces.proofs.Hijacked.{of_hijacked}
 use Rattle.declared_pieces.proofs.Members.{defined}
 use Rattle.declared_pieces.proofs.Standing.{Stands, each_stands}
 use Rattle.declared_pieces.proofs.Written.{some_same, all_at}
 use Rattle.declared_pieces.specs.Accepted.{IsAccepted}
 use Rattle.declared_pieces.specs.Bodies.{AreBodies}
+use Rattle.declared_pieces.specs.Built.{any_object, body_boxes, is_built, is_object_body, may_make}
 use Rattle.declared_pieces.specs.Classes.{HasForm}
 use Rattle.declared_pieces.specs.Emitted.{EmittedMethod}
 use Rattle.declared_pieces.specs.Pieces.{piece_of_member}
 use Rattle.declared_pieces.specs.Reachable.{Reachable}
-use Rattle.declared_pieces.specs.Refusals.{missing_class, missing_method, abstract_target, IsPresent, no_class, no_target, no_target_body}
-use Rattle.declared_pieces.specs.Rules.{Reads, of_call, of_new, asked_body, new_made, field_needed, resolved_class, resolved_body, class_named}
+use Rattle.declared_pieces.specs.Refusals.{missing_class, missing_method, abstract_target, IsPresent, no_class, no_target, no_target_body, no_method, no_hijacked_body}
+use Rattle.declared_pieces.specs.Rules.{Reads, of_call, of_new, asked_body, new_made, field_needed, resolved_class, resolved_body, call_class, call_hijacked, class_named}
 use Rattle.declared_pieces.specs.Typed.{MeetsThere}
 use Rattle.dispatch_laws.proofs.WorkedOut.{targets_are_worked_out}
 use Rattle.dispatch_laws.specs.Laws.{found_by}
-use Rattle.dispatch_laws.specs.Targets.{at_owner, target_in}
+use Rattle.dispatch_laws.specs.Targets.{at_owner, lookup_in}
 use Rattle.helper_rules.specs.Helpers.{helper_name}
 use Rattle.helper_rules.specs.Words.{bound, helper, is_name, as_name}
 use Rattle.helper_rules.specs.declared.kinds.Helper.{Helper}
@@ -31,15 +35,19 @@ use Rattle.helper_rules.specs.declared.kinds.Kind.TheVariants as kinds
 use Rattle.ir_mean.specs.Dispatch.{resolved}
 use Rattle.js_tree.specs.Terms.{Piece}
 use Rattle.js_tree.specs.declared.items.Binding.{Binding}
+use Rattle.linked_folders.proofs.WrittenTrees.{written, each_written}
 use Rattle.module_rules.specs.Laws.{IsDeclared}
 use Rattle.linked_folders.proofs.Bodies.{once_in}
 use Rattle.linked_folders.proofs.Brought.{Brings, followed_in, tree}
 use Rattle.resolution_laws.proofs.Resolves.{each_call_resolves}
+use Rattle.sj_core.specs.Lookup.{Lookup}
 use Rattle.sj_core.specs.Terms as core
-use Rattle.sj_desugar.specs.Desugar.{member, desugared_member, body_code, completed, is_mutable_in, result_destination}
+use Rattle.sj_core.specs.declared.callees.Callee.{Callee}
+use Rattle.sj_core.specs.declared.callees.Callee.TheVariants as callees
+use Rattle.sj_desugar.specs.Desugar.{callee_of, member, desugared_member, body_code, completed, is_mutable_in, result_destination}
 use Rattle.sj_emit_expr.specs.Templates.{called_member}
 use Rattle.sj_emit_expr.specs.Tests.{same_name}
-use Rattle.sj_emit_expr.specs.Uses.{object_binding, function_binding, helper_of, test_uses, cast_uses, uses_of_all}
+use Rattle.sj_emit_expr.specs.Uses.{call_uses, object_binding, function_binding, helper_of, test_uses, cast_uses, uses_of_all}
 use Rattle.sj_infos.specs.Forms.{form_of, of_test, forms_by_body}
 use Rattle.sj_infos.specs.Forms as of_form
 use Rattle.sj_infos.specs.Infos.{asks, asked_by_body, of_static_call, of_receiver, of_type, is_any, class_cast}
@@ -49,6 +57,7 @@ use Rattle.sj_infos.specs.declared.forms.BodyForm.{BodyForm}
 use Rattle.sj_infos.specs.declared.forms.BodyForm.TheVariants as forms
 use Rattle.sj_infos.specs.declared.infos.Info.{Info}
 use Rattle.sj_infos.specs.declared.infos.Info.TheVariants.{New, Static, Field, Resolved, Class}
+use Rattle.sj_infos.specs.declared.infos.Info.TheVariants as asked_info
 use Rattle.sj_mangling.specs.Bindings.{class_binding}
 use Rattle.sj_mangling.specs.declared.bindings.ClassBinding.TheVariants.{IsInstance, AsInstance}
 use Rattle.sj_names.specs.declared.entry_points.EntryPoint.{EntryPoint}
@@ -57,24 +66,27 @@ use Rattle.sj_names.specs.declared.method_names.Member.{Member}
 use Rattle.sj_names.specs.declared.method_names.MethodName.{MethodName}
 use Rattle.sj_names.specs.declared.method_names.Namespace.{Namespace}
 use Rattle.sj_names.specs.declared.method_names.Namespace.TheVariants.{Public, PublicStatic, Private, PrivateStatic, Constructor}
-use Rattle.sj_trees.specs.Term.{Term, new_object, select, select_static, apply_statically, apply_static, binary_op, is_instance_of, as_instance_of}
+use Rattle.sj_trees.specs.Term.{Term, Terms, new_object, select, select_static, apply, apply_statically, apply_static, binary_op, is_instance_of, as_instance_of}
+use Rattle.sj_trees.specs.TypeOf.{type_of_term}
 use Rattle.sj_trees.specs.declared.classes.ClassDef.{ClassDef}
 use Rattle.sj_trees.specs.declared.operators.BinaryOp.{BinaryOp}
 use Rattle.sj_trees.specs.declared.operators.BinaryOp.TheVariants.{StrictEqual, StrictNotEqual, IntDivide, IntRemainder, LongDivide, LongRemainder}
+use Rattle.sj_trees.specs.declared.positions.Position.{Position}
 use Rattle.sj_trees.specs.declared.types.IrType.{IrType}
-use Rattle.sj_world.specs.Known.{Name, Classes, class_of}
+use Rattle.sj_world.specs.Known.{Name, Classes, class_of, is_hijacked}
 use Rattle.sj_world.specs.Linked.{Linked}
 use Rattle.sj_world.specs.Resolution.{Answer, target, abstract, missing, Resolves}
 use Rattle.sj_world.specs.declared.facts.Fact.TheVariants.{Body, Made, Needed, NeededField}
+use Rattle.std.proofs.lemmas.Bool.{and_parts}
 use Rattle.sure_receivers.specs.Sure.{sure_locals}
 use Rattle.closed_pieces.proofs.Declared.{Declares}
 
-module _ (entries : List EntryPoint) (files : List SourceFile) (l : Linked) (all : List EmittedMethod) (having : List Helper) (ps : List Piece) (a : IsAccepted entries files l.world) (bodies : AreBodies l.world entries all) (d : Declares entries l having ps) (e : EmittedMethod) (i : Contains all e) (helped : (h : Helper) → Contains (piece_of_member l.world e).uses (helper (helper_name h)) → IsDeclared ps (helper (helper_name h))) where
+module _ (entries : List EntryPoint) (files : List SourceFile) (l : Linked) (all : List EmittedMethod) (having : List Helper) (ps : List Piece) (a : IsAccepted entries files l.world) (bodies : AreBodies l.world entries all) (built : (f : EmittedMethod) → Contains all f → is_object_body f.definition f.its_body ≡ true) (d : Declares entries l having ps) (e : EmittedMethod) (i : Contains all e) (helped : (h : Helper) → Contains (piece_of_member l.world e).uses (helper (helper_name h)) → IsDeclared ps (helper (helper_name h))) where
   abbrev w : Classes
   w = l.world
 
-  abbrev runs : Member → Member
-  runs = target_in w
+  abbrev runs : Lookup
+  runs = lookup_in w
 
   abbrev used : List Binding
   used = (piece_of_member w e).uses
@@ -107,13 +119,37 @@ module _ (entries : List EntryPoint) (files : List SourceFile) (l : Linked) (all
       go (Some class) found = record { class = class; is_class = found }
 
   -- the target of a public member is a body, since the folder is accepted
-  target_declared : (c : Name) (m : MethodName) → Asked (Resolved c m) → IsDeclared ps (function_binding (runs (member c Public m)))
+  target_declared : (c : Name) (m : MethodName) → Asked (Resolved c m) → IsDeclared ps (function_binding (runs.target (member c Public m)))
   target_declared c m r = let call = each_call_resolves w a.world.sorted.in_order c m in go call.answer call.resolves (targets_are_worked_out w a.world.sorted.in_order c m call.answer call.resolves)
     where
-      go : (o : Answer) → Resolves w c m o → resolved w c m ≡ found_by o → IsDeclared ps (function_binding (runs (member c Public m)))
+      go : (o : Answer) → Resolves w c m o → resolved w c m ≡ found_by o → IsDeclared ps (function_binding (runs.target (member c Public m)))
       go (target body owner) s same = subst (λ (k : Member). IsDeclared ps (function_binding k)) (sym (ap (at_owner (member c Public m)) same)) (d.functions (member owner Public m) (closed w entries (Body (member owner Public m)) (resolved_body c m body owner r s)))
       go abstract s same = absurd (a.resolved (abstract_target (member c Public m)) (no_target_body c m r (present c m r) s))
       go missing s same = absurd (a.resolved (missing_method (member c Public m)) (no_target c m r (present c m r) s))
+
+  -- a class on whose values a method is called is there
+  called_on : (c : Name) (m : MethodName) → Asked (asked_info.Called c m) → IsPresent w c
+  called_on c m r = go (class_of w c) refl
+    where
+      go : (o : Option ClassDef) → class_of w c ≡ o → IsPresent w c
+      go None none = absurd (a.resolved (missing_class c) (no_class c (closed w entries (Needed c) (call_class c m r)) none))
+      go (Some class) found = record { class = class; is_class = found }
+
+  -- what a hijacked class decides on is a body, since the folder is accepted
+  hijacked_declared : (c : Name) (m : MethodName) → is_hijacked c ≡ true → Asked (asked_info.Called c m) → IsDeclared ps (function_binding (runs.target (member c Public m)))
+  hijacked_declared c m h r = let call = each_call_resolves w a.world.sorted.in_order c m in go call.answer call.resolves (targets_are_worked_out w a.world.sorted.in_order c m call.answer call.resolves)
+    where
+      go : (o : Answer) → Resolves w c m o → resolved w c m ≡ found_by o → IsDeclared ps (function_binding (runs.target (member c Public m)))
+      go (target body owner) s same = subst (λ (k : Member). IsDeclared ps (function_binding k)) (sym (ap (at_owner (member c Public m)) same)) (d.functions (member owner Public m) (closed w entries (Body (member owner Public m)) (call_hijacked c m body owner r h s)))
+      go abstract s same = absurd (a.resolved (abstract_target (member c Public m)) (no_hijacked_body c m r (called_on c m r) h s))
+      go missing s same = absurd (a.resolved (missing_method (member c Public m)) (no_method c m r (called_on c m r) s))
+
+  -- what is called on a receiver of a hijacked class is declared
+  applied : (p : Position) (r : Term) (m : MethodName) (ts : Terms) (t : IrType) → Contains (trees e.its_body) (apply p r m ts t) → IsCalled (type_of_term r) m → All Q (call_uses runs (callee_of (type_of_term r) m))
+  applied p r m ts t among is =
+      let c = is.direct.class in
+      let of = of_hijacked r m c is.callee in
+      subst (λ (k : Callee). All Q (call_uses runs k)) (sym is.callee) (All-cons Q (function_binding (runs.target (member c Public m))) [] (λ u. hijacked_declared c m of.hijacked (asked (apply p r m ts t) among (asked_info.Called c m) (of.asked (sure_among [] (trees e.its_body))))) (All-nil Q))
 
   received : (n : Namespace) (c : Name) (m : MethodName) → ((o : Info) → Contains (of_static_call c n m) o → Asked o) → IsDeclared ps (function_binding (called_member runs n (member c n m)))
   received Public c m f = target_declared c m (f (Resolved c m) (here (Resolved c m) []))
@@ -186,20 +222,25 @@ module _ (entries : List EntryPoint) (files : List SourceFile) (l : Linked) (all
   box : Q (object_binding (codes "$C"))
   box = helped helpers.BoxedChar
 
-  brings : (t : Term) → Contains (trees e.its_body) t → Stands (MeetsThere w e.definition.namespace) t → Brings Q runs box (sure_locals e.its_body) t
-  brings (apply_static p c n m ts t) among s = λ u. called (member c n m) (asked (apply_static p c n m ts t) among (Static (member c n m)) (here (Static (member c n m)) []))
-  brings (apply_statically p r c n m ts t) among s = (λ u. received n c m (λ o h. asked (apply_statically p r c n m ts t) among o (Contains-append_left (of_static_call c n m) (of_receiver (sure_among [] (trees e.its_body)) r) o h)), λ u. helped helpers.NotNull)
-  brings (new_object p c m ts) among s =
+  -- a tree that is written brings what is declared
+  abbrev IsBrought : Term → Type 0
+  IsBrought t = Called t → Brings Q runs box (sure_locals e.its_body) t
+
+  brings : (t : Term) → Contains (trees e.its_body) t → Stands (MeetsThere w e.definition.namespace) t → IsBrought t
+  brings (apply p r m ts t) among s called = (applied p r m ts t among called, λ u. helped helpers.NotNull)
+  brings (apply_static p c n m ts t) among s calls = λ u. called (member c n m) (asked (apply_static p c n m ts t) among (Static (member c n m)) (here (Static (member c n m)) []))
+  brings (apply_statically p r c n m ts t) among s calls = (λ u. received n c m (λ o h. asked (apply_statically p r c n m ts t) among o (Contains-append_left (of_static_call c n m) (of_receiver (sure_among [] (trees e.its_body)) r) o h)), λ u. helped helpers.NotNull)
+  brings (new_object p c m ts) among s calls =
       let r = asked (new_object p c m ts) among (New c m) (here (New c m) []) in
       (λ u. d.functions (member c Constructor m) (closed w entries (Body (member c Constructor m)) (asked_body (member c Constructor m) (of_new c m r))), λ u. d.made c (closed w entries (Made c) (new_made c m r)))
-  brings (select p r c f t) among s = λ u. helped helpers.NotNull
-  brings (select_static p c f t) among s =
+  brings (select p r c f t) among s calls = λ u. helped helpers.NotNull
+  brings (select_static p c f t) among s calls =
       let its = d.statics c f t s.asked (closed w entries (NeededField c f true) (field_needed c f true (asked (select_static p c f t) among (Field c f true) (here (Field c f true) [])))) in
       (λ u. its.0, λ u. its.1)
-  brings (is_instance_of p r t) among s = tested t (asked (is_instance_of p r t) among) (formed (is_instance_of p r t) among)
-  brings (as_instance_of p r t) among s = casted t (λ o h. asked (as_instance_of p r t) among o (Contains-append_left (of_type t) (if is_any t then [] else class_cast) o h)) (formed (as_instance_of p r t) among)
-  brings (binary_op p o x y) among s = (λ n. divided o, always o)
-  brings t among s = tt
+  brings (is_instance_of p r t) among s calls = tested t (asked (is_instance_of p r t) among) (formed (is_instance_of p r t) among)
+  brings (as_instance_of p r t) among s calls = casted t (λ o h. asked (as_instance_of p r t) among o (Contains-append_left (of_type t) (if is_any t then [] else class_cast) o h)) (formed (as_instance_of p r t) among)
+  brings (binary_op p o x y) among s calls = (λ n. divided o, always o)
+  brings t among s calls = tt
 
   completed_in : (n : Namespace) (ss : core.Statements) → All Q (uses_of_all runs ss) → All Q (uses_of_all runs (completed n ss))
   completed_in Constructor ss h = followed_in Q runs box ss (core.statement (core.return_of None (core.variable_use core.receiver)) core.no_statements) h (All-nil Q)
@@ -214,8 +255,10 @@ module _ (entries : List EntryPoint) (files : List SourceFile) (l : Linked) (all
       let typed = a.typed e.member e.definition (needed w entries all bodies e i) (defined w e.member e.definition (bodies.found e i).found) in
       let same : typed.body ≡ body = some_same typed.body body (sym typed.has_body ∙ (bodies.found e i).has_body) in
       let stands = subst (λ (b : Term). All (Stands (MeetsThere w e.definition.namespace)) (trees b)) same (each_stands (MeetsThere w e.definition.namespace) typed.body [] 0 typed.met) in
-      let brought = all_from (Brings Q runs box (sure_locals body)) (trees body) (λ t among. brings t among (all_at (Stands (MeetsThere w e.definition.namespace)) (trees body) stands t among)) in
-      once_in Q [] (uses_of_all runs (desugared_member e.definition body).body) (completed_in e.definition.namespace (body_code (is_mutable_in e.definition body) e.definition.result body) (tree Q runs box (sure_locals body) (is_mutable_in e.definition body) body brought [] (result_destination e.definition.result) 1))
+      let brought = each_written IsBrought body (all_from IsBrought (trees body) (λ t among. brings t among (all_at (Stands (MeetsThere w e.definition.namespace)) (trees body) stands t among))) in
+      let calls = each_called any_object (λ t. true) body (and_parts (may_make any_object (body_boxes e.definition body)) (is_built any_object (λ t. true) body) (built e i)).1 in
+      let each = with_calls (Brings Q runs box (sure_locals body)) (written body) brought calls in
+      once_in Q [] (uses_of_all runs (desugared_member e.definition body).body) (completed_in e.definition.namespace (body_code (is_mutable_in e.definition body) e.definition.result body) (tree Q runs box (sure_locals body) (is_mutable_in e.definition body) body each [] (result_destination e.definition.result) 1))
 
   pub function_uses : (b : Binding) → Contains used b → IsDeclared ps b
   function_uses b u = All-contains Q used b all_declared u u

@@ -1,6 +1,7 @@
 pub mod Places
 pub mod Declared
 pub mod Functions
+pub mod Called
 pub mod Classes
 pub mod Helpers
 pub mod Uses

@@ -1,6 +1,6 @@
 // The functions of methods.
 ghost use Rattle.std.specs.Prelude.{◌≡◌, [], IfOk};
-ghost use Rattle.code_vectors.specs.Itself.{itself};
+ghost use Rattle.dispatch_laws.specs.Targets.{lookup_in};
 ghost use Rattle.emit_questions.specs.Task as task;
 ghost use Rattle.emit_questions.specs.Task.{emitted_view};
 ghost use Rattle.js_tree.specs.Rules.{IsPiece};
@@ -90,7 +90,7 @@ fn add_printed(alloc: Global, piece: &JsPiece, text: &mut String) -> Result<(), 
 // The piece of a method whose fields are those of objects, in which a call on a receiver runs the member that it names.
 fn emitted(alloc: Global, member: &Member, method: &MethodDef) -> Result<JsPiece, NoMemory>
     requires { BodyOnObjects method.now.body }
-    ensures piece { IfOk result (λ p. piece_view p ≡ members.member_piece itself member.now (method_desugared method.now)) }
+    ensures piece { IfOk result (λ p. piece_view p ≡ members.member_piece (lookup_in []) member.now (method_desugared method.now)) }
     ensures rules { IfOk result (λ p. IsPiece (piece_view p)) }
 {
     desugared_members_have_keys();
@@ -102,7 +102,7 @@ fn emitted(alloc: Global, member: &Member, method: &MethodDef) -> Result<JsPiece
 
 // The function of a method, emitted in a world without classes: there no call on a receiver has a target.
 fn emitted_function(alloc: Global, member: &Member, core: &CoreMethod) -> Result<JsMember, NoMemory>
-    ensures { IfOk result (λ f. emitted_view f ≡ task.emitted itself (method_view core.now)) }
+    ensures { IfOk result (λ f. emitted_view f ≡ task.emitted (lookup_in []) (method_view core.now)) }
 {
     let world = no_classes(alloc)?;
     let mut oracle = WorldOracle::new(&world, member);

@@ -108,7 +108,7 @@ module _ (z : Spread) where
     parameters-are (x ∷ xs) = ap (λ ns. place.name (named x) ∷ ns) (parameters-are xs)
 
     abbrev code_at : Name → Namespace → MethodDef → Term → js_meaning.Code
-    code_at f n d e = record { parameters = with_receiver n (parameter_names (names_of d.params)); body = statement_templates variable_name label_name (z.has f).target (completed n (body_code (is_mutable_in d e) d.result e)) }
+    code_at f n d e = record { parameters = with_receiver n (parameter_names (names_of d.params)); body = statement_templates variable_name label_name (z.has f).lookup (completed n (body_code (is_mutable_in d e) d.result e)) }
 
     alone_code : (f : Name) (n : Namespace) (d : MethodDef) (e : Term) → running n ≡ by_itself → code_at f n d e ≡ function_of place f d e
     alone_code f PublicStatic d e r = λ i. record { parameters = parameters-are (names_of d.params) i; body = (code_at f PublicStatic d e).body }
@@ -135,7 +135,7 @@ module _ (z : Spread) where
     code_there t r m d = let n = d.right.definition.namespace in let k = d.right.definition in let c = code_at (z.home t) n k d.right.its_body in function_there (z.home t) (member_name m) c.parameters c.body d.function
 
     abbrev member_item : {t : Top} {r : Running} {m : MemberName} → FunctionDeclared z t r m → Item
-    member_item {t} {r} {m} d = (member_piece (z.has (z.home t)).target m (desugared_member d.right.definition d.right.its_body)).item
+    member_item {t} {r} {m} d = (member_piece (z.has (z.home t)).lookup m (desugared_member d.right.definition d.right.its_body)).item
 
     linked_here : (f : Name) (m : MemberName) → (z.has f).linked m ≡ true → Linked place m
     linked_here f m l = let d = can.linked f m l in record { definition = d.right.definition; its_body = d.right.its_body; found = d.right.found; has_body = d.right.has_body; parameters = d.right.parameters; result_is = d.right.result_is; emitted = code_there (a_function m) by_itself m d ∙ ap Some (alone_code (z.home (a_function m)) d.right.definition.namespace d.right.definition d.right.its_body d.runs); rules = d.right.rules; reaches = reaches (z.home (a_function m)) }
@@ -333,8 +333,8 @@ module _ (z : Spread) where
       }
 
       -- what a call runs by what the code of a file can use, it runs by what can be used at all
-      target_here : (f : Name) (m : MemberName) → (z.has f).received ((z.has f).target m) ≡ true → IsTargetOf z.classes m ((z.has f).target m)
-      target_here f m l = let same = (laws.among f).targets m in subst (IsTargetOf z.classes m) same (laws.objects.targets m (subst (λ (o : MemberName). all.received o ≡ true) (sym same) ((laws.among f).tops (a_method ((z.has f).target m)) l)))
+      target_here : (f : Name) (m : MemberName) → (z.has f).received ((z.has f).lookup.target m) ≡ true → IsTargetOf z.classes m ((z.has f).lookup.target m)
+      target_here f m l = let same = (laws.among f).targets m in subst (IsTargetOf z.classes m) same (laws.objects.targets m (subst (λ (o : MemberName). all.received o ≡ true) (sym same) ((laws.among f).tops (a_method ((z.has f).lookup.target m)) l)))
 
       pub has_objects : HasObjects place
       has_objects = record { linked = linked_here; received = runs_here; targets = target_here; built = constructs_here; made = made_here; objects = object_here; field = field_here; statics = static_here; checked = check_here; divided = divided_here; boxes = box_here; tested = tested_here; cast = cast_here; compared = compared_here; each = omega arith; beyond = omega arith }

@@ -70,7 +70,7 @@ Stands z t i = Contains (all_items z) (placed (z.home t) i)
 pub record FunctionDeclared (z : Spread) (t : Top) (r : Running) (m : MemberName) : Type 0 where
   pub right : RightMember z.classes (z.has (z.home t)) m
   pub runs : running right.definition.namespace ≡ r
-  pub function : Stands z t (member_piece (z.has (z.home t)).target m (desugared_member right.definition right.its_body)).item
+  pub function : Stands z t (member_piece (z.has (z.home t)).lookup m (desugared_member right.definition right.its_body)).item
 
 -- a class whose objects the code of some file can make, its constants, to which its file leads, and its class with the constructor of its own fields, which extends
 -- this one, if there is one
@@ -184,7 +184,7 @@ pub record Declared (z : Spread) : Type 0 where
 pub record IsAmong (has all : Usable) : Type 0 where
   pub tops : (t : Top) → is_usable has t ≡ true → is_usable all t ≡ true
   pub fields : (c f : Name) (t : IrType) → has.field c f t ≡ true → all.field c f t ≡ true
-  pub targets : (m : MemberName) → all.target m ≡ has.target m
+  pub targets : (m : MemberName) → all.lookup.target m ≡ has.lookup.target m
 
 -- the public module of this id: its file runs behind these files, all of them good, and calls these initializers behind what it declares; and each class is declared
 -- behind the one that it extends

@@ -8,6 +8,7 @@ use Rattle.js_mean.specs.States.{Program}
 use Rattle.js_tree.specs.Names.{is_same_text}
 use Rattle.js_tree.specs.Terms.{Name, number_literal, text_literal, name_use, this_use, property_of, call_of, new_of, Expression, no_expressions, expression, expression_statement, assign_property, super_call, return_of, Statement, Property, constructor_of, Item, object_item, function_item, class_item, subclass_item, Module}
 use Rattle.js_tree.specs.Views.{statements_of}
+use Rattle.sj_core.specs.Lookup.{own_targets}
 use Rattle.sj_desugar.specs.Desugar.{member}
 use Rattle.sj_names.specs.declared.method_names.Namespace.TheVariants.{Private, Constructor}
 use Rattle.sj_plain.specs.Settings.{Top, a_function, a_class, some_constants}
@@ -92,7 +93,7 @@ three_files = record { file = main_file; content = Some main_module } ∷ record
 abbrev pub main_use : Usable
 main_use = record {
   linked = is_member main_member;
-  target = λ m. m;
+  lookup = own_targets;
   received = is_member (member class_name Private get_name);
   built = is_member (member class_name Constructor init_name);
   made = is_same_text class_name;
@@ -108,7 +109,7 @@ main_use = record {
 abbrev pub class_use : Usable
 class_use = record {
   linked = λ m. false;
-  target = λ m. m;
+  lookup = own_targets;
   received = λ m. false;
   built = λ m. false;
   made = is_same_text object_name;

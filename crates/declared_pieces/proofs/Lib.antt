@@ -27,7 +27,9 @@ pub use Rattle.object_folders.proofs.Firsts
 pub use Rattle.object_folders.proofs.Verdict
 pub use Rattle.object_folders.proofs.Same
 pub use Rattle.object_folders.proofs.Objects
+pub use Rattle.body_uses.proofs.Direct
 pub use Rattle.body_uses.proofs.Given
+pub use Rattle.body_uses.proofs.Hijacked
 pub use Rattle.body_uses.proofs.Standing
 pub use Rattle.body_uses.proofs.Uses
 pub use Rattle.object_folders.proofs.Fields as ObjectFoldersFields

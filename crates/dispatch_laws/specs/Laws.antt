@@ -14,7 +14,7 @@ use Rattle.sj_world.specs.Known.{Name, Classes}
 use Rattle.sj_world.specs.Laws.{IsTopped}
 use Rattle.sj_world.specs.Refusals.{IsInOrder}
 use Rattle.sj_world.specs.Resolution.{Answer, target, abstract, missing, Resolves}
-use Rattle.dispatch_laws.specs.Targets.{target_in, IsTargetOf}
+use Rattle.dispatch_laws.specs.Targets.{target_in, lookup_in, IsTargetOf}
 
 abbrev pub found_by : Answer → Option Found
 found_by (target d owner) = Some (record { owner = owner; method = d })
@@ -29,6 +29,6 @@ TargetsAreWorkedOut = (w : Classes) → IsInOrder w → (c : Name) (m : MethodNa
 abbrev pub TargetsRun : Type 0
 TargetsRun = (w : Classes) → IsTopped w → (k : Member) → IsTargetOf w k (target_in w k)
 
--- what emission comes to by the answers of a world in order is the emitted function by the targets of that world
+-- what emission comes to by the answers of a world in order is the emitted function by the targets and the hijacked classes of that world
 abbrev pub EmissionFindsTargets : Type 0
-EmissionFindsTargets = (s : Stand) → IsInOrder s.classes → (m : Method) (e : Emitted) (log : List Exchange) → Comes {E = NoMemory} (IsAnswer s) (emit_task m) (Ok e) log → e ≡ emitted (target_in s.classes) m
+EmissionFindsTargets = (s : Stand) → IsInOrder s.classes → (m : Method) (e : Emitted) (log : List Exchange) → Comes {E = NoMemory} (IsAnswer s) (emit_task m) (Ok e) log → e ≡ emitted (lookup_in s.classes) m

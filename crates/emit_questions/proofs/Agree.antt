@@ -1,36 +1,60 @@
 -- Where calls run the same, the texts of expressions and statements are the same, and use the same.
-use Rattle.std.proofs.Common.{◌≡◌, List, [], ◌∷◌, ◌++◌, Contains, refl, arith, codes}
+use Rattle.std.proofs.Common.{◌≡◌, false, List, [], ◌∷◌, ◌++◌, Contains, refl, arith, codes}
 use Rattle.std.proofs.lemmas.List.Elements.{Contains-append_left, Contains-append_right}
 use Rattle.js_tree.specs.Terms as js
 use Rattle.js_tree.specs.Terms.{property_of, call_of, new_of, conditional_of, host_call, const_of, let_of, expression_statement, assign_name, assign_property, do_forever, switch_on}
 use Rattle.js_tree.specs.declared.operators.HostFunction.TheVariants.{StringFromCharCode, ConsoleLog}
+use Rattle.sj_core.specs.Lookup.{Lookup}
+use Rattle.sj_core.specs.declared.callees.Callee.{Callee}
+use Rattle.sj_core.specs.declared.callees.Callee.TheVariants as callees
 use Rattle.sj_core.specs.Terms.{Expression, boxed_char, char_text, value_text, choice_of, static_call, field_of, checked_value, made_of, receiver_call, test_of, cast_of, unary_of, binary_of, Expressions, no_expressions, expression, Statement, constant_of, define_of, declare_of, assign_to, evaluate_of, return_of, log_of, assign_field, assign_static, throw_of, leave_label, break_nearest, if_of, while_of, loop_of, labeled_of, switch_of, Statements, no_statements, statement, Cases, no_cases, switch_case, Method}
 use Rattle.sj_emit_expr.specs.Members.{function_parameters}
 use Rattle.sj_emit_expr.specs.Names.{variable_name, label_name}
-use Rattle.sj_emit_expr.specs.Templates.{called_member, as_text, unary_template, binary_template, is_nonzero_literal, member_name, class_name, property_name, setter_name, check_name, choice_template, expression_template, expression_templates, statement_template, statement_templates, case_templates}
+use Rattle.sj_emit_expr.specs.Templates.{called_member, looked_up_template, call_template, as_text, unary_template, binary_template, is_nonzero_literal, member_name, class_name, property_name, setter_name, check_name, choice_template, expression_template, expression_templates, statement_template, statement_templates, case_templates}
 use Rattle.sj_emit_expr.specs.Tests.{test_template, cast_template}
-use Rattle.sj_emit_expr.specs.Uses.{object_binding, function_binding, class_use, setter_use, helper_of, test_uses, cast_uses, uses_in, uses_in_all, uses_of, uses_of_all, uses_of_cases, once_each}
+use Rattle.sj_emit_expr.specs.Uses.{looked_up_uses, call_uses, object_binding, function_binding, class_use, setter_use, helper_of, test_uses, cast_uses, uses_in, uses_in_all, uses_of, uses_of_all, uses_of_cases, once_each}
+use Rattle.sj_mangling.specs.Bindings.{method_binding}
+use Rattle.sj_mangling.specs.declared.bindings.MethodBinding.TheVariants.{Reflective}
 use Rattle.sj_names.specs.declared.method_names.Member.{Member}
 use Rattle.sj_names.specs.declared.method_names.Namespace.{Namespace}
 use Rattle.sj_names.specs.declared.method_names.Namespace.TheVariants.{Public}
+use Rattle.emit_questions.specs.declared.Inquiry.{Inquiry}
+use Rattle.emit_questions.specs.declared.Inquiry.TheVariants as inquiries
 use Rattle.emit_questions.specs.Calls.{if_public, own_call, calls_in, calls_in_all, calls_of, calls_of_all, calls_of_cases}
 use Rattle.emit_questions.specs.Task.{emitted}
 
--- what calls run by the one and by the other
-module _ (f g : Member → Member) where
-  -- calls of each of these run the same
-  abbrev pub Agree : List Member → Type 0
-  Agree ks = (k : Member) → Contains ks k → f k ≡ g k
+-- what is known by the one and by the other
+module _ (f g : Lookup) where
+  -- both answer it in the same way
+  abbrev pub IsSame : Inquiry → Type 0
+  IsSame (inquiries.Target k) = f.target k ≡ g.target k
+  IsSame (inquiries.Hijacked c) = f.has_hijacked c ≡ g.has_hijacked c
 
-  front : (xs ys : List Member) → Agree (xs ++ ys) → Agree xs
+  abbrev pub Agree : List Inquiry → Type 0
+  Agree qs = (q : Inquiry) → Contains qs q → IsSame q
+
+  front : (xs ys : List Inquiry) → Agree (xs ++ ys) → Agree xs
   front xs ys h k i = h k (Contains-append_left xs ys k i)
 
-  back : (xs ys : List Member) → Agree (xs ++ ys) → Agree ys
+  back : (xs ys : List Inquiry) → Agree (xs ++ ys) → Agree ys
   back xs ys h k i = h k (Contains-append_right xs ys k i)
 
   own_agrees : (n : Namespace) (k : Member) → Agree (if_public n k) → called_member f n k ≡ called_member g n k
-  own_agrees Public k h = h k (0, omega arith, refl)
+  own_agrees Public k h = h (inquiries.Target k) (0, omega arith, refl)
   own_agrees _ k h = refl
+
+  -- a call is written in the same way, and names the same
+  same_call : (k : Callee) → Agree (own_call k) → (e d : js.Expression) (es ds : js.Expressions) → e ≡ d → es ≡ ds → call_template f k e es ≡ call_template g k d ds
+  same_call (callees.Member m) h e d es ds a b = let z = own_agrees m.namespace m h in λ i. call_of (member_name (z i)) (js.expression (a i) (b i))
+  same_call (callees.LookedUp c m) h e d es ds a b = let z = h (inquiries.Hijacked c) (0, omega arith, refl) in λ i. looked_up_template (z i) m (a i) (b i)
+  same_call (callees.OfArray m) h e d es ds a b = λ i. looked_up_template false m (a i) (b i)
+  same_call (callees.Reflective m) h e d es ds a b = λ i. call_of (method_binding Reflective m) (js.expression (a i) (b i))
+
+  same_names : (k : Callee) → Agree (own_call k) → call_uses f k ≡ call_uses g k
+  same_names (callees.Member m) h = let z = own_agrees m.namespace m h in λ i. function_binding (z i) ∷ []
+  same_names (callees.LookedUp c m) h = let z = h (inquiries.Hijacked c) (0, omega arith, refl) in λ i. looked_up_uses (z i) m
+  same_names (callees.OfArray m) h = refl
+  same_names (callees.Reflective m) h = refl
 
   abbrev SameExpression : Expression → Type 0
   SameExpression e = (expression_template variable_name label_name f e ≡ expression_template variable_name label_name g e) × (uses_in f e ≡ uses_in g e)
@@ -53,12 +77,13 @@ module _ (f g : Member → Member) where
     same_in (field_of e c x) h = let a = same_in e h in (λ i. property_of (a.0 i) (property_name c x), a.1)
     same_in (checked_value e) h = let a = same_in e h in (λ i. call_of check_name (js.expression (a.0 i) js.no_expressions), λ i. object_binding check_name ∷ a.1 i)
     same_in (made_of m es) h = let a = same_in_all es h in (λ i. call_of (member_name m) (js.expression (new_of (class_name m.class) js.no_expressions) (a.0 i)), λ i. function_binding m ∷ class_use m.class ∷ a.1 i)
-    same_in (receiver_call m e es) h =
-        let former = front (calls_in e ++ calls_in_all es) (own_call m) h in
+    same_in (receiver_call k e es) h =
+        let former = front (calls_in e ++ calls_in_all es) (own_call k) h in
+        let own = back (calls_in e ++ calls_in_all es) (own_call k) h in
         let x = same_in e (front (calls_in e) (calls_in_all es) former) in
         let y = same_in_all es (back (calls_in e) (calls_in_all es) former) in
-        let z : called_member f m.namespace m ≡ called_member g m.namespace m = own_agrees m.namespace m (back (calls_in e ++ calls_in_all es) (own_call m) h) in
-        (λ i. call_of (member_name (z i)) (js.expression (x.0 i) (y.0 i)), λ i. function_binding (z i) ∷ x.1 i ++ y.1 i)
+        let z = same_names k own in
+        (same_call k own _ _ _ _ x.0 y.0, λ i. z i ++ x.1 i ++ y.1 i)
     same_in (test_of t e) h = let a = same_in e h in (λ i. test_template t (a.0 i), λ i. test_uses t ++ a.1 i)
     same_in (cast_of t e) h = let a = same_in e h in (λ i. cast_template t (a.0 i), λ i. cast_uses t ++ a.1 i)
     same_in (unary_of o e) h = let a = same_in e h in (λ i. unary_template o (a.0 i), a.1)

@@ -2,27 +2,39 @@
 use Rattle.std.proofs.Common.{◌≡◌, List, [], ◌++◌, refl}
 use Rattle.std.specs.List.{All}
 use Rattle.std.proofs.lemmas.List.Elements.{All-nil, All-cons, All-append}
+use Rattle.emit_questions.specs.declared.Inquiry.{Inquiry}
+use Rattle.emit_questions.specs.declared.Inquiry.TheVariants as inquiries
+use Rattle.sj_core.specs.declared.callees.Callee.{Callee}
+use Rattle.sj_core.specs.declared.callees.Callee.TheVariants as callees
 use Rattle.sj_core.specs.Terms.{Expression, boxed_char, char_text, value_text, choice_of, static_call, field_of, checked_value, made_of, receiver_call, test_of, cast_of, unary_of, binary_of, Expressions, no_expressions, expression, Statement, constant_of, define_of, declare_of, assign_to, evaluate_of, return_of, log_of, assign_field, assign_static, throw_of, leave_label, break_nearest, if_of, while_of, loop_of, labeled_of, switch_of, Statements, no_statements, statement, Cases, no_cases, switch_case}
 use Rattle.sj_names.specs.declared.method_names.Member.{Member}
 use Rattle.sj_names.specs.declared.method_names.Namespace.{Namespace}
 use Rattle.sj_names.specs.declared.method_names.Namespace.TheVariants.{Public}
 use Rattle.emit_questions.specs.Calls.{if_public, own_call, calls_in, calls_in_all, calls_of, calls_of_all, calls_of_cases}
 
-abbrev pub ArePublic : List Member → Type 0
-ArePublic ks = All (λ k. k.namespace ≡ Public) ks
+-- a target is asked of public members alone
+abbrev pub IsPublic : Inquiry → Type 0
+IsPublic (inquiries.Target k) = k.namespace ≡ Public
+IsPublic (inquiries.Hijacked c) = Unit {0}
+
+abbrev pub ArePublic : List Inquiry → Type 0
+ArePublic qs = All IsPublic qs
 
 none : ArePublic []
-none = All-nil (λ k. k.namespace ≡ Public)
+none = All-nil IsPublic
 
-both : (xs ys : List Member) → ArePublic xs → ArePublic ys → ArePublic (xs ++ ys)
-both xs ys h k = All-append (λ k. k.namespace ≡ Public) xs ys h k
+both : (xs ys : List Inquiry) → ArePublic xs → ArePublic ys → ArePublic (xs ++ ys)
+both xs ys h k = All-append IsPublic xs ys h k
 
 one_of : (k : Member) (n : Namespace) → k.namespace ≡ n → ArePublic (if_public n k)
-one_of k Public e = All-cons (λ k. k.namespace ≡ Public) k [] e none
+one_of k Public e = All-cons IsPublic (inquiries.Target k) [] e none
 one_of k _ e = none
 
-own_public : (k : Member) → ArePublic (own_call k)
-own_public k = one_of k k.namespace refl
+own_public : (k : Callee) → ArePublic (own_call k)
+own_public (callees.Member m) = one_of m m.namespace refl
+own_public (callees.LookedUp c m) = All-cons IsPublic (inquiries.Hijacked c) [] tt none
+own_public (callees.OfArray m) = none
+own_public (callees.Reflective m) = none
 
 mutual
   pub public_in : (e : Expression) → ArePublic (calls_in e)

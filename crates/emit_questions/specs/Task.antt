@@ -1,10 +1,13 @@
 -- The emission of a method as a task: what it asks, and the function that it gives by the answers.
-use Rattle.std.specs.Prelude.{Bool, ◌&&◌, List, [], ◌∷◌, Option, Some, None, if◌then◌else◌}
+use Rattle.std.specs.Prelude.{ℕ, Bool, false, ◌&&◌, List, [], ◌∷◌, Option, Some, None, if◌then◌else◌}
 use Rattle.js_tree.specs.Terms.{Name, Statements}
 use Rattle.js_tree.specs.Views.{body_view}
 use Rattle.js_tree.specs.declared.items.Binding.{Binding}
 use Rattle.js_tree.specs.declared.items.JsMember.{JsMember}
-use Rattle.sj_ask.specs.Tasks.{Asking, done, ◌>>=◌, asks_target}
+use Rattle.sj_ask.specs.Tasks.{Asking, done, ◌>>=◌, asks_target, asks_hijacked}
+use Rattle.emit_questions.specs.declared.Inquiry.{Inquiry}
+use Rattle.emit_questions.specs.declared.Inquiry.TheVariants as inquiries
+use Rattle.sj_core.specs.Lookup.{Lookup}
 use Rattle.sj_core.specs.Terms.{Method}
 use Rattle.sj_emit_expr.specs.Members.{function_parameters}
 use Rattle.sj_emit_expr.specs.Templates.{body_template}
@@ -29,22 +32,46 @@ abbrev pub with_target : Member → Option Member → Targets → Targets
 with_target k None ts = ts
 with_target k (Some t) ts = (k, t) ∷ ts
 
--- the targets of calls are asked for one behind the other, each time one is called
-abbrev pub ask_targets : {E : Type 0} → List Member → Targets → Asking E Targets
-ask_targets [] found = done found
-ask_targets (k ∷ ks) found = asks_target k.class k.method >>= (λ t. ask_targets ks (with_target k t found))
+-- classes, each with whether a hijacked class stands below it
+abbrev pub Mixed : Type 0
+Mixed = List (List ℕ × Bool)
 
--- the emitted function of a method, by what calls run
+-- whether one stands below a class, by what was found first
+abbrev pub hijacked_by : Mixed → List ℕ → Bool
+hijacked_by [] c = false
+hijacked_by (h ∷ hs) c = if is_same_text h.0 c then h.1 else hijacked_by hs c
+
+-- what was found
+pub record Found : Type 0 where
+  pub targets : Targets
+  pub mixed : Mixed
+
+abbrev pub nothing_found : Found
+nothing_found = record { targets = []; mixed = [] }
+
+abbrev pub lookup_by : Found → Lookup
+lookup_by found = record { target = target_by found.targets; has_hijacked = hijacked_by found.mixed }
+
+abbrev pub asks_one : {E : Type 0} → Inquiry → Found → Asking E Found
+asks_one (inquiries.Target k) found = asks_target k.class k.method >>= (λ t. done (record { targets = with_target k t found.targets; mixed = found.mixed }))
+asks_one (inquiries.Hijacked c) found = asks_hijacked c >>= (λ b. done (record { targets = found.targets; mixed = (c, b) ∷ found.mixed }))
+
+-- one behind the other, each time one comes
+abbrev pub asks_all : {E : Type 0} → List Inquiry → Found → Asking E Found
+asks_all [] found = done found
+asks_all (q ∷ qs) found = asks_one q found >>= asks_all qs
+
+-- the emitted function of a method, by what is known of the classes
 pub record Emitted : Type 0 where
   pub params : List Name
   pub body : Statements
   pub uses : List Binding
 
-abbrev pub emitted : (Member → Member) → Method → Emitted
-emitted target m = record { params = function_parameters m; body = body_template target m; uses = uses target m.body }
+abbrev pub emitted : Lookup → Method → Emitted
+emitted known m = record { params = function_parameters m; body = body_template known m; uses = uses known m.body }
 
 abbrev pub emit_task : {E : Type 0} → Method → Asking E Emitted
-emit_task m = ask_targets (calls_of_all m.body) [] >>= (λ found. done (emitted (target_by found) m))
+emit_task m = asks_all (calls_of_all m.body) nothing_found >>= (λ found. done (emitted (lookup_by found) m))
 
 abbrev pub emitted_view : JsMember → Emitted
 emitted_view e = record { params = e.params; body = body_view e.body; uses = e.uses }

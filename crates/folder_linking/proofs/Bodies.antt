@@ -3,7 +3,7 @@ use Rattle.std.proofs.Common.{◌≡◌, ◌+◌, ◌≤◌, ℕ, true, false, L
 use Rattle.std.specs.Prelude.{IsSome}
 use Rattle.std.proofs.lemmas.List.{take_all, map-append}
 use Rattle.std.proofs.lemmas.List.Elements.{Contains-push_cases}
-use Rattle.dispatch_laws.specs.Targets.{target_in}
+use Rattle.dispatch_laws.specs.Targets.{lookup_in}
 use Rattle.js_tree.specs.Rules.{IsPiece}
 use Rattle.js_tree.specs.Views.{piece_view}
 use Rattle.sj_desugarer.specs.Methods.{method_desugared, desugared_with}
@@ -53,7 +53,7 @@ same_definition : (w : Classes) (k : Member) (d e : MethodDef) → IsMethodOf w 
 same_definition w k d e h g = let s : Some d ≡ Some e = sym (found-member w k d h) ∙ found-member w k e g in cc
 
 -- the function of a member that has this definition
-pub function_is : (w : Classes) (k : Member) (d : MethodDef) (f : Function) → IsDefined w k → IsMethodOf w k d → f.member.now ≡ k → piece_view f.piece ≡ member_piece (target_in w) k (method_desugared d) → (BodyOnObjects d.body → IsPiece (piece_view f.piece)) → IsFunction w f
+pub function_is : (w : Classes) (k : Member) (d : MethodDef) (f : Function) → IsDefined w k → IsMethodOf w k d → f.member.now ≡ k → piece_view f.piece ≡ member_piece (lookup_in w) k (method_desugared d) → (BodyOnObjects d.body → IsPiece (piece_view f.piece)) → IsFunction w f
 function_is w k d f has is member piece rules = go (some_of d.body (subst (λ (e : MethodDef). IsSome e.body) (same_definition w k has.definition d has.defined is) has.has_body))
   where
     go : (t : Term) × (d.body ≡ Some t) → IsFunction w f
@@ -61,7 +61,7 @@ function_is w k d f has is member piece rules = go (some_of d.body (subst (λ (e
       method = record { member = k; definition = d; its_body = b.0 };
       member_is = sym member;
       found = record { found = found-member w k d is; has_body = b.1 };
-      piece_is = piece ∙ ap (λ o. member_piece (target_in w) k (desugared_with d o)) b.1;
+      piece_is = piece ∙ ap (λ o. member_piece (lookup_in w) k (desugared_with d o)) b.1;
       rules = λ h. rules (subst BodyOnObjects (sym b.1) h);
     }
 

@@ -2,7 +2,7 @@
 use Rattle.std.proofs.Common.{◌≡◌, Bool, true, false, List, [], ◌∷◌, Option, Some, None, Result, Ok, Err, IfOk, All, filter, refl, subst, if◌then◌else◌}
 use Rattle.std.proofs.lemmas.List.Elements.{All-head, All-tail}
 use Rattle.dispatch_laws.proofs.Emission.{emission_finds_targets}
-use Rattle.dispatch_laws.specs.Targets.{at_owner, target_from, target_in}
+use Rattle.dispatch_laws.specs.Targets.{at_owner, target_from, lookup_in}
 use Rattle.emit_questions.specs.Laws.{AsEmitted}
 use Rattle.emit_questions.specs.Task.{emitted, emitted_view}
 use Rattle.ir_mean.specs.Dispatch.{Found, body_at, first_of, methods_in, is_body, or_found, nearest, or_default, default_of, least_class, candidates, chain_of, resolved}
@@ -25,11 +25,11 @@ use Rattle.sj_world.specs.Known.{Name, Classes, class_of, is_same, names_of}
 use Rattle.sj_world.specs.Refusals.{IsInOrder}
 
 -- emission by the answers of a world gives the function whose calls run the targets of the world
-found_there : (s : Stand) → IsInOrder s.classes → (m : Method) (r : Result JsMember NoMemory) (before after : Told) → AsEmitted (IsAnswer s) m r before after → IfOk r (λ e. emitted_view e ≡ emitted (target_in s.classes) m)
+found_there : (s : Stand) → IsInOrder s.classes → (m : Method) (r : Result JsMember NoMemory) (before after : Told) → AsEmitted (IsAnswer s) m r before after → IfOk r (λ e. emitted_view e ≡ emitted (lookup_in s.classes) m)
 found_there s sorted m (Ok e) before after ran = emission_finds_targets s sorted m (emitted_view e) ran.log ran.comes
 found_there s sorted m (Err e) before after ran = tt
 
-pub function_found : (s t : Stand) → s ≡ t → IsInOrder t.classes → (m : Method) (r : Result JsMember NoMemory) (before after : Told) → AsEmitted (IsAnswer s) m r before after → IfOk r (λ e. emitted_view e ≡ emitted (target_in t.classes) m)
+pub function_found : (s t : Stand) → s ≡ t → IsInOrder t.classes → (m : Method) (r : Result JsMember NoMemory) (before after : Told) → AsEmitted (IsAnswer s) m r before after → IfOk r (λ e. emitted_view e ≡ emitted (lookup_in t.classes) m)
 function_found s t same sorted m r before after ran = found_there t sorted m r before after (subst (λ (o : Stand). AsEmitted (IsAnswer o) m r before after) same ran)
 
 -- a name under which a class is found is one of the names of the classes
@@ -85,5 +85,5 @@ target_fits w names Public k fits = go (resolved w k.class k.method) (resolved_f
     go (Some f) owner = (owner, fits.1)
 target_fits w names _ k fits = fits
 
-pub targets_fit : (w : Classes) → All AreBytes (names_of w) → (m : Method) → TargetsFit (target_in w) m
+pub targets_fit : (w : Classes) → All AreBytes (names_of w) → (m : Method) → TargetsFit (lookup_in w) m
 targets_fit w names m = λ k called fits. target_fits w names k.namespace k fits

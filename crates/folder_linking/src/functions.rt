@@ -1,7 +1,7 @@
 // The functions of the bodies that are needed.
 ghost use Rattle.std.specs.Prelude.{◌≡◌, All, IfOk, length, map, true};
 ghost use Rattle.std.specs.List.{Contains};
-ghost use Rattle.dispatch_laws.specs.Targets.{target_in};
+ghost use Rattle.dispatch_laws.specs.Targets.{lookup_in};
 ghost use Rattle.emit_questions.specs.Task.{emitted, emitted_view};
 ghost use Rattle.js_tree.specs.Views.{piece_view};
 ghost use Rattle.sj_core.specs.Views.{method_view};
@@ -103,7 +103,7 @@ fn emitted_piece<W: Workers>(
 ) -> Result<JsPiece, NoMemory>
     requires in_order { IsInOrder linked.now.world }
     requires names { All AreBytes (names_of linked.now.world) }
-    ensures piece { IfOk result (λ p. piece_view p ≡ members.member_piece (target_in linked.now.world) member.now (method_desugared definition.now)) }
+    ensures piece { IfOk result (λ p. piece_view p ≡ members.member_piece (lookup_in linked.now.world) member.now (method_desugared definition.now)) }
     ensures rules { BodyOnObjects definition.now.body → IfOk result (λ p. IsPiece (piece_view p)) }
     ensures counted { Emits 1 result (W.meter work.old) (W.meter work.new) }
 {
@@ -123,7 +123,7 @@ fn emit<W: Workers>(
     work: &mut W,
 ) -> Result<JsMember, NoMemory>
     requires { IsInOrder linked.now.world }
-    ensures emitted { IfOk result (λ e. emitted_view e ≡ emitted (target_in linked.now.world) (method_view core.now)) }
+    ensures emitted { IfOk result (λ e. emitted_view e ≡ emitted (lookup_in linked.now.world) (method_view core.now)) }
     ensures counted { Emits 1 result (W.meter work.old) (W.meter work.new) }
 {
     let mut recorder = Recorder::new(alloc, member.copied()?, WorldOracle::new(linked, member));

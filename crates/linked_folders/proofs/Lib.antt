@@ -18,4 +18,5 @@ pub use Rattle.declared_pieces.proofs.Defined
 pub use Rattle.declared_pieces.proofs.Firsts
 pub use Rattle.object_helpers.proofs.Bodies
 pub use Rattle.object_helpers.proofs.Brought
+pub use Rattle.object_helpers.proofs.WrittenTrees
 pub use Rattle.object_helpers.proofs.Pieces

@@ -1,7 +1,7 @@
 -- The pieces of a linked world in the order of a module: of each class its own and the functions of its methods, and behind those of `java.lang.Object` the helpers.
 use Rattle.std.specs.Prelude.{◌≡◌, ◌↔◌, List, [], ◌∷◌, ◌++◌, Contains, map, if◌then◌else◌}
 use Rattle.std.specs.List.{flat_map}
-use Rattle.dispatch_laws.specs.Targets.{target_in}
+use Rattle.dispatch_laws.specs.Targets.{lookup_in}
 use Rattle.helper_rules.specs.Helpers.{Above, helper_name, helper_piece, used_helpers}
 use Rattle.helper_rules.specs.Words.{helper, kind_class}
 use Rattle.helper_rules.specs.declared.kinds.Helper.{Helper}
@@ -20,7 +20,7 @@ use Rattle.linked_pieces.specs.Order.{AreInOrder, AreClasses, AreMethodsOf}
 
 -- the piece of a method, whose calls run the targets of a world
 abbrev pub piece_of_member : Classes → EmittedMethod → Piece
-piece_of_member w e = member_piece (target_in w) e.member (desugared_member e.definition e.its_body)
+piece_of_member w e = member_piece (lookup_in w) e.member (desugared_member e.definition e.its_body)
 
 -- a class with its own pieces and the methods of which it has functions
 pub record Block : Type 0 where

@@ -2,7 +2,7 @@
 use Rattle.std.specs.Prelude.{Bool, true, false, ◌&&◌, ◌||◌, not, List, Option, Some, None}
 use Rattle.std.specs.List.{list_any}
 use Rattle.built_forms.specs.Built.{Usable, is_static, has_kind, has_no_value}
-use Rattle.dispatch_laws.specs.Targets.{target_in}
+use Rattle.dispatch_laws.specs.Targets.{lookup_in}
 use Rattle.helper_rules.specs.Helpers.{helper_name}
 use Rattle.helper_rules.specs.declared.kinds.Helper.{Helper}
 use Rattle.sj_emit_expr.specs.Tests.{test_name, cast_name}
@@ -100,7 +100,7 @@ uses_cast all helpers written t = has_kind t && uses_helper helpers written (cas
 abbrev pub used_of : Classes → List Fact → List EmittedMethod → List Name → List Helper → List Name → Usable
 used_of w facts all live helpers written = record {
   linked = λ m. is_static m.namespace && (is_among written m.class && has_function all m);
-  target = target_in w;
+  lookup = lookup_in w;
   received = λ m. is_received m.namespace && (is_among written m.class && has_function all m);
   built = λ m. is_constructor_without_value m && (is_among written m.class && has_function all m);
   made = λ c. is_among written c && is_among live c;

@@ -18,7 +18,7 @@ use Rattle.sj_infos.specs.Trees.{trees}
 use Rattle.sj_names.specs.declared.method_names.MethodName.{MethodName}
 use Rattle.sj_names.specs.declared.method_names.Namespace.{Namespace}
 use Rattle.sj_names.specs.declared.method_names.Namespace.TheVariants.{Constructor, Public, Private}
-use Rattle.sj_trees.specs.Term.{Term, new_object, select, select_static, apply_statically, apply_static, is_instance_of, as_instance_of, binary_op}
+use Rattle.sj_trees.specs.Term.{Term, new_object, select, select_static, apply_statically, apply_static, is_instance_of, as_instance_of, binary_op, apply}
 use Rattle.sj_trees.specs.declared.classes.MethodDef.{MethodDef}
 use Rattle.sure_receivers.specs.Sure.{is_sure, sure_locals}
 use Rattle.module_uses.specs.Laws.{BodiesUseNoMore, DivisorsFit}
@@ -31,9 +31,9 @@ module _ (has : Usable) (uses : Binding → Bool) where
   abbrev IsUsed : Binding → Type 0
   IsUsed b = uses b ≡ true
 
-  received_gives : (c : List ℕ) (n : Namespace) (m : MethodName) → GivesReceived IsUsed has.target has here n c m
+  received_gives : (c : List ℕ) (n : Namespace) (m : MethodName) → GivesReceived IsUsed has.lookup has here n c m
   received_gives c Constructor m = and_from (has.built (member c Constructor m)) (uses (function_binding (member c Constructor m)))
-  received_gives c Public m = and_from (has.received (has.target (member c Public m))) (uses (function_binding (has.target (member c Public m))))
+  received_gives c Public m = and_from (has.received (has.lookup.target (member c Public m))) (uses (function_binding (has.lookup.target (member c Public m))))
   received_gives c Private m = and_from (has.received (member c Private m)) (uses (function_binding (member c Private m)))
   received_gives c n m = tt
 
@@ -43,8 +43,9 @@ module _ (has : Usable) (uses : Binding → Bool) where
   all_used (b ∷ bs) h = and_from (uses b) (list_all uses bs) (All-head IsUsed b bs h) (all_used bs (All-tail IsUsed b bs h))
 
   module _ (e : Term) (fit : DivisorsFit e) where
-    gives : (t : Term) → Contains (trees e) t → Gives IsUsed has.target has here t
+    gives : (t : Term) → Contains (trees e) t → Gives IsUsed has.lookup has here t
     gives (apply_static p c n m ts t) i = and_from (has.linked (member c n m)) (uses (function_binding (member c n m)))
+    gives (apply p d m ts t) i = λ c same. received_gives c Public m
     gives (apply_statically p d c n m ts t) i = received_gives c n m
     gives (new_object p c m ts) i = λ h k f u. (and_from (has.built (member c Constructor m)) (uses (function_binding (member c Constructor m))) k f, and_from (has.made c) (uses (class_use c)) h u)
     gives (select p d c f t) i = λ h. h
@@ -71,16 +72,16 @@ module _ (has : Usable) (uses : Binding → Bool) where
       go false h = h
   box_there false h k = absurd (cc)
 
-  pub built_here : (d : MethodDef) (e : Term) → is_built_with has d e ≡ true → DivisorsFit e → ((b : Binding) → Contains (used_by has.target d e) b → uses b ≡ true) → is_built_with here d e ≡ true
+  pub built_here : (d : MethodDef) (e : Term) → is_built_with has d e ≡ true → DivisorsFit e → ((b : Binding) → Contains (used_by has.lookup d e) b → uses b ≡ true) → is_built_with here d e ≡ true
   built_here d e built fit used =
       let sure = sure_locals e in
       let code = body_code (is_mutable_in d e) d.result e in
       let whole = (desugared_member d e).body in
-      let within = completed_uses IsUsed has.target d.namespace code (all_from IsUsed (uses_of_all has.target whole) (λ b i. used b (in_uses has.target whole b i))) in
+      let within = completed_uses IsUsed has.lookup d.namespace code (all_from IsUsed (uses_of_all has.lookup whole) (λ b i. used b (in_uses has.lookup whole b i))) in
       let parts = and_parts (may_make has (body_boxes d e)) (is_built has (may_check has sure) e) built in
-      let each = all_from (Gives IsUsed has.target has here) (trees e) (gives e fit) in
-      let made = may_make_those here (body_boxes d e) (λ h. and_from (can_box has) (uses (object_binding (codes "$C"))) (box_there (body_boxes d e) parts.0 h) (box_used IsUsed has.target sure (is_mutable_in d e) e [] (result_destination d.result) 1 within h)) in
-      and_from (may_make here (body_boxes d e)) (is_built here (may_check here sure) e) made (tree IsUsed has.target has here (may_check has sure) sure (λ h. h) (λ x i. and_from (has.helper x) (uses (object_binding x))) (check_used sure) (is_mutable_in d e) e [] (result_destination d.result) 1 parts.1 each within)
+      let each = all_from (Gives IsUsed has.lookup has here) (trees e) (gives e fit) in
+      let made = may_make_those here (body_boxes d e) (λ h. and_from (can_box has) (uses (object_binding (codes "$C"))) (box_there (body_boxes d e) parts.0 h) (box_used IsUsed has.lookup sure (is_mutable_in d e) e [] (result_destination d.result) 1 within h)) in
+      and_from (may_make here (body_boxes d e)) (is_built here (may_check here sure) e) made (tree IsUsed has.lookup has here (may_check has sure) sure (λ h. h) (λ x i. and_from (has.helper x) (uses (object_binding x))) (check_used sure) (is_mutable_in d e) e [] (result_destination d.result) 1 parts.1 each within)
 
 pub no_more : BodiesUseNoMore
 no_more = built_here

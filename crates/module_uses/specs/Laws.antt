@@ -26,7 +26,7 @@ abbrev pub BodiesUseNoMore : Type 0
 BodiesUseNoMore = (has : Usable) (uses : Binding → Bool) (d : MethodDef) (e : Term)
     → is_built_with has d e ≡ true
     → DivisorsFit e
-    → ((b : Binding) → Contains (used_by has.target d e) b → uses b ≡ true)
+    → ((b : Binding) → Contains (used_by has.lookup d e) b → uses b ≡ true)
     → is_built_with (restricted has uses) d e ≡ true
 
 -- what is used of what is there is among it

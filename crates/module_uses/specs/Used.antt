@@ -13,7 +13,7 @@ use Rattle.sj_split.specs.declared.plans.PlannedModule.{PlannedModule}
 abbrev pub restricted : Usable → (Binding → Bool) → Usable
 restricted has uses = record {
   linked = λ m. has.linked m && uses (function_binding m);
-  target = has.target;
+  lookup = has.lookup;
   received = λ m. has.received m && uses (function_binding m);
   built = λ m. has.built m && uses (function_binding m);
   made = λ c. has.made c && uses (class_use c);

@@ -1,8 +1,14 @@
 -- The helpers that the code of a body uses are told by what the body asks for.
 use Rattle.std.proofs.Common.{◌≡◌, ℕ, Bool, true, false, ◌&&◌, List, [], ◌∷◌, Some, None, refl, sym, ap, ◌∙◌, subst, codes, Contains, if◌then◌else◌}
-use Rattle.std.specs.Prelude.{not}
+use Rattle.object_helpers.proofs.WrittenTrees.{each_written}
+use Rattle.sj_core.specs.Lookup.{Lookup}
+use Rattle.sj_core.specs.declared.callees.Callee.{Callee}
+use Rattle.sj_core.specs.declared.callees.Callee.TheVariants as callees
+use Rattle.sj_infos.specs.Receivers.{receiver_class}
+use Rattle.sj_infos.specs.declared.infos.Info.TheVariants as asked_info
+use Rattle.std.specs.Prelude.{not, is_none, ◌++◌}
 use Rattle.std.specs.List.{All, list_any}
-use Rattle.std.proofs.lemmas.List.Elements.{All-nil, All-cons, All-head, All-tail, All-contains, Contains-append_right}
+use Rattle.std.proofs.lemmas.List.Elements.{All-nil, All-cons, All-head, All-tail, All-contains, Contains-append_right, Contains-append_left}
 use Rattle.body_uses.proofs.Given.{all_from}
 use Rattle.body_uses.proofs.EachTyped.{in_all}
 use Rattle.helper_rules.specs.Helpers.{helper_name}
@@ -14,11 +20,11 @@ use Rattle.js_tree.specs.Terms.{Name}
 use Rattle.js_tree.specs.declared.items.Binding.{Binding}
 use Rattle.proper_pieces.proofs.Names.{function_rank}
 use Rattle.sj_core.specs.Terms as core
-use Rattle.sj_desugar.specs.Desugar.{member, desugared_member, body_code, completed, is_mutable_in, result_destination}
+use Rattle.sj_desugar.specs.Desugar.{member, desugared_member, body_code, completed, is_mutable_in, result_destination, callee_of}
 use Rattle.sj_emit_expr.specs.Templates.{check_name, called_member}
 use Rattle.sj_emit_expr.specs.Tests.{same_name}
-use Rattle.sj_emit_expr.specs.Uses.{object_binding, function_binding, class_use, static_use, setter_use, helper_of, test_uses, cast_uses, uses_of_all, is_same_binding, once_each, uses}
-use Rattle.sj_infos.specs.Infos.{asks, asked_in, of_receiver, of_static_call, of_division, of_type, of_cast, is_any, is_other_than_zero, null_pointer, arithmetic, class_cast}
+use Rattle.sj_emit_expr.specs.Uses.{object_binding, function_binding, class_use, static_use, setter_use, helper_of, test_uses, cast_uses, uses_of_all, is_same_binding, once_each, uses, looked_up_uses, call_uses}
+use Rattle.sj_infos.specs.Infos.{asks, asked_in, of_receiver, of_static_call, of_division, of_type, of_cast, is_any, is_other_than_zero, null_pointer, arithmetic, class_cast, of_apply, of_call, no_such_method}
 use Rattle.sj_infos.specs.Infos as infos
 use Rattle.sj_infos.specs.Sure.{sure_among}
 use Rattle.sj_infos.specs.Sure as infos_sure
@@ -27,13 +33,16 @@ use Rattle.sj_infos.specs.declared.infos.Info.{Info}
 use Rattle.sj_infos.specs.declared.infos.Info.TheVariants.{Field, Throws}
 use Rattle.body_uses.proofs.Found.{here, there}
 use Rattle.body_uses.specs.Kept.{KeepsTreeRules}
-use Rattle.sj_mangling.specs.Bindings.{class_binding}
+use Rattle.sj_mangling.specs.Bindings.{class_binding, method_binding}
 use Rattle.sj_mangling.specs.declared.bindings.ClassBinding.TheVariants.{IsInstance, AsInstance}
+use Rattle.sj_mangling.specs.declared.bindings.MethodBinding.TheVariants.{Dispatch, Reflective}
 use Rattle.sj_names.proofs.Same.{impossible}
 use Rattle.sj_names.specs.declared.method_names.Member.{Member}
+use Rattle.sj_names.specs.declared.method_names.MethodName.{MethodName}
 use Rattle.sj_names.specs.declared.method_names.Namespace.{Namespace}
 use Rattle.sj_names.specs.declared.method_names.Namespace.TheVariants.{Public, PublicStatic, Private, PrivateStatic, Constructor}
-use Rattle.sj_trees.specs.Term.{Term, new_object, select, select_static, apply_statically, apply_static, binary_op, is_instance_of, as_instance_of}
+use Rattle.sj_trees.specs.Term.{Term, new_object, select, select_static, apply_statically, apply_static, binary_op, is_instance_of, as_instance_of, apply}
+use Rattle.sj_trees.specs.TypeOf.{type_of_term}
 use Rattle.sj_trees.specs.declared.classes.ClassDef.{ClassDef}
 use Rattle.sj_trees.specs.declared.classes.MethodDef.{MethodDef}
 use Rattle.sj_trees.specs.declared.operators.BinaryOp.{BinaryOp}
@@ -66,7 +75,7 @@ Only P b = (h : Helper) → b ≡ helper (helper_name h) → P h
 pub only_function : (P : Helper → Type 0) (m : Member) → Only P (function_binding m)
 only_function P m h e = no_helper (function_binding m) 9 (function_rank m.namespace m.class m.method) refl h e
 
-module _ (runs : Member → Member) (c : ClassDef) (d : MethodDef) (e : Term) (body : d.body ≡ Some e) (kept : KeepsTreeRules c d) where
+module _ (runs : Lookup) (c : ClassDef) (d : MethodDef) (e : Term) (body : d.body ≡ Some e) (kept : KeepsTreeRules c d) where
   abbrev asked : List Info
   asked = asked_in e
 
@@ -158,8 +167,27 @@ module _ (runs : Member → Member) (c : ClassDef) (d : MethodDef) (e : Term) (b
   always StrictNotEqual = same
   always _ = All-nil Q
 
+  -- what a call names is no helper
+  callee_good : (k : Callee) → All Q (call_uses runs k)
+  callee_good (callees.Member m) = All-cons Q (function_binding (called_member runs m.namespace m)) [] (only_function (UsesIt asked) (called_member runs m.namespace m)) (All-nil Q)
+  callee_good (callees.LookedUp k m) = go (runs.has_hijacked k)
+    where
+      go : (b : Bool) → All Q (looked_up_uses b m)
+      go true = All-cons Q (object_binding (method_binding Dispatch m)) [] (λ h same. no_helper (object_binding (method_binding Dispatch m)) 9 refl refl h same) (All-nil Q)
+      go false = All-nil Q
+  callee_good (callees.OfArray m) = All-nil Q
+  callee_good (callees.Reflective m) = All-cons Q (object_binding (method_binding Reflective m)) [] (λ h same. no_helper (object_binding (method_binding Reflective m)) 9 refl refl h same) (All-nil Q)
+
+  apply_asks : (r : Term) (m : MethodName) → Contains (of_receiver names r) (Throws (codes "java.lang.NullPointerException")) → Contains (of_apply names r m) (Throws (codes "java.lang.NullPointerException"))
+  apply_asks r m i = go (is_none m.result)
+    where
+      go : (b : Bool) → Contains (if b then asked_info.Reflective m ∷ of_receiver names r ++ no_such_method else of_call m (receiver_class (type_of_term r)) ++ of_receiver names r) (Throws (codes "java.lang.NullPointerException"))
+      go true = there (asked_info.Reflective m) (of_receiver names r ++ no_such_method) (Throws (codes "java.lang.NullPointerException")) (Contains-append_left (of_receiver names r) no_such_method (Throws (codes "java.lang.NullPointerException")) i)
+      go false = Contains-append_right (of_call m (receiver_class (type_of_term r))) (of_receiver names r) (Throws (codes "java.lang.NullPointerException")) i
+
   brings : (t : Term) → Contains (trees e) t → Brings Q runs box sure t
   brings (apply_static p k n m ts t) among = only_function (UsesIt asked) (member k n m)
+  brings (apply p r m ts t) among = (callee_good (callee_of (type_of_term r) m), λ u. check (told (apply p r m ts t) among (Throws (codes "java.lang.NullPointerException")) (apply_asks r m (receiver_asks r u))))
   brings (apply_statically p r k n m ts t) among = (only_function (UsesIt asked) (called_member runs n (member k n m)), λ u. check (told (apply_statically p r k n m ts t) among (Throws (codes "java.lang.NullPointerException")) (Contains-append_right (of_static_call k n m) (of_receiver names r) (Throws (codes "java.lang.NullPointerException")) (receiver_asks r u))))
   brings (new_object p k m ts) among = (only_function (UsesIt asked) (member k Constructor m), λ h same. no_helper (class_use k) 1 refl refl h same)
   brings (select p r k f t) among = λ u. check (told (select p r k f t) among (Throws (codes "java.lang.NullPointerException")) (there (Field k f false) (of_receiver names r) (Throws (codes "java.lang.NullPointerException")) (receiver_asks r u)))
@@ -177,7 +205,7 @@ module _ (runs : Member → Member) (c : ClassDef) (d : MethodDef) (e : Term) (b
   completed_in PrivateStatic ss h = h
 
   pub all_used : All Q (uses runs (desugared_member d e).body)
-  all_used = once_in Q [] (uses_of_all runs (desugared_member d e).body) (completed_in d.namespace (body_code (is_mutable_in d e) d.result e) (tree Q runs box sure (is_mutable_in d e) e (all_from (Brings Q runs box sure) (trees e) brings) [] (result_destination d.result) 1))
+  all_used = once_in Q [] (uses_of_all runs (desugared_member d e).body) (completed_in d.namespace (body_code (is_mutable_in d e) d.result e) (tree Q runs box sure (is_mutable_in d e) e (each_written (Brings Q runs box sure) e (all_from (Brings Q runs box sure) (trees e) brings)) [] (result_destination d.result) 1))
 
 pub used : BodiesUseObjectHelpers
 used runs c d e h body kept i = All-contains (Only (UsesIt (asked_in e))) (uses runs (desugared_member d e).body) (helper (helper_name h)) (all_used runs c d e body kept) i h refl

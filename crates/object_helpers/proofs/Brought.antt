@@ -1,4 +1,7 @@
 -- What the code of a tree uses is what its trees bring, one by one.
+use Rattle.object_helpers.proofs.WrittenTrees.{written, written_below, all_written, cases_written}
+use Rattle.sj_core.specs.Lookup.{Lookup}
+use Rattle.sj_core.specs.declared.callees.Callee.TheVariants as callees
 use Rattle.sj_names.specs.declared.method_names.Member.{Member}
 use Rattle.std.proofs.Common.{◌≡◌, ℕ, zero, suc, Bool, true, false, List, [], ◌∷◌, ◌++◌, ◌&&◌, Some, None, refl, sym, ap, ◌∙◌, codes, if◌then◌else◌}
 use Rattle.std.specs.Prelude.{not, pos, negsuc}
@@ -10,18 +13,17 @@ use Rattle.sj_core.specs.Terms as core
 use Rattle.sj_core.specs.Terms.{Expression, followed}
 use Rattle.sj_core.specs.Views.{expressions_of}
 use Rattle.sj_desugar.specs.Coercions.{is_char, coerced, coerced_arguments, coerced_receiver}
-use Rattle.sj_desugar.specs.Desugar.{operand, receiver, received, received_text, into, block, operands, cases, finish, has_no_value, target_of, Targets, expression_of, all_expressions, labeled_code, leaving_code, wrapped, branches, break_unless, switch_code, first_of, second_of, rest_of, member, types_of}
+use Rattle.sj_desugar.specs.Desugar.{operand, receiver, received, received_text, into, block, operands, cases, finish, has_no_value, target_of, Targets, expression_of, all_expressions, labeled_code, leaving_code, wrapped, branches, break_unless, switch_code, first_of, second_of, rest_of, member, types_of, callee_of}
 use Rattle.sj_desugar.specs.Plain.{is_plain}
 use Rattle.sj_desugar.specs.Spill.{Destination, discard, to_variable, to_result, Code, one, put_first, Operand, all_plain, texts, Spilled, spill, spill_case, then_use}
 use Rattle.sj_desugar.specs.Texts.{text_of, operand_of}
 use Rattle.sj_emit_expr.specs.Templates.{check_name, is_nonzero_literal, called_member}
-use Rattle.sj_emit_expr.specs.Uses.{object_binding, function_binding, class_use, static_use, setter_use, helper_of, test_uses, cast_uses, uses_in, uses_in_all, uses_of, uses_of_all, uses_of_cases}
+use Rattle.sj_emit_expr.specs.Uses.{object_binding, function_binding, class_use, static_use, setter_use, helper_of, test_uses, cast_uses, uses_in, uses_in_all, uses_of, uses_of_all, uses_of_cases, call_uses}
 use Rattle.sj_infos.specs.Infos.{is_other_than_zero}
-use Rattle.sj_infos.specs.Trees.{trees, below, all_below, cases_below}
 use Rattle.sj_names.proofs.Same.{impossible}
 use Rattle.sj_names.specs.declared.method_names.Namespace.TheVariants.{Constructor}
 use Rattle.sj_names.specs.declared.references.TypeRef.{TypeRef}
-use Rattle.sj_trees.specs.Term.{Term, Terms, no_terms, more_terms, Cases, no_cases, more_cases, var_def, block_of, labeled, assign, return_to, if_then, while_loop, do_while, match_on, throw, new_object, select, select_static, apply_statically, apply_static, unary_op, binary_op, is_instance_of, as_instance_of, undefined_literal, null_literal, boolean_literal, char_literal, byte_literal, short_literal, int_literal, long_literal, string_literal, var_ref, this_ref, log_line}
+use Rattle.sj_trees.specs.Term.{Term, Terms, no_terms, more_terms, Cases, no_cases, more_cases, var_def, block_of, labeled, assign, return_to, if_then, while_loop, do_while, match_on, throw, new_object, select, select_static, apply_statically, apply_static, unary_op, binary_op, is_instance_of, as_instance_of, undefined_literal, null_literal, boolean_literal, char_literal, byte_literal, short_literal, int_literal, long_literal, string_literal, var_ref, this_ref, log_line, apply}
 use Rattle.sj_trees.specs.TypeOf.{type_of_term, unary_result, binary_result}
 use Rattle.sj_trees.specs.Types.{class_type, reference_type}
 use Rattle.sj_trees.specs.declared.operators.BinaryOp.{BinaryOp}
@@ -82,7 +84,7 @@ second_case false false false a o j p = last_text o (a.code (to_variable (core.n
 second_text : (a o : Operand) (j : ℕ) → o.plain ≡ true → second_of (spill (a ∷ o ∷ []) j).expressions ≡ o.text
 second_text a o j p = second_case (a.plain && (o.plain && true)) a.fixed a.plain a o j p
 
-module _ (Q : Binding → Type 0) (runs : Member → Member) (box : Q (object_binding (codes "$C"))) where
+module _ (Q : Binding → Type 0) (runs : Lookup) (box : Q (object_binding (codes "$C"))) where
   abbrev In : Expression → Type 0
   In e = All Q (uses_in runs e)
 
@@ -155,6 +157,7 @@ module _ (Q : Binding → Type 0) (runs : Member → Member) (box : Q (object_bi
     -- what one tree brings
     abbrev pub Brings : Term → Type 0
     Brings (apply_static p c n m ts t) = Q (function_binding (member c n m))
+    Brings (apply p e m ts t) = All Q (call_uses runs (callee_of (type_of_term e) m)) × (is_sure sure e ≡ false → Q (object_binding check_name))
     Brings (apply_statically p e c n m ts t) = Q (function_binding (called_member runs n (member c n m))) × (is_sure sure e ≡ false → Q (object_binding check_name))
     Brings (new_object p c m ts) = Q (function_binding (member c Constructor m)) × Q (class_use c)
     Brings (select p e c f t) = is_sure sure e ≡ false → Q (object_binding check_name)
@@ -167,20 +170,20 @@ module _ (Q : Binding → Type 0) (runs : Member → Member) (box : Q (object_bi
     abbrev Each : List Term → Type 0
     Each ts = All Brings ts
 
-    inner : (t : Term) → Each (trees t) → Each (below t)
-    inner t g = All-tail Brings t (below t) g
+    inner : (t : Term) → Each (written t) → Each (written_below t)
+    inner t g = All-tail Brings t (written_below t) g
 
-    own : (t : Term) → Each (trees t) → Brings t
-    own t g = All-head Brings t (below t) g
+    own : (t : Term) → Each (written t) → Brings t
+    own t g = All-head Brings t (written_below t) g
 
-    two : (a b : Term) → Each (trees a ++ trees b) → Each (trees a) × Each (trees b)
-    two a b g = (ahead Brings (trees a) (trees b) g, after Brings (trees a) (trees b) g)
+    two : (a b : Term) → Each (written a ++ written b) → Each (written a) × Each (written b)
+    two a b g = (ahead Brings (written a) (written b) g, after Brings (written a) (written b) g)
 
-    three : (a b c : Term) → Each (trees a ++ trees b ++ trees c) → Each (trees a) × (Each (trees b) × Each (trees c))
-    three a b c g = let first = two a b (ahead Brings (trees a ++ trees b) (trees c) g) in (first.0, (first.1, after Brings (trees a ++ trees b) (trees c) g))
+    three : (a b c : Term) → Each (written a ++ written b ++ written c) → Each (written a) × (Each (written b) × Each (written c))
+    three a b c g = let first = two a b (ahead Brings (written a ++ written b) (written c) g) in (first.0, (first.1, after Brings (written a ++ written b) (written c) g))
 
-    call : (e : Term) (ts : Terms) → Each (trees e ++ all_below ts) → Each (trees e) × Each (all_below ts)
-    call e ts g = (ahead Brings (trees e) (all_below ts) g, after Brings (trees e) (all_below ts) g)
+    call : (e : Term) (ts : Terms) → Each (written e ++ all_written ts) → Each (written e) × Each (all_written ts)
+    call e ts g = (ahead Brings (written e) (all_written ts) g, after Brings (written e) (all_written ts) g)
 
     received_in : (known : Bool) (e : Expression) → (known ≡ false → Q (object_binding check_name)) → In e → In (received_text known e)
     received_in true e q h = h
@@ -211,13 +214,21 @@ module _ (Q : Binding → Type 0) (runs : Member → Member) (box : Q (object_bi
         join (helper ++ uses_in runs left) (uses_in runs right) (join helper (uses_in runs left) (helper_in o d y text brought.0 brought.1) (operand_in o (type_of_term e) x h)) (operand_in o (type_of_term d) y k)
 
     mutual
-      expression_in : (t : Term) → Each (trees t) → In (expression_of sure t)
+      expression_in : (t : Term) → Each (written t) → In (expression_of sure t)
       expression_in (if_then p c a b t) g =
           let g0 = three c a b (inner (if_then p c a b t) g) in
           let left = coerced t (type_of_term a) (expression_of sure a) in
           let right = coerced t (type_of_term b) (expression_of sure b) in
           join (uses_in runs (expression_of sure c) ++ uses_in runs left) (uses_in runs right) (join (uses_in runs (expression_of sure c)) (uses_in runs left) (expression_in c g0.0) (coerced_in t (type_of_term a) (expression_of sure a) (expression_in a g0.1.0))) (coerced_in t (type_of_term b) (expression_of sure b) (expression_in b g0.1.1))
       expression_in (apply_static p c n m ts t) g = All-cons Q (function_binding (member c n m)) (uses_in_all runs (expressions_of (coerced_arguments m.params (types_of ts) (all_expressions sure ts)))) (own (apply_static p c n m ts t) g) (arguments_in m.params (types_of ts) (all_expressions sure ts) (expressions_in ts (inner (apply_static p c n m ts t) g)))
+      expression_in (apply p e m ts t) g =
+          let tree = apply p e m ts t in
+          let g0 = call e ts (inner tree g) in
+          let text = received_text (is_sure sure e) (expression_of sure e) in
+          let target = coerced_receiver (type_of_term e) text in
+          let arguments = uses_in_all runs (expressions_of (coerced_arguments m.params (types_of ts) (all_expressions sure ts))) in
+          let names = call_uses runs (callee_of (type_of_term e) m) in
+          join (names ++ uses_in runs target) arguments (join names (uses_in runs target) (own tree g).0 (coerced_in (IrType.Class (codes "java.lang.Character")) (type_of_term e) text (received_in (is_sure sure e) (expression_of sure e) (own tree g).1 (expression_in e g0.0)))) (arguments_in m.params (types_of ts) (all_expressions sure ts) (expressions_in ts g0.1))
       expression_in (apply_statically p e c n m ts t) g =
           let tree = apply_statically p e c n m ts t in
           let g0 = call e ts (inner tree g) in
@@ -237,9 +248,9 @@ module _ (Q : Binding → Type 0) (runs : Member → Member) (box : Q (object_bi
       expression_in (binary_op p o e d) g = let g0 = two e d (inner (binary_op p o e d) g) in binary_in o e d (expression_of sure e) (expression_of sure d) (own (binary_op p o e d) g) (λ h. refl) (expression_in e g0.0) (expression_in d g0.1)
       expression_in _ g = none
 
-      expressions_in : (ts : Terms) → Each (all_below ts) → EachIn (all_expressions sure ts)
+      expressions_in : (ts : Terms) → Each (all_written ts) → EachIn (all_expressions sure ts)
       expressions_in no_terms g = tt
-      expressions_in (more_terms t ts) g = (expression_in t (ahead Brings (trees t) (all_below ts) g), expressions_in ts (after Brings (trees t) (all_below ts) g))
+      expressions_in (more_terms t ts) g = (expression_in t (ahead Brings (written t) (all_written ts) g), expressions_in ts (after Brings (written t) (all_written ts) g))
 
     -- operands
     abbrev OperandIn : Operand → Type 0
@@ -323,21 +334,21 @@ module _ (Q : Binding → Type 0) (runs : Member → Member) (box : Q (object_bi
       abbrev receiver_for : Targets → Term → Operand
       receiver_for ts e = receiver is_mutable sure e (λ k j. into is_mutable sure ts k j e)
 
-      part_in : (e : Term) → Each (trees e) → TreeIn e → (ts : Targets) → OperandIn (operand_for ts e)
+      part_in : (e : Term) → Each (written e) → TreeIn e → (ts : Targets) → OperandIn (operand_for ts e)
       part_in e g tree ts = (expression_in e g, λ x t j. tree ts (to_variable x t) j)
 
-      target_in : (e : Term) → (is_sure sure e ≡ false → Q (object_binding check_name)) → Each (trees e) → TreeIn e → (ts : Targets) → OperandIn (receiver_for ts e)
+      target_in : (e : Term) → (is_sure sure e ≡ false → Q (object_binding check_name)) → Each (written e) → TreeIn e → (ts : Targets) → OperandIn (receiver_for ts e)
       target_in e q g tree ts = receiver_in (is_sure sure e) (operand_for ts e) q (part_in e g tree ts)
 
       -- one operand
-      act_in : (e : Term) → Each (trees e) → TreeIn e → (ts : Targets) (j : ℕ) (made : List Expression → ℕ → Code) → ((x : List Expression) (i : ℕ) → In (first_of x) → Within (made x i).statements) → Within (then_use (spill (operand_for ts e ∷ []) j) made).statements
+      act_in : (e : Term) → Each (written e) → TreeIn e → (ts : Targets) (j : ℕ) (made : List Expression → ℕ → Code) → ((x : List Expression) (i : ℕ) → In (first_of x) → Within (made x i).statements) → Within (then_use (spill (operand_for ts e ∷ []) j) made).statements
       act_in e g tree ts j made k = use_in (operand_for ts e ∷ []) (part_in e g tree ts, tt) j made (λ i f. k (spill (operand_for ts e ∷ []) j).expressions i (first_in (spill (operand_for ts e ∷ []) j).expressions f))
 
       second_own : (e d : Term) (ts : Targets) (j : ℕ) → is_other_than_zero d ≡ true → second_of (spill (operand_for ts e ∷ operand_for ts d ∷ []) j).expressions ≡ expression_of sure d
       second_own e d ts j h = second_text (operand_for ts e) (operand_for ts d) j (literal_plain d h)
 
       mutual
-        pub tree : (t : Term) → Each (trees t) → TreeIn t
+        pub tree : (t : Term) → Each (written t) → TreeIn t
         tree (var_def p x t b e) g ts k j = let i = inner (var_def p x t b e) g in either_in (is_plain e) (one (core.define_of (Some p) (core.named x) (coerced t (type_of_term e) (expression_of sure e))) j) (put_first (core.declare_of (Some p) (core.named x)) (into is_mutable sure ts (to_variable (core.named x) t) j e)) (alone (core.define_of (Some p) (core.named x) (coerced t (type_of_term e) (expression_of sure e))) (coerced_in t (type_of_term e) (expression_of sure e) (expression_in e i))) (tree e i ts (to_variable (core.named x) t) j)
         tree (block_of p es) g ts k j = block_in es (inner (block_of p es) g) ts k j
         tree (labeled p l t e) g ts k j = labeled_in k p l (into is_mutable sure (record { label = l; goes_to = k } ∷ ts) k j e) (tree e (inner (labeled p l t e) g) (record { label = l; goes_to = k } ∷ ts) k j)
@@ -362,16 +373,25 @@ module _ (Q : Binding → Type 0) (runs : Member → Member) (box : Q (object_bi
             let made : List Expression → ℕ → Code = (λ es. one (break_unless (first_of es))) in
             alone (core.loop_of (Some p) (followed body.statements (then_use (spill (operand_for ts c ∷ []) body.next) made).statements)) (followed_in body.statements (then_use (spill (operand_for ts c ∷ []) body.next) made).statements (tree b g0.0 ts discard j) (act_in c g0.1 (tree c g0.1) ts body.next made (λ x i f. alone (break_unless (first_of x)) (break_in (first_of x) f))))
         tree (match_on p e cs d t) g ts k j =
-            let i0 : Each (trees e ++ cases_below cs ++ trees d) = inner (match_on p e cs d t) g in
-            let i1 : Each (trees e ++ cases_below cs) = ahead Brings (trees e ++ cases_below cs) (trees d) i0 in
-            let ge = ahead Brings (trees e) (cases_below cs) i1 in
-            act_in e ge (tree e ge) ts j (λ es j. switch_code p (first_of es) (cases is_mutable sure ts k j cs) (λ j. into is_mutable sure ts k j d)) (λ x i f. switch_in p (first_of x) (cases is_mutable sure ts k i cs).cases (into is_mutable sure ts k (cases is_mutable sure ts k i cs).next d).statements f (cases_in cs (after Brings (trees e) (cases_below cs) i1) ts k i) (tree d (after Brings (trees e ++ cases_below cs) (trees d) i0) ts k (cases is_mutable sure ts k i cs).next))
+            let i0 : Each (written e ++ cases_written cs ++ written d) = inner (match_on p e cs d t) g in
+            let i1 : Each (written e ++ cases_written cs) = ahead Brings (written e ++ cases_written cs) (written d) i0 in
+            let ge = ahead Brings (written e) (cases_written cs) i1 in
+            act_in e ge (tree e ge) ts j (λ es j. switch_code p (first_of es) (cases is_mutable sure ts k j cs) (λ j. into is_mutable sure ts k j d)) (λ x i f. switch_in p (first_of x) (cases is_mutable sure ts k i cs).cases (into is_mutable sure ts k (cases is_mutable sure ts k i cs).next d).statements f (cases_in cs (after Brings (written e) (cases_written cs) i1) ts k i) (tree d (after Brings (written e ++ cases_written cs) (written d) i0) ts k (cases is_mutable sure ts k i cs).next))
         tree (apply_static p c n m es t) g ts k j =
             let own_tree = apply_static p c n m es t in
             let os : List Operand = operands is_mutable sure ts es in
             let xs = (spill os j).expressions in
             let arguments = expressions_of (coerced_arguments m.params (types_of es) xs) in
             use_in os (operands_in es (inner own_tree g) ts) j (λ xs. finish k p t false (core.static_call (member c n m) (expressions_of (coerced_arguments m.params (types_of es) xs)))) (λ i r. finish_in k p t false (core.static_call (member c n m) arguments) i (All-cons Q (function_binding (member c n m)) (uses_in_all runs arguments) (own own_tree g) (arguments_in m.params (types_of es) xs r)))
+        tree (apply p e m es t) g ts k j =
+            let own_tree = apply p e m es t in
+            let g0 = call e es (inner own_tree g) in
+            let os : List Operand = receiver_for ts e ∷ operands is_mutable sure ts es in
+            let xs = (spill os j).expressions in
+            let target = coerced_receiver (type_of_term e) (first_of xs) in
+            let arguments = expressions_of (coerced_arguments m.params (types_of es) (rest_of xs)) in
+            let names = call_uses runs (callee_of (type_of_term e) m) in
+            use_in os (target_in e (own own_tree g).1 g0.0 (tree e g0.0) ts, operands_in es g0.1 ts) j (λ xs. finish k p t false (core.receiver_call (callee_of (type_of_term e) m) (coerced_receiver (type_of_term e) (first_of xs)) (expressions_of (coerced_arguments m.params (types_of es) (rest_of xs))))) (λ i r. finish_in k p t false (core.receiver_call (callee_of (type_of_term e) m) target arguments) i (join (names ++ uses_in runs target) (uses_in_all runs arguments) (join names (uses_in runs target) (own own_tree g).0 (coerced_in (IrType.Class (codes "java.lang.Character")) (type_of_term e) (first_of xs) (first_in xs r))) (arguments_in m.params (types_of es) (rest_of xs) (rest_in xs r))))
         tree (apply_statically p e c n m es t) g ts k j =
             let own_tree = apply_statically p e c n m es t in
             let g0 = call e es (inner own_tree g) in
@@ -379,7 +399,7 @@ module _ (Q : Binding → Type 0) (runs : Member → Member) (box : Q (object_bi
             let xs = (spill os j).expressions in
             let target = coerced_receiver (type_of_term e) (first_of xs) in
             let arguments = expressions_of (coerced_arguments m.params (types_of es) (rest_of xs)) in
-            use_in os (target_in e (own own_tree g).1 g0.0 (tree e g0.0) ts, operands_in es g0.1 ts) j (λ xs. finish k p t false (core.receiver_call (member c n m) (coerced_receiver (type_of_term e) (first_of xs)) (expressions_of (coerced_arguments m.params (types_of es) (rest_of xs))))) (λ i r. finish_in k p t false (core.receiver_call (member c n m) target arguments) i (All-cons Q (function_binding (called_member runs n (member c n m))) (uses_in runs target ++ uses_in_all runs arguments) (own own_tree g).0 (join (uses_in runs target) (uses_in_all runs arguments) (coerced_in (IrType.Class (codes "java.lang.Character")) (type_of_term e) (first_of xs) (first_in xs r)) (arguments_in m.params (types_of es) (rest_of xs) (rest_in xs r)))))
+            use_in os (target_in e (own own_tree g).1 g0.0 (tree e g0.0) ts, operands_in es g0.1 ts) j (λ xs. finish k p t false (core.receiver_call (callees.Member (member c n m)) (coerced_receiver (type_of_term e) (first_of xs)) (expressions_of (coerced_arguments m.params (types_of es) (rest_of xs))))) (λ i r. finish_in k p t false (core.receiver_call (callees.Member (member c n m)) target arguments) i (All-cons Q (function_binding (called_member runs n (member c n m))) (uses_in runs target ++ uses_in_all runs arguments) (own own_tree g).0 (join (uses_in runs target) (uses_in_all runs arguments) (coerced_in (IrType.Class (codes "java.lang.Character")) (type_of_term e) (first_of xs) (first_in xs r)) (arguments_in m.params (types_of es) (rest_of xs) (rest_in xs r)))))
         tree (new_object p c m es) g ts k j =
             let own_tree = new_object p c m es in
             let os : List Operand = operands is_mutable sure ts es in
@@ -419,19 +439,19 @@ module _ (Q : Binding → Type 0) (runs : Member → Member) (box : Q (object_bi
         tree (log_line p e) g ts k j = let i0 = inner (log_line p e) g in act_in e i0 (tree e i0) ts j (λ es. one (core.log_of (Some p) (first_of es))) (λ x i f. alone (core.log_of (Some p) (first_of x)) f)
         tree t g ts k j = none
 
-        block_in : (es : Terms) → Each (all_below es) → (ts : Targets) (k : Destination) (j : ℕ) → Within (block is_mutable sure ts k j es).statements
+        block_in : (es : Terms) → Each (all_written es) → (ts : Targets) (k : Destination) (j : ℕ) → Within (block is_mutable sure ts k j es).statements
         block_in no_terms g ts k j = none
-        block_in (more_terms t no_terms) g ts k j = tree t (ahead Brings (trees t) [] g) ts k j
-        block_in (more_terms t (more_terms u us)) g ts k j = followed_in (into is_mutable sure ts discard j t).statements (block is_mutable sure ts k (into is_mutable sure ts discard j t).next (more_terms u us)).statements (tree t (ahead Brings (trees t) (all_below (more_terms u us)) g) ts discard j) (block_in (more_terms u us) (after Brings (trees t) (all_below (more_terms u us)) g) ts k (into is_mutable sure ts discard j t).next)
+        block_in (more_terms t no_terms) g ts k j = tree t (ahead Brings (written t) [] g) ts k j
+        block_in (more_terms t (more_terms u us)) g ts k j = followed_in (into is_mutable sure ts discard j t).statements (block is_mutable sure ts k (into is_mutable sure ts discard j t).next (more_terms u us)).statements (tree t (ahead Brings (written t) (all_written (more_terms u us)) g) ts discard j) (block_in (more_terms u us) (after Brings (written t) (all_written (more_terms u us)) g) ts k (into is_mutable sure ts discard j t).next)
 
-        operands_in : (es : Terms) → Each (all_below es) → (ts : Targets) → OperandsIn (operands is_mutable sure ts es)
+        operands_in : (es : Terms) → Each (all_written es) → (ts : Targets) → OperandsIn (operands is_mutable sure ts es)
         operands_in no_terms g ts = tt
-        operands_in (more_terms t es) g ts = let g0 = ahead Brings (trees t) (all_below es) g in (part_in t g0 (tree t g0) ts, operands_in es (after Brings (trees t) (all_below es) g) ts)
+        operands_in (more_terms t es) g ts = let g0 = ahead Brings (written t) (all_written es) g in (part_in t g0 (tree t g0) ts, operands_in es (after Brings (written t) (all_written es) g) ts)
 
-        cases_in : (cs : Cases) → Each (cases_below cs) → (ts : Targets) (k : Destination) (j : ℕ) → All Q (uses_of_cases runs (cases is_mutable sure ts k j cs).cases)
+        cases_in : (cs : Cases) → Each (cases_written cs) → (ts : Targets) (k : Destination) (j : ℕ) → All Q (uses_of_cases runs (cases is_mutable sure ts k j cs).cases)
         cases_in no_cases g ts k j = none
-        cases_in (more_cases [] t cs) g ts k j = cases_in cs (after Brings (trees t) (cases_below cs) g) ts k j
+        cases_in (more_cases [] t cs) g ts k j = cases_in cs g ts k j
         cases_in (more_cases (n ∷ ns) t cs) g ts k j =
             let body : Code = into is_mutable sure ts k j t in
             let end = core.statement (core.break_nearest None) core.no_statements in
-            join (uses_of_all runs (followed body.statements end)) (uses_of_cases runs (cases is_mutable sure ts k body.next cs).cases) (followed_in body.statements end (tree t (ahead Brings (trees t) (cases_below cs) g) ts k j) none) (cases_in cs (after Brings (trees t) (cases_below cs) g) ts k body.next)
+            join (uses_of_all runs (followed body.statements end)) (uses_of_cases runs (cases is_mutable sure ts k body.next cs).cases) (followed_in body.statements end (tree t (ahead Brings (written t) (cases_written cs) g) ts k j) none) (cases_in cs (after Brings (written t) (cases_written cs) g) ts k body.next)

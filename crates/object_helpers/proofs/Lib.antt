@@ -3,3 +3,4 @@ pub mod Brought
 pub mod Named
 pub mod Pieces
 pub mod Sures
+pub mod WrittenTrees

@@ -1,5 +1,5 @@
 -- The helpers of the pieces of a linked world: each piece uses none but these, and what they use are these again.
-use Rattle.dispatch_laws.specs.Targets.{target_in}
+use Rattle.dispatch_laws.specs.Targets.{lookup_in}
 use Rattle.std.proofs.Common.{◌≡◌, Bool, true, false, List, [], ◌∷◌, ◌++◌, ◌||◌, ◌⊎◌, inl, inr, ⊎_elim, Option, Some, None, refl, sym, subst, codes, map, Contains, if◌then◌else◌}
 use Rattle.std.specs.Prelude.{is_none}
 use Rattle.std.specs.List.{All, flat_map}
@@ -236,7 +236,7 @@ module _ (entries : List EntryPoint) (files : List SourceFile) (l : Linked) (all
       let o = owner_of l.world e.member e.definition (bodies.found e i).found in
       let among = Contains-permutation l.world accepted.classes o.owner (IsPermutation-sym accepted.classes l.world accepted.world.sorted.same) o.in_world in
       let kept = class-keeps o.owner (accepted.kept o.owner among) e.definition o.listed in
-      weaken (piece_of_member l.world e).uses (all_used (target_in l.world) o.owner e.definition e.its_body (bodies.found e i).has_body kept)
+      weaken (piece_of_member l.world e).uses (all_used (lookup_in l.world) o.owner e.definition e.its_body (bodies.found e i).has_body kept)
     where
       weaken : (bs : List Binding) → All (Only (UsesIt (asked_in e.its_body))) bs → All Q bs
       weaken bs h = All-weaker (Only (UsesIt (asked_in e.its_body))) Q (λ b f k same. of_body e i k (f k same)) bs h

@@ -1,4 +1,5 @@
 -- Laws of the helpers that the pieces of a linked world use.
+use Rattle.sj_core.specs.Lookup.{Lookup}
 use Rattle.sj_names.specs.declared.method_names.Member.{Member}
 use Rattle.std.specs.Prelude.{◌≡◌, true, List, Some, Contains}
 use Rattle.body_uses.specs.Accepted.{IsAccepted}
@@ -30,7 +31,7 @@ use Rattle.object_helpers.specs.Helpers.{is_object_helper, UsesIt}
 
 -- a helper that the code of a body uses, in a method that keeps the local rules, is one that what the body asks for allows
 abbrev pub BodiesUseObjectHelpers : Type 0
-BodiesUseObjectHelpers = (runs : Member → Member) (c : ClassDef) (d : MethodDef) (e : Term) (h : Helper)
+BodiesUseObjectHelpers = (runs : Lookup) (c : ClassDef) (d : MethodDef) (e : Term) (h : Helper)
     → d.body ≡ Some e
     → KeepsTreeRules c d
     → Contains (uses runs (desugared_member d e).body) (helper (helper_name h))

@@ -13,10 +13,11 @@ ghost use Rattle.sj_core.specs.Views as core;
 ghost use Rattle.sj_names.specs.declared.method_names.Namespace.TheVariants.{Constructor};
 ghost use Rattle.sure_receivers.specs.Sure as receivers;
 
+use crate::callees::{callee_on, member_called};
 use crate::coercions::{coerced, coerced_argument};
 use crate::sure::is_sure;
 use crate::texts::operand_of;
-use sj_core::{CoreExpression, CoreVariable};
+use sj_core::{Callee, CoreExpression, CoreVariable};
 use sj_names::{ClassName, FieldName, LocalName, Member, MethodName, Namespace, NoMemory, TypeRef};
 use sj_trees::{BinaryOp, IrType, Tree, type_of};
 use std::alloc::Global;
@@ -41,10 +42,15 @@ pub fn expression_of(
             let arguments = arguments_of(alloc, sure, method.params.as_slice(), trees)?;
             static_call(class, *namespace, method, arguments)
         }
-        Tree::ApplyStatically(_, receiver, class, namespace, method, trees, _) => {
-            let receiver = called(alloc, sure, receiver)?;
+        Tree::Apply(_, object, method, trees, _) => {
+            let callee = callee_on(alloc, object, method)?;
             let arguments = arguments_of(alloc, sure, method.params.as_slice(), trees)?;
-            receiver_call(class, *namespace, method, receiver, arguments)
+            call_on(alloc, sure, callee, object, arguments)
+        }
+        Tree::ApplyStatically(_, object, class, namespace, method, trees, _) => {
+            let callee = member_called(class, *namespace, method)?;
+            let arguments = arguments_of(alloc, sure, method.params.as_slice(), trees)?;
+            call_on(alloc, sure, callee, object, arguments)
         }
         Tree::This(_, _) => Ok(CoreExpression::Variable(CoreVariable::Receiver)),
         Tree::New(_, class, method, trees) => {
@@ -95,7 +101,6 @@ pub fn expression_of(
         | Tree::Match(_, _, _, _, _)
         | Tree::LoadModule(_, _)
         | Tree::StoreModule(_, _, _)
-        | Tree::Apply(_, _, _, _, _)
         | Tree::NewArray(_, _, _)
         | Tree::ArrayValue(_, _, _)
         | Tree::ArrayLength(_, _)
@@ -148,6 +153,21 @@ fn called(alloc: Global, sure: &[LocalName], tree: &Tree) -> Result<Box<CoreExpr
     let own = type_of(alloc, tree)?;
     let value = received(alloc, sure, tree)?;
     coerced_receiver(alloc, &own, value)
+}
+
+// A call on the value of a tree.
+#[cycle(expression)]
+fn call_on(
+    alloc: Global,
+    sure: &[LocalName],
+    callee: Callee,
+    object: &Tree,
+    arguments: Vec<CoreExpression>,
+) -> Result<CoreExpression, NoMemory>
+    ensures { IfOk result (λ e. expression_view e ≡ terms.receiver_call callee (coercions.coerced_receiver (type_of_term (view object.now)) (desugar.received_text (receivers.is_sure (plain.is_among sure.now) (view object.now)) (desugar.expression_of (plain.is_among sure.now) (view object.now)))) (core.expressions_view arguments.items)) }
+{
+    let receiver = called(alloc, sure, object)?;
+    Ok(receiver_call(callee, receiver, arguments))
 }
 
 // A branch of a choice of this type, or an operand where it is expected.
@@ -282,27 +302,15 @@ pub fn coerced_receiver(
     }
 }
 
-/// A call of a member on a receiver.
+/// A call on a receiver.
 pub fn receiver_call(
-    class: &ClassName,
-    namespace: Namespace,
-    method: &MethodName,
+    callee: Callee,
     receiver: Box<CoreExpression>,
     arguments: Vec<CoreExpression>,
-) -> Result<CoreExpression, NoMemory>
-    ensures { IfOk result (λ e. expression_view e ≡ terms.receiver_call (desugar.member class.now namespace method.now) (expression_view receiver.value) (core.expressions_view arguments.items)) }
+) -> CoreExpression
+    ensures { expression_view result ≡ terms.receiver_call callee (expression_view receiver.value) (core.expressions_view arguments.items) }
 {
-    let class = class.copied()?;
-    let method = method.copied()?;
-    Ok(CoreExpression::ReceiverCall(
-        Member {
-            class,
-            namespace,
-            method,
-        },
-        receiver,
-        arguments,
-    ))
+    CoreExpression::ReceiverCall(callee, receiver, arguments)
 }
 
 /// A new object of the class, on which this constructor of it runs.

@@ -4,6 +4,7 @@
 //! `sj_desugar` and `sure_receivers` define them.
 #![tactic(auto)]
 
+mod callees;
 mod coercions;
 mod expressions;
 mod locals;
@@ -12,6 +13,7 @@ mod positions;
 mod sure;
 mod texts;
 
+pub use callees::{callee_on, member_called};
 pub use coercions::{coerced, coerced_argument};
 pub use expressions::{
     cast, checked, coerced_receiver, expression_of, field_of, local_use, made, receiver_call,

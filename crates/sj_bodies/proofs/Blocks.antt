@@ -69,7 +69,7 @@ undeclared c own j code out ahead g = record {
 
 module _ (z : Setting) (lawful : Lawful z) (c : Context) (ss : core.Statements) (free : Undeclared c ss) where
   abbrev shown_statements : tree.Statements
-  shown_statements = statement_templates z.place.name z.place.label (usable z).target ss
+  shown_statements = statement_templates z.place.name z.place.label (usable z).lookup ss
 
   -- a variable that isn't declared is no declared name
   not_declared : (y : core.Variable) → (Declares ss y → ⊥) → is_among (declared shown_statements) (z.place.name y) ≡ false
@@ -77,14 +77,14 @@ module _ (z : Setting) (lawful : Lawful z) (c : Context) (ss : core.Statements) 
     where
       go : (b : Bool) → is_among (declared shown_statements) (z.place.name y) ≡ b → is_among (declared shown_statements) (z.place.name y) ≡ false
       go false e = e
-      go true e = let n = declared-named z.place.name z.place.label (usable z).target ss (z.place.name y) e in absurd (h (subst (Declares ss) (lawful.base.names.variables n.variable y n.name) n.declares))
+      go true e = let n = declared-named z.place.name z.place.label (usable z).lookup ss (z.place.name y) e in absurd (h (subst (Declares ss) (lawful.base.names.variables n.variable y n.name) n.declares))
 
   not_among : (x : Name) → OfNoVariable z.place x → is_among (declared shown_statements) x ≡ false
   not_among x none = go (is_among (declared shown_statements) x) refl
     where
       go : (b : Bool) → is_among (declared shown_statements) x ≡ b → is_among (declared shown_statements) x ≡ false
       go false e = e
-      go true e = let n = declared-named z.place.name z.place.label (usable z).target ss x e in absurd (none n.variable n.name)
+      go true e = let n = declared-named z.place.name z.place.label (usable z).lookup ss x e in absurd (none n.variable n.name)
 
   entered : (sc : js.Scope) (n : Name) → is_among (declared shown_statements) n ≡ false → (js_meaning.enter shown_statements sc).bindings n ≡ sc.bindings n
   entered sc n h = bind-undeclared shown_statements sc.bindings n h

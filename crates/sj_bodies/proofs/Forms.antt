@@ -186,12 +186,12 @@ module _ (z : Setting) (lawful : Lawful z) where
   came-narrow c d inner scope k from y before sc q t within turn out sub more g ks _ _ (stopped w env s sc' u h0 h r kp same) = stopped w env s sc' u (turn h0) (grows-trans from y w g h) (subst (λ x. Ready z.place z.code c.scope x w env sc') q (narrower d.scope c.scope d.writable w env sc' out r)) (keeps-trans z c.kept before sc sc' ks (keeps-fewer z d.kept c.kept sc sc' more kp)) same
 
   -- a branch by a condition: both branches stand in blocks of their own
-  choice_shown : (e : core.Expression) (a b : core.Statements) (sc : js.Scope) (u : js.State) (p : Position) → act_of z (core.if_of (Some p) e a b) sc u ≡ then_do (shown z e sc u) (js.in_statement sc (λ v. js_meaning.taken (js_meaning.in_block (statement_templates z.place.name z.place.label (usable z).target a) (run z a)) (js_meaning.in_block (statement_templates z.place.name z.place.label (usable z).target b) (run z b)) v sc))
+  choice_shown : (e : core.Expression) (a b : core.Statements) (sc : js.Scope) (u : js.State) (p : Position) → act_of z (core.if_of (Some p) e a b) sc u ≡ then_do (shown z e sc u) (js.in_statement sc (λ v. js_meaning.taken (js_meaning.in_block (statement_templates z.place.name z.place.label (usable z).lookup a) (run z a)) (js_meaning.in_block (statement_templates z.place.name z.place.label (usable z).lookup b) (run z b)) v sc))
   choice_shown e a core.no_statements sc u p = refl
   choice_shown e a (core.statement t ts) sc u p = refl
 
   pub if_final : (c : Context) (k : Destination) (p : Position) (a b : ℕ → Code) (first second : ir.Run) (j : ℕ) → Sound z.is_mutable c → Writes c.writable k → ((i : ℕ) → j ≤ i → i ≤ (a i).next) → ((i : ℕ) → j ≤ i → Ahead c i → Undeclared c (a i).statements) → ((i : ℕ) → j ≤ i → Ahead c i → Undeclared c (b i).statements) → ((i : ℕ) → j ≤ i → Ahead c i → (w : World) (env : ir.Env) (s : ir.State) (sc : js.Scope) (u : js.State) → Ready z.place z.code c.scope c.writable w env sc → SameState z.place w s u → Ends z lawful c c.scope k w sc (first env s) (a i).statements sc u) → ((i : ℕ) → j ≤ i → Ahead c i → (w : World) (env : ir.Env) (s : ir.State) (sc : js.Scope) (u : js.State) → Ready z.place z.code c.scope c.writable w env sc → SameState z.place w s u → Ends z lawful c c.scope k w sc (second env s) (b i).statements sc u) → (own : IrType) (w : World) (sc : js.Scope) → OneFinal c k w sc j own (ir_meaning.branch first second) (λ es i. branches p (first_of es) (a i) b)
-  if_final c k p a b first second j sound wr up free_a free_b does_a does_b own from before i r e w env s sc u ahead l g ready ks same operand = ends-one z lawful c c.scope k from before (ir_meaning.in_order (r ∷ []) (ir_meaning.branch first second) env s) (core.if_of (Some p) e (a i).statements (b (a i).next).statements) sc u (subst (λ o. Sim z.direction (Came z.place z.code c c.scope k from before) (ir_meaning.in_order (r ∷ []) (ir_meaning.branch first second) env s) o) (sym (choice_shown e (a i).statements (b (a i).next).statements sc u p)) (act_alike (Came z.place z.code c c.scope k from before) w env s sc u own r e (ir_meaning.branch first second) (λ v. js_meaning.taken (js_meaning.in_block (statement_templates z.place.name z.place.label (usable z).target (a i).statements) (run z (a i).statements)) (js_meaning.in_block (statement_templates z.place.name z.place.label (usable z).target (b (a i).next).statements) (run z (b (a i).next).statements)) v sc) operand same (throws-on z lawful c c.scope k from w before env sc g ks ready) (λ y v x s u h a same. goes y v x s u h a.stands same)))
+  if_final c k p a b first second j sound wr up free_a free_b does_a does_b own from before i r e w env s sc u ahead l g ready ks same operand = ends-one z lawful c c.scope k from before (ir_meaning.in_order (r ∷ []) (ir_meaning.branch first second) env s) (core.if_of (Some p) e (a i).statements (b (a i).next).statements) sc u (subst (λ o. Sim z.direction (Came z.place z.code c c.scope k from before) (ir_meaning.in_order (r ∷ []) (ir_meaning.branch first second) env s) o) (sym (choice_shown e (a i).statements (b (a i).next).statements sc u p)) (act_alike (Came z.place z.code c c.scope k from before) w env s sc u own r e (ir_meaning.branch first second) (λ v. js_meaning.taken (js_meaning.in_block (statement_templates z.place.name z.place.label (usable z).lookup (a i).statements) (run z (a i).statements)) (js_meaning.in_block (statement_templates z.place.name z.place.label (usable z).lookup (b (a i).next).statements) (run z (b (a i).next).statements)) v sc) operand same (throws-on z lawful c c.scope k from w before env sc g ks ready) (λ y v x s u h a same. goes y v x s u h a.stands same)))
     where
       later : j ≤ (a i).next
       later = let h = up i l in omega arith
@@ -199,9 +199,9 @@ module _ (z : Setting) (lawful : Lawful z) where
       behind : Ahead c (a i).next
       behind = ahead-later c i (a i).next (up i l) ahead
 
-      goes : (y : World) (v : ir.Value) (x : js.Value) (s : ir.State) (u : js.State) → Grows w y → Stands y (is_char own) v x → SameState z.place y s u → Sim z.direction (Came z.place z.code c c.scope k from before) (ir_meaning.branch first second (v ∷ []) env s) (js_meaning.taken (js_meaning.in_block (statement_templates z.place.name z.place.label (usable z).target (a i).statements) (run z (a i).statements)) (js_meaning.in_block (statement_templates z.place.name z.place.label (usable z).target (b (a i).next).statements) (run z (b (a i).next).statements)) x sc u)
-      goes y _ _ s u h (same_boolean true) same = rebased c c.scope k from y before sc (first env s) (js_meaning.in_block (statement_templates z.place.name z.place.label (usable z).target (a i).statements) (run z (a i).statements) sc u) (grows-trans from w y g h) ks (block_alike z lawful c (a i).statements (free_a i l ahead) k y env sc u (first env s) sound wr (ready-lift z c.scope c.writable w y env sc h ready) (λ inner. does_a i l ahead y env s (js_meaning.enter (statement_templates z.place.name z.place.label (usable z).target (a i).statements) sc) u inner same))
-      goes y _ _ s u h (same_boolean false) same = rebased c c.scope k from y before sc (second env s) (js_meaning.in_block (statement_templates z.place.name z.place.label (usable z).target (b (a i).next).statements) (run z (b (a i).next).statements) sc u) (grows-trans from w y g h) ks (block_alike z lawful c (b (a i).next).statements (free_b (a i).next later behind) k y env sc u (second env s) sound wr (ready-lift z c.scope c.writable w y env sc h ready) (λ inner. does_b (a i).next later behind y env s (js_meaning.enter (statement_templates z.place.name z.place.label (usable z).target (b (a i).next).statements) sc) u inner same))
+      goes : (y : World) (v : ir.Value) (x : js.Value) (s : ir.State) (u : js.State) → Grows w y → Stands y (is_char own) v x → SameState z.place y s u → Sim z.direction (Came z.place z.code c c.scope k from before) (ir_meaning.branch first second (v ∷ []) env s) (js_meaning.taken (js_meaning.in_block (statement_templates z.place.name z.place.label (usable z).lookup (a i).statements) (run z (a i).statements)) (js_meaning.in_block (statement_templates z.place.name z.place.label (usable z).lookup (b (a i).next).statements) (run z (b (a i).next).statements)) x sc u)
+      goes y _ _ s u h (same_boolean true) same = rebased c c.scope k from y before sc (first env s) (js_meaning.in_block (statement_templates z.place.name z.place.label (usable z).lookup (a i).statements) (run z (a i).statements) sc u) (grows-trans from w y g h) ks (block_alike z lawful c (a i).statements (free_a i l ahead) k y env sc u (first env s) sound wr (ready-lift z c.scope c.writable w y env sc h ready) (λ inner. does_a i l ahead y env s (js_meaning.enter (statement_templates z.place.name z.place.label (usable z).lookup (a i).statements) sc) u inner same))
+      goes y _ _ s u h (same_boolean false) same = rebased c c.scope k from y before sc (second env s) (js_meaning.in_block (statement_templates z.place.name z.place.label (usable z).lookup (b (a i).next).statements) (run z (b (a i).next).statements) sc u) (grows-trans from w y g h) ks (block_alike z lawful c (b (a i).next).statements (free_b (a i).next later behind) k y env sc u (second env s) sound wr (ready-lift z c.scope c.writable w y env sc h ready) (λ inner. does_b (a i).next later behind y env s (js_meaning.enter (statement_templates z.place.name z.place.label (usable z).lookup (b (a i).next).statements) sc) u inner same))
       goes y _ _ s u h _ same = sim_wrong z.direction (Came z.place z.code c c.scope k from before) _
 
   -- a definition: the local holds its first value, and is in scope behind it

@@ -110,7 +110,7 @@ module _ (z : Setting) (lawful : Lawful z) where
       go false h = subst (λ (b : Bool). Sim z.direction (Came z.place z.code c c.scope (to_result t) w sc) (if b then ir.given v env s else done (ir.ends (ir.leaves m v) env s)) (done (js.ends e sc' u))) (sym h) (sim_done z.direction (Came z.place z.code c c.scope (to_result t) w sc) (ir.ends (ir.leaves m v) env s) (js.ends e sc' u) (left y m v env s sc' u e (past_label c l m h reach) g (subst (λ d. Arrives z.place y v sc' (js.breaks (z.place.label m)) d e) (other_target c l m (to_result t) h) a) r (subst (λ d. Keeps z.place (Less c.kept d) sc sc') (other_target c l m (to_result t) h) ks) same))
 
   block_labeled : (c : Context) (l : List ℕ) (k : Destination) (plain : (t : IrType) → k ≡ to_result t → ⊥) (p : Position) (r : ir.Run) (code : Code) → Sound z.is_mutable (labelling c l k) → Writes c.writable k → Undeclared (labelling c l k) code.statements → ((w : World) (env : ir.Env) (s : ir.State) (sc : js.Scope) (u : js.State) → Ready z.place z.code c.scope c.writable w env sc → SameState z.place w s u → Sim z.direction (Came z.place z.code (labelling c l k) c.scope k w sc) (r env s) (run z code.statements sc u)) → (w : World) (env : ir.Env) (s : ir.State) (sc : js.Scope) (u : js.State) → Ready z.place z.code c.scope c.writable w env sc → SameState z.place w s u → Ends z lawful c c.scope k w sc (then_do (r env s) (ir_meaning.arrive l)) (core.statement (core.labeled_of (Some p) l code.statements) core.no_statements) sc u
-  block_labeled c l k plain p r code sound wr free does w env s sc u ready same = ends-one z lawful c c.scope k w sc (then_do (r env s) (ir_meaning.arrive l)) (core.labeled_of (Some p) l code.statements) sc u (sim_then z.direction (Came z.place z.code (labelling c l k) c.scope k w sc) (Came z.place z.code c c.scope k w sc) (r env s) (js_meaning.in_block (statement_templates z.place.name z.place.label (usable z).target code.statements) (run z code.statements) sc u) (ir_meaning.arrive l) (js_meaning.arrive (z.place.label l)) (block_alike z lawful (labelling c l k) code.statements free k w env sc u (r env s) sound wr ready (λ inner. does w env s (js_meaning.enter (statement_templates z.place.name z.place.label (usable z).target code.statements) sc) u inner same)) (arrive_block c l k plain w sc))
+  block_labeled c l k plain p r code sound wr free does w env s sc u ready same = ends-one z lawful c c.scope k w sc (then_do (r env s) (ir_meaning.arrive l)) (core.labeled_of (Some p) l code.statements) sc u (sim_then z.direction (Came z.place z.code (labelling c l k) c.scope k w sc) (Came z.place z.code c c.scope k w sc) (r env s) (js_meaning.in_block (statement_templates z.place.name z.place.label (usable z).lookup code.statements) (run z code.statements) sc u) (ir_meaning.arrive l) (js_meaning.arrive (z.place.label l)) (block_alike z lawful (labelling c l k) code.statements free k w env sc u (r env s) sound wr ready (λ inner. does w env s (js_meaning.enter (statement_templates z.place.name z.place.label (usable z).lookup code.statements) sc) u inner same)) (arrive_block c l k plain w sc))
 
   pub labeled_alike : (c : Context) (l : List ℕ) (k : Destination) (p : Position) (r : ir.Run) (code : Code) → Sound z.is_mutable (labelling c l k) → Writes c.writable k → Undeclared (labelling c l k) code.statements → ((w : World) (env : ir.Env) (s : ir.State) (sc : js.Scope) (u : js.State) → Ready z.place z.code c.scope c.writable w env sc → SameState z.place w s u → Sim z.direction (Came z.place z.code (labelling c l k) c.scope k w sc) (r env s) (run z code.statements sc u)) → (w : World) (env : ir.Env) (s : ir.State) (sc : js.Scope) (u : js.State) → Ready z.place z.code c.scope c.writable w env sc → SameState z.place w s u → Ends z lawful c c.scope k w sc (then_do (r env s) (ir_meaning.arrive l)) (labeled_code k p l code).statements sc u
   labeled_alike c l discard p r code sound wr free does w env s sc u ready same = block_labeled c l discard (λ t e. absurd (cc)) p r code sound wr free does w env s sc u ready same

@@ -62,38 +62,38 @@ module _ (z : Setting) (lawful : Lawful z) where
   ahead-turn c k j h = record { writable = h.writable; kept = h.kept }
 
   -- a turn whose statements stand in a block, and the turns behind it
-  pub turn_alike : (c : Context) (k : Destination) (turn next : ir.Run) (ss : core.Statements) (js_next : js.Execution) → Sound z.is_mutable c → Undeclared c ss → Alike (in_turn c k) discard turn (run z ss) → Alike c k next js_next → (w : World) (env : ir.Env) (s : ir.State) (sc : js.Scope) (u : js.State) → Ready z.place z.code c.scope c.writable w env sc → SameState z.place w s u → Sim z.direction (Came z.place z.code c c.scope k w sc) (then_do (turn env s) (ir_meaning.after_turn next)) (then_do (js_meaning.in_block (statement_templates z.place.name z.place.label (usable z).target ss) (run z ss) sc u) (js_meaning.next_turn js_next))
-  turn_alike c k turn next ss js_next sound free does low w env s sc u ready same = sim_then z.direction (Came z.place z.code (in_turn c k) c.scope discard w sc) (Came z.place z.code c c.scope k w sc) (turn env s) (js_meaning.in_block (statement_templates z.place.name z.place.label (usable z).target ss) (run z ss) sc u) (ir_meaning.after_turn next) (js_meaning.next_turn js_next) (block_alike z lawful (in_turn c k) ss (undeclared-turn c k ss free) discard w env sc u (turn env s) (sound-turn c k sound) tt ready (λ inner. does w env s (js_meaning.enter (statement_templates z.place.name z.place.label (usable z).target ss) sc) u inner same)) (turns c k next js_next low w sc)
+  pub turn_alike : (c : Context) (k : Destination) (turn next : ir.Run) (ss : core.Statements) (js_next : js.Execution) → Sound z.is_mutable c → Undeclared c ss → Alike (in_turn c k) discard turn (run z ss) → Alike c k next js_next → (w : World) (env : ir.Env) (s : ir.State) (sc : js.Scope) (u : js.State) → Ready z.place z.code c.scope c.writable w env sc → SameState z.place w s u → Sim z.direction (Came z.place z.code c c.scope k w sc) (then_do (turn env s) (ir_meaning.after_turn next)) (then_do (js_meaning.in_block (statement_templates z.place.name z.place.label (usable z).lookup ss) (run z ss) sc u) (js_meaning.next_turn js_next))
+  turn_alike c k turn next ss js_next sound free does low w env s sc u ready same = sim_then z.direction (Came z.place z.code (in_turn c k) c.scope discard w sc) (Came z.place z.code c c.scope k w sc) (turn env s) (js_meaning.in_block (statement_templates z.place.name z.place.label (usable z).lookup ss) (run z ss) sc u) (ir_meaning.after_turn next) (js_meaning.next_turn js_next) (block_alike z lawful (in_turn c k) ss (undeclared-turn c k ss free) discard w env sc u (turn env s) (sound-turn c k sound) tt ready (λ inner. does w env s (js_meaning.enter (statement_templates z.place.name z.place.label (usable z).lookup ss) sc) u inner same)) (turns c k next js_next low w sc)
 
   -- `while` with a plain condition: it is evaluated at the head of each turn
-  pub while_alike : (c : Context) (p : Position) (own : IrType) (r body next : ir.Run) (e : core.Expression) (code : Code) (js_next : js.Execution) → Sound z.is_mutable c → Undeclared c code.statements → ((w : World) (env : ir.Env) (sc : js.Scope) → Ready z.place z.code c.scope c.writable w env sc → OperandAlike z w env sc own r (shown z e)) → Alike (in_turn c discard) discard body (run z code.statements) → Alike c discard next js_next → ((sc : js.Scope) (u : js.State) → js_next sc u ≡ z.js_low (statement_templates z.place.name z.place.label (usable z).target (wrapped (core.while_of (Some p) e) code).statements) sc u) → (w : World) (env : ir.Env) (s : ir.State) (sc : js.Scope) (u : js.State) → Ready z.place z.code c.scope c.writable w env sc → SameState z.place w s u → Ends z lawful c c.scope discard w sc (then_do (ir_meaning.in_order (r ∷ []) (ir_meaning.branch body stop) env s) (ir_meaning.after_turn next)) (wrapped (core.while_of (Some p) e) code).statements sc u
-  while_alike c p own r body next e code js_next sound free operand does low is w env s sc u ready same = ends-one z lawful c c.scope discard w sc (then_do (ir_meaning.in_order (r ∷ []) (ir_meaning.branch body stop) env s) (ir_meaning.after_turn next)) (core.while_of (Some p) e code.statements) sc u (subst (λ o. Sim z.direction (Came z.place z.code c c.scope discard w sc) o (act_of z (core.while_of (Some p) e code.statements) sc u)) (sym (then_do-associative (r env s) (ir.onward (λ v. ir_meaning.in_order [] (λ vs. ir_meaning.branch body stop (v ∷ vs)))) (ir_meaning.after_turn next))) (sim_then z.direction (Valued z.place w env own) (Came z.place z.code c c.scope discard w sc) (r env s) (shown z e sc u) (λ a. then_do (ir.onward (λ v. ir_meaning.in_order [] (λ vs. ir_meaning.branch body stop (v ∷ vs))) a) (ir_meaning.after_turn next)) (js.in_statement sc (λ v. js_meaning.taken (λ sc s. then_do (js_meaning.in_block (statement_templates z.place.name z.place.label (usable z).target code.statements) (run z code.statements) sc s) (js_meaning.next_turn low_js)) js_meaning.nothing v sc)) (operand w env sc ready w s u (grows-refl w) same) each))
+  pub while_alike : (c : Context) (p : Position) (own : IrType) (r body next : ir.Run) (e : core.Expression) (code : Code) (js_next : js.Execution) → Sound z.is_mutable c → Undeclared c code.statements → ((w : World) (env : ir.Env) (sc : js.Scope) → Ready z.place z.code c.scope c.writable w env sc → OperandAlike z w env sc own r (shown z e)) → Alike (in_turn c discard) discard body (run z code.statements) → Alike c discard next js_next → ((sc : js.Scope) (u : js.State) → js_next sc u ≡ z.js_low (statement_templates z.place.name z.place.label (usable z).lookup (wrapped (core.while_of (Some p) e) code).statements) sc u) → (w : World) (env : ir.Env) (s : ir.State) (sc : js.Scope) (u : js.State) → Ready z.place z.code c.scope c.writable w env sc → SameState z.place w s u → Ends z lawful c c.scope discard w sc (then_do (ir_meaning.in_order (r ∷ []) (ir_meaning.branch body stop) env s) (ir_meaning.after_turn next)) (wrapped (core.while_of (Some p) e) code).statements sc u
+  while_alike c p own r body next e code js_next sound free operand does low is w env s sc u ready same = ends-one z lawful c c.scope discard w sc (then_do (ir_meaning.in_order (r ∷ []) (ir_meaning.branch body stop) env s) (ir_meaning.after_turn next)) (core.while_of (Some p) e code.statements) sc u (subst (λ o. Sim z.direction (Came z.place z.code c c.scope discard w sc) o (act_of z (core.while_of (Some p) e code.statements) sc u)) (sym (then_do-associative (r env s) (ir.onward (λ v. ir_meaning.in_order [] (λ vs. ir_meaning.branch body stop (v ∷ vs)))) (ir_meaning.after_turn next))) (sim_then z.direction (Valued z.place w env own) (Came z.place z.code c c.scope discard w sc) (r env s) (shown z e sc u) (λ a. then_do (ir.onward (λ v. ir_meaning.in_order [] (λ vs. ir_meaning.branch body stop (v ∷ vs))) a) (ir_meaning.after_turn next)) (js.in_statement sc (λ v. js_meaning.taken (λ sc s. then_do (js_meaning.in_block (statement_templates z.place.name z.place.label (usable z).lookup code.statements) (run z code.statements) sc s) (js_meaning.next_turn low_js)) js_meaning.nothing v sc)) (operand w env sc ready w s u (grows-refl w) same) each))
     where
       low_js : js.Execution
-      low_js = z.js_low (statement_templates z.place.name z.place.label (usable z).target (wrapped (core.while_of (Some p) e) code).statements)
+      low_js = z.js_low (statement_templates z.place.name z.place.label (usable z).lookup (wrapped (core.while_of (Some p) e) code).statements)
 
       alike_low : Alike c discard next low_js
       alike_low w env s sc u ready same = subst (λ o. Sim z.direction (Came z.place z.code c c.scope discard w sc) (next env s) o) (is sc u) (low w env s sc u ready same)
 
-      goes : (y : World) (v : ir.Value) (x : js.Value) (s : ir.State) (u : js.State) → Grows w y → Stands y (is_char own) v x → SameState z.place y s u → Sim z.direction (Came z.place z.code c c.scope discard w sc) (then_do (ir_meaning.branch body stop (v ∷ []) env s) (ir_meaning.after_turn next)) (js_meaning.taken (λ sc s. then_do (js_meaning.in_block (statement_templates z.place.name z.place.label (usable z).target code.statements) (run z code.statements) sc s) (js_meaning.next_turn low_js)) js_meaning.nothing x sc u)
-      goes y _ _ s u g (same_boolean true) same = rebased z lawful c c.scope discard w y sc sc (then_do (body env s) (ir_meaning.after_turn next)) (then_do (js_meaning.in_block (statement_templates z.place.name z.place.label (usable z).target code.statements) (run z code.statements) sc u) (js_meaning.next_turn low_js)) g (keeps-refl z c.kept sc) (turn_alike c discard body next code.statements low_js sound free does alike_low y env s sc u (ready-lift z c.scope c.writable w y env sc g ready) same)
+      goes : (y : World) (v : ir.Value) (x : js.Value) (s : ir.State) (u : js.State) → Grows w y → Stands y (is_char own) v x → SameState z.place y s u → Sim z.direction (Came z.place z.code c c.scope discard w sc) (then_do (ir_meaning.branch body stop (v ∷ []) env s) (ir_meaning.after_turn next)) (js_meaning.taken (λ sc s. then_do (js_meaning.in_block (statement_templates z.place.name z.place.label (usable z).lookup code.statements) (run z code.statements) sc s) (js_meaning.next_turn low_js)) js_meaning.nothing x sc u)
+      goes y _ _ s u g (same_boolean true) same = rebased z lawful c c.scope discard w y sc sc (then_do (body env s) (ir_meaning.after_turn next)) (then_do (js_meaning.in_block (statement_templates z.place.name z.place.label (usable z).lookup code.statements) (run z code.statements) sc u) (js_meaning.next_turn low_js)) g (keeps-refl z c.kept sc) (turn_alike c discard body next code.statements low_js sound free does alike_low y env s sc u (ready-lift z c.scope c.writable w y env sc g ready) same)
       goes y _ _ s u g (same_boolean false) same = stops_here c discard is_discard w y env s sc sc u g (ready-lift z c.scope c.writable w y env sc g ready) (keeps-refl z c.kept sc) same
       goes y _ _ s u g _ same = sim_wrong z.direction (Came z.place z.code c c.scope discard w sc) _
 
-      each : (a : ir.Ended) (b : js.ExpressionEnd) → Valued z.place w env own a b → Sim z.direction (Came z.place z.code c c.scope discard w sc) (then_do (ir.onward (λ v. ir_meaning.in_order [] (λ vs. ir_meaning.branch body stop (v ∷ vs))) a) (ir_meaning.after_turn next)) (js.in_statement sc (λ v. js_meaning.taken (λ sc s. then_do (js_meaning.in_block (statement_templates z.place.name z.place.label (usable z).target code.statements) (run z code.statements) sc s) (js_meaning.next_turn low_js)) js_meaning.nothing v sc) b)
+      each : (a : ir.Ended) (b : js.ExpressionEnd) → Valued z.place w env own a b → Sim z.direction (Came z.place z.code c c.scope discard w sc) (then_do (ir.onward (λ v. ir_meaning.in_order [] (λ vs. ir_meaning.branch body stop (v ∷ vs))) a) (ir_meaning.after_turn next)) (js.in_statement sc (λ v. js_meaning.taken (λ sc s. then_do (js_meaning.in_block (statement_templates z.place.name z.place.label (usable z).lookup code.statements) (run z code.statements) sc s) (js_meaning.next_turn low_js)) js_meaning.nothing v sc) b)
       each _ _ (valued y v x s u g a same) = goes y v x s u g a.stands same
       each _ _ (thrown y v x s u g a same) = sim_done z.direction (Came z.place z.code c c.scope discard w sc) (ir.ends (ir.throws v) env s) (js.ends (js.thrown_with x) sc u) (throws-on z lawful c c.scope discard w w sc env sc (grows-refl w) (keeps-refl z c.kept sc) ready y v x s u g a same)
 
   -- a turn that is its block: `while (true)` and `do`
-  pub forever_alike : (c : Context) (k : Destination) (p : Position) (turn next : ir.Run) (code : Code) (st : core.Statement) → Sound z.is_mutable c → Undeclared c code.statements → Alike (in_turn c k) discard turn (run z code.statements) → Alike c k next (z.js_low (statement_templates z.place.name z.place.label (usable z).target (core.statement st core.no_statements))) → ((sc : js.Scope) (u : js.State) → act_of z st sc u ≡ then_do (js_meaning.in_block (statement_templates z.place.name z.place.label (usable z).target code.statements) (run z code.statements) sc u) (js_meaning.next_turn (z.js_low (statement_templates z.place.name z.place.label (usable z).target (core.statement st core.no_statements))))) → (w : World) (env : ir.Env) (s : ir.State) (sc : js.Scope) (u : js.State) → Ready z.place z.code c.scope c.writable w env sc → SameState z.place w s u → Ends z lawful c c.scope k w sc (then_do (turn env s) (ir_meaning.after_turn next)) (core.statement st core.no_statements) sc u
-  forever_alike c k p turn next code st sound free does low is w env s sc u ready same = ends-one z lawful c c.scope k w sc (then_do (turn env s) (ir_meaning.after_turn next)) st sc u (subst (λ o. Sim z.direction (Came z.place z.code c c.scope k w sc) (then_do (turn env s) (ir_meaning.after_turn next)) o) (sym (is sc u)) (turn_alike c k turn next code.statements (z.js_low (statement_templates z.place.name z.place.label (usable z).target (core.statement st core.no_statements))) sound free does low w env s sc u ready same))
+  pub forever_alike : (c : Context) (k : Destination) (p : Position) (turn next : ir.Run) (code : Code) (st : core.Statement) → Sound z.is_mutable c → Undeclared c code.statements → Alike (in_turn c k) discard turn (run z code.statements) → Alike c k next (z.js_low (statement_templates z.place.name z.place.label (usable z).lookup (core.statement st core.no_statements))) → ((sc : js.Scope) (u : js.State) → act_of z st sc u ≡ then_do (js_meaning.in_block (statement_templates z.place.name z.place.label (usable z).lookup code.statements) (run z code.statements) sc u) (js_meaning.next_turn (z.js_low (statement_templates z.place.name z.place.label (usable z).lookup (core.statement st core.no_statements))))) → (w : World) (env : ir.Env) (s : ir.State) (sc : js.Scope) (u : js.State) → Ready z.place z.code c.scope c.writable w env sc → SameState z.place w s u → Ends z lawful c c.scope k w sc (then_do (turn env s) (ir_meaning.after_turn next)) (core.statement st core.no_statements) sc u
+  forever_alike c k p turn next code st sound free does low is w env s sc u ready same = ends-one z lawful c c.scope k w sc (then_do (turn env s) (ir_meaning.after_turn next)) st sc u (subst (λ o. Sim z.direction (Came z.place z.code c c.scope k w sc) (then_do (turn env s) (ir_meaning.after_turn next)) o) (sym (is sc u)) (turn_alike c k turn next code.statements (z.js_low (statement_templates z.place.name z.place.label (usable z).lookup (core.statement st core.no_statements))) sound free does low w env s sc u ready same))
 
   -- `if (!c) { break; }` and what comes behind it in the turn
   abbrev negates : js.Scope → js.Value → js.State → Out js.ExpressionEnd
   negates sc v = js_meaning.negated (v ∷ []) sc
 
   abbrev breaks_if : js.Scope → js.Value → js.State → Out js.StatementEnd
-  breaks_if sc v = js_meaning.taken (js_meaning.in_block (statement_templates z.place.name z.place.label (usable z).target (core.statement (core.break_nearest None) core.no_statements)) (run z (core.statement (core.break_nearest None) core.no_statements))) js_meaning.nothing v sc
+  breaks_if sc v = js_meaning.taken (js_meaning.in_block (statement_templates z.place.name z.place.label (usable z).lookup (core.statement (core.break_nearest None) core.no_statements)) (run z (core.statement (core.break_nearest None) core.no_statements))) js_meaning.nothing v sc
 
   pub test_final : (c : Context) (k : Destination) (first : ir.Run) (body : ℕ → Code) (j : ℕ) → Sound z.is_mutable c → IsDiscard k → ((i : ℕ) → j ≤ i → Ahead (in_turn c k) i → Alike (in_turn c k) discard first (run z (body i).statements)) → (own : IrType) (w : World) (sc : js.Scope) → OneFinal z lawful (in_turn c k) discard w sc j own (ir_meaning.branch first stop) (λ es i. put_first (break_unless (first_of es)) (body i))
   test_final c k first body j sound stops does own from before i r e w env s sc u ahead l g ready ks same (more_operands _ _ _ _ _ _ told operand no_operands) = subst (λ o. Sim z.direction (Came z.place z.code (in_turn c k) c.scope discard from before) (then_do (r env s) onward_first) o) (sym regrouped) (sim_then z.direction (Valued z.place w env own) (Came z.place z.code (in_turn c k) c.scope discard from before) (r env s) (shown z e sc u) onward_first (λ b. then_do (then_do (js.with_value (negates sc) b) (js.in_statement sc (breaks_if sc))) (js.next_statement rest)) (operand w s u (grows-refl w) same) each)

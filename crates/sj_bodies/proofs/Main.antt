@@ -9,10 +9,11 @@ use Rattle.ir_mean.specs.Meaning as ir_meaning
 use Rattle.ir_mean.specs.States as ir
 use Rattle.js_mean.specs.States as js
 use Rattle.sj_core.specs.Terms as core
-use Rattle.sj_desugar.specs.Coercions.{is_char, coerced}
-use Rattle.sj_desugar.specs.Desugar.{target_of, member, into, block, first_of, second_of, finish, branches, cases, switch_code}
-use Rattle.sj_desugar.specs.Spill.{Destination, discard, to_variable, to_result, Code, one}
-use Rattle.sj_trees.specs.Term.{Term, Terms, no_terms, more_terms, Cases, no_cases, more_cases, var_def, skip, block_of, labeled, assign, return_to, if_then, while_loop, do_while, throw, match_on, new_object, select, select_static, apply_statically, this_ref, apply_static, unary_op, binary_op, is_instance_of, as_instance_of, undefined_literal, null_literal, boolean_literal, char_literal, byte_literal, short_literal, int_literal, long_literal, string_literal, var_ref, log_line}
+use Rattle.sj_core.specs.Views.{expressions_of}
+use Rattle.sj_desugar.specs.Coercions.{is_char, coerced, coerced_arguments, coerced_receiver}
+use Rattle.sj_desugar.specs.Desugar.{target_of, member, types_of, into, block, receiver, operands, first_of, second_of, rest_of, finish, branches, cases, switch_code}
+use Rattle.sj_desugar.specs.Spill.{Destination, discard, to_variable, to_result, Code, one, spill, then_use}
+use Rattle.sj_trees.specs.Term.{Term, Terms, no_terms, more_terms, Cases, no_cases, more_cases, var_def, skip, block_of, labeled, assign, return_to, if_then, while_loop, do_while, throw, match_on, new_object, select, select_static, apply, apply_statically, this_ref, apply_static, unary_op, binary_op, is_instance_of, as_instance_of, undefined_literal, null_literal, boolean_literal, char_literal, byte_literal, short_literal, int_literal, long_literal, string_literal, var_ref, log_line}
 use Rattle.sj_trees.specs.TypeOf.{type_of_term, type_of_last, unary_result, binary_result}
 use Rattle.sj_trees.specs.declared.operators.BinaryOp.{BinaryOp}
 use Rattle.sj_trees.specs.declared.operators.UnaryOp.{UnaryOp}
@@ -39,6 +40,8 @@ use Rattle.sj_names.specs.declared.method_names.MethodName.{MethodName}
 use Rattle.sj_names.specs.declared.method_names.Namespace.{Namespace}
 use Rattle.sj_names.specs.declared.method_names.Namespace.TheVariants.{Public, Private, Constructor}
 use Rattle.body_rules.specs.Typing.{Scene, in_label, Typed, TypedBlock, TypedAll, TypedCases, may_check}
+use Rattle.body_rules.proofs.Direct.{Direct, direct}
+use Rattle.ir_mean.proofs.HijackedCalls.{hijacked_call}
 use Rattle.body_rules.proofs.Mutable.{of_first, of_second, of_definition, front, front_cases}
 use Rattle.sj_plain.specs.Conditions.{IsNoConstruction, Plain}
 use Rattle.sj_desugar.specs.Plain.{is_plain, mutable_in, mutable_in_all, mutable_in_cases}
@@ -366,6 +369,22 @@ module _ (z : Setting) (lawful : Lawful z) (low : LowAlike z) where
   statically_does p e d Constructor m ts t does_e do_all c k j sound ahead out wr fine = let its = constructed z.place.classes (usable z) fine.scene p e d m ts t (called e m ts t c k fine.boxed).1 fine.typed in construct_by p e d m ts t does_e do_all c k j sound ahead out fine its (given_up z.place.classes lawful.base.ordered k (subst (Asks z.place.classes k) its.none fine.asks))
   statically_does p e d n m ts t does_e do_all c k j sound ahead out wr fine = impossible fine.typed.0.built
 
+  -- a call that is looked up, on a receiver of a hijacked class: a call of the member that this class runs
+  applied_does : (p : Position) (e : Term) (m : MethodName) (ts : Terms) (t : IrType) → TreeDoes z lawful low e → OperandsFine ts → TreeDoes z lawful low (apply p e m ts t)
+  applied_does p e m ts t does_e do_all c k j sound ahead out wr fine w env s sc u r same = subst (λ o. Ends z lawful c c.scope k w sc o (into z.is_mutable z.code.sure c.targets k j (apply p e m ts t)).statements sc u) (λ i. ir_meaning.in_order (ir_meaning.receiving z.place.classes (is_sure env.sure e) z.low (ir_meaning.step z.place.classes z.low e) ∷ ir_meaning.operands z.place.classes z.low ts) (sym runs i) env s) (subst (λ (a : Code). Ends z lawful c c.scope k w sc (ir_meaning.step z.place.classes z.low (apply_statically p e d.is.direct.class Public m ts t) env s) a.statements sc u) (sym same_code) (statically_does p e d.is.direct.class Public m ts t does_e do_all c k j sound ahead out wr its w env s sc u r same))
+    where
+      d : Direct z.place.classes (usable z) fine.scene p e m ts t
+      d = direct z.place.classes (usable z) fine.scene p e m ts t fine.typed.0
+
+      its : FineHere z lawful low c k (apply_statically p e d.is.direct.class Public m ts t)
+      its = record { scene = fine.scene; amid = fine.amid; around = fine.around; once = fine.once; written = fine.written; asks = fine.asks; typed = (d.here, fine.typed.1, fine.typed.2); boxed = fine.boxed }
+
+      runs : ir_meaning.call_method z.place.classes z.low (type_of_term e) m m.result ≡ ir_meaning.call_on z.place.classes z.low (ir_meaning.static_target z.place.classes d.is.direct.class Public m)
+      runs = hijacked_call z.place.classes z.low (type_of_term e) m d.is.direct.class d.is.direct.receiver d.is.direct.hijacked d.is.result d.is.named
+
+      same_code : into z.is_mutable z.code.sure c.targets k j (apply p e m ts t) ≡ into z.is_mutable z.code.sure c.targets k j (apply_statically p e d.is.direct.class Public m ts t)
+      same_code = ap (λ q. then_use (spill (receiver z.is_mutable z.code.sure e (λ k j. into z.is_mutable z.code.sure c.targets k j e) ∷ operands z.is_mutable z.code.sure c.targets ts) j) (λ es. finish k p t false (core.receiver_call q (coerced_receiver (type_of_term e) (first_of es)) (expressions_of (coerced_arguments m.params (types_of ts) (rest_of es)))))) d.is.callee
+
   mutual
     pub does : (t : Term) → TreeDoes z lawful low t
     does (var_def p x t b e) = λ c k j sound ahead out wr fine. var_by p x t b e (does e) c k j sound ahead out fine (given_up z.place.classes lawful.base.ordered k fine.asks)
@@ -383,6 +402,7 @@ module _ (z : Setting) (lawful : Lawful z) (low : LowAlike z) where
     does (match_on p e cs d t) = match_does p e cs d t (does e) (cases_do cs) (does d)
     does (new_object p d m ts) = new_by p d m ts (operands_do ts)
     does (select p e d f t) = select_by p e d f t (does e)
+    does (apply p e m ts t) = applied_does p e m ts t (does e) (operands_do ts)
     does (apply_statically p e d n m ts t) = statically_does p e d n m ts t (does e) (operands_do ts)
     does (select_static p d f t) = static_by p d f t
     does (this_ref p t) = this_by p t

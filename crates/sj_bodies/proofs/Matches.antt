@@ -61,7 +61,7 @@ undeclared-case c ss h = record { scope = λ x t i d. h.scope x t i (only_break 
 
 module _ (z : Setting) (lawful : Lawful z) where
   abbrev block_in : core.Statements → core.Statements → js.Execution
-  block_in names ss = js_meaning.in_block (statement_templates z.place.name z.place.label (usable z).target names) (run z ss)
+  block_in names ss = js_meaning.in_block (statement_templates z.place.name z.place.label (usable z).lookup names) (run z ss)
 
   -- behind the statements of a case: the break, the end of the block, no later case, and the end of the switch
   past_case : (later : js.Execution) (names : tree.Statements) (sc : js.Scope) (b : js.StatementEnd) → then_do (then_do (then_do (js.next_statement (run z one_break) b) (js_meaning.leaving names sc)) (js.next_statement later)) js_meaning.behind_switch ≡ then_do (js_meaning.leaving names sc b) js_meaning.behind_switch
@@ -75,7 +75,7 @@ module _ (z : Setting) (lawful : Lawful z) where
   case_is ss later sc u = ap (λ o. then_do (then_do (then_do o leaves) (js.next_statement later)) js_meaning.behind_switch) (run-followed z ss one_break (js_meaning.enter names sc) u) ∙ ap (λ o. then_do (then_do o (js.next_statement later)) js_meaning.behind_switch) (then_do-associative first breaks leaves) ∙ ap (λ o. then_do o js_meaning.behind_switch) (then_do-associative first (λ b. then_do (breaks b) leaves) (js.next_statement later)) ∙ then_do-associative first (λ b. then_do (then_do (breaks b) leaves) (js.next_statement later)) js_meaning.behind_switch ∙ ap (then_do first) (fun_ext (past_case later names sc)) ∙ sym (then_do-associative first leaves js_meaning.behind_switch)
     where
       names : tree.Statements
-      names = statement_templates z.place.name z.place.label (usable z).target (with_break ss)
+      names = statement_templates z.place.name z.place.label (usable z).lookup (with_break ss)
 
       first : Out js.StatementEnd
       first = run z ss (js_meaning.enter names sc) u
@@ -102,7 +102,7 @@ module _ (z : Setting) (lawful : Lawful z) where
 
   -- a case or the default in its block, and the end of the switch
   case_alike : (c : Context) (k : Destination) (names ss : core.Statements) (r : ir.Run) → Undeclared (settled c) names → Sound z.is_mutable c → Writes c.writable k → Alike z lawful (settled c) k r (run z ss) → (w : World) (env : ir.Env) (s : ir.State) (sc : js.Scope) (u : js.State) → Ready z.place z.code c.scope c.writable w env sc → SameState z.place w s u → Sim z.direction (Came z.place z.code c c.scope k w sc) (r env s) (then_do (block_in names ss sc u) js_meaning.behind_switch)
-  case_alike c k names ss r free sound wr does w env s sc u ready same = subst (λ o. Sim z.direction (Came z.place z.code c c.scope k w sc) o (then_do (block_in names ss sc u) js_meaning.behind_switch)) (then_do-right (r env s)) (sim_then z.direction (Came z.place z.code (settled c) c.scope k w sc) (Came z.place z.code c c.scope k w sc) (r env s) (block_in names ss sc u) done js_meaning.behind_switch (scoped_alike z lawful (settled c) names free k w env sc u (r env s) (run z ss) (sound-settled z c sound) wr ready (λ inner. does w env s (js_meaning.enter (statement_templates z.place.name z.place.label (usable z).target names) sc) u inner same)) (settles c k w sc))
+  case_alike c k names ss r free sound wr does w env s sc u ready same = subst (λ o. Sim z.direction (Came z.place z.code c c.scope k w sc) o (then_do (block_in names ss sc u) js_meaning.behind_switch)) (then_do-right (r env s)) (sim_then z.direction (Came z.place z.code (settled c) c.scope k w sc) (Came z.place z.code c c.scope k w sc) (r env s) (block_in names ss sc u) done js_meaning.behind_switch (scoped_alike z lawful (settled c) names free k w env sc u (r env s) (run z ss) (sound-settled z c sound) wr ready (λ inner. does w env s (js_meaning.enter (statement_templates z.place.name z.place.label (usable z).lookup names) sc) u inner same)) (settles c k w sc))
 
   -- the cases of a match, and those of the switch: one without keys is left out
   pub data CasesAlike (c : Context) (k : Destination) : List ir_meaning.Branch → core.Cases → Type 0 where
@@ -116,7 +116,7 @@ module _ (z : Setting) (lawful : Lawful z) where
   case_or_others c k false q others ts later js_others free sound wr does w env s sc u ready same rest = rest
 
   abbrev clauses_in : core.Cases → List js_meaning.Clause
-  clauses_in cs = js_meaning.clauses z.place.program z.js_low (case_templates z.place.name z.place.label (usable z).target cs)
+  clauses_in cs = js_meaning.clauses z.place.program z.js_low (case_templates z.place.name z.place.label (usable z).lookup cs)
 
   -- both sides take the first case with the key, or the default
   chosen_alike : (c : Context) (k : Destination) (bs : List ir_meaning.Branch) (cs : core.Cases) (r : ir.Run) (ss : core.Statements) → CasesAlike c k bs cs → Undeclared (settled c) ss → Sound z.is_mutable c → Writes c.writable k → Alike z lawful (settled c) k r (run z ss) → (n : ℤ) (w : World) (env : ir.Env) (s : ir.State) (sc : js.Scope) (u : js.State) → Ready z.place z.code c.scope c.writable w env sc → SameState z.place w s u → Sim z.direction (Came z.place z.code c c.scope k w sc) (ir_meaning.branch_of bs r n env s) (then_do (js_meaning.from_case (clauses_in cs) (block_in ss ss) (js.number n) sc u) js_meaning.behind_switch)

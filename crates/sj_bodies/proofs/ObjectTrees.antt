@@ -11,6 +11,7 @@ use Rattle.ir_mean.specs.World as ir_world
 use Rattle.js_mean.specs.Meaning as js_meaning
 use Rattle.js_mean.specs.Objects as js_objects
 use Rattle.js_mean.specs.States as js
+use Rattle.sj_core.specs.declared.callees.Callee.TheVariants as callees
 use Rattle.sj_core.specs.Terms as core
 use Rattle.sj_core.specs.Views.{expressions_of}
 use Rattle.sj_desugar.specs.Coercions.{coerced, coerced_arguments, coerced_receiver, is_char}
@@ -255,20 +256,20 @@ module _ (z : Setting) (lawful : Lawful z) (low : LowAlike z) where
       own = received-type (is_sure z.code.sure e) (operand z.is_mutable z.code.sure e (λ k j. into z.is_mutable z.code.sure c.targets k j e))
 
   -- a call of a private or a public member on a receiver
-  pub receive_does : (p : Position) (c : Context) (k : Destination) (j : ℕ) (e : Term) (d : List ℕ) (n : Namespace) (m : MethodName) (ts : Terms) (t : IrType) → Sound z.is_mutable c → Ahead c j → Writes c.writable k → FitsIn (usable z) k t → (usable z).received (called_member (usable z).target n (member d n m)) ≡ true → t ≡ call_type m.result → StandsFor z (class_type d) (type_of_term e) → StandForAll z (types_referred m.params) (types_of ts) → OperandsDo z lawful c j (receiver_piece c.targets e ∷ list_of z lawful low c.targets ts) → Does z lawful c k j (apply_statically p e d n m ts t)
+  pub receive_does : (p : Position) (c : Context) (k : Destination) (j : ℕ) (e : Term) (d : List ℕ) (n : Namespace) (m : MethodName) (ts : Terms) (t : IrType) → Sound z.is_mutable c → Ahead c j → Writes c.writable k → FitsIn (usable z) k t → (usable z).received (called_member (usable z).lookup n (member d n m)) ≡ true → t ≡ call_type m.result → StandsFor z (class_type d) (type_of_term e) → StandForAll z (types_referred m.params) (types_of ts) → OperandsDo z lawful c j (receiver_piece c.targets e ∷ list_of z lawful low c.targets ts) → Does z lawful c k j (apply_statically p e d n m ts t)
   receive_does p c k j e d n m ts t sound ahead wr fits there is on fit ds w env s sc u r same = subst (λ o. Ends z lawful c c.scope k w sc o (into z.is_mutable z.code.sure c.targets k j (apply_statically p e d n m ts t)).statements sc u) (sym (sure_run e act (ir_meaning.operands z.place.classes z.low ts) w env s sc c.scope r.sees)) (subst (λ os. Ends z lawful c c.scope k w sc (ir_meaning.in_order ((receiver_piece c.targets e).run ∷ ir_meaning.operands z.place.classes z.low ts) act env s) (then_use (spill ((receiver_piece c.targets e).here ∷ os) j) (λ es. finish k p t false (text es))).statements sc u) (sym (operands-list z lawful low c.targets ts)) (subst (λ rs. Ends z lawful c c.scope k w sc (ir_meaning.in_order ((receiver_piece c.targets e).run ∷ rs) act env s) (then_use (spill (operands_in z lawful (receiver_piece c.targets e ∷ list_of z lawful low c.targets ts)) j) (λ es. finish k p t false (text es))).statements sc u) (sym (runs-list z lawful low c.targets ts)) (expression_does c k j (receiver_piece c.targets e ∷ list_of z lawful low c.targets ts) t p act text sound ahead wr fits ds given w env s sc u r same)))
     where
       act : List ir.Value → ir.Run
       act = ir_meaning.call_on z.place.classes z.low (ir_meaning.static_target z.place.classes d n m)
 
       text : List core.Expression → core.Expression
-      text es = core.receiver_call (member d n m) (coerced_receiver (type_of_term e) (first_of es)) (expressions_of (coerced_arguments m.params (types_of ts) (rest_of es)))
+      text es = core.receiver_call (callees.Member (member d n m)) (coerced_receiver (type_of_term e) (first_of es)) (expressions_of (coerced_arguments m.params (types_of ts) (rest_of es)))
 
-      text_is : (g : core.Expression) (gs : List core.Expression) → text (g ∷ gs) ≡ core.receiver_call (member d n m) (coerced (class_type d) (type_of_term e) g) (expressions_of (coerced_arguments m.params (types_of ts) gs))
-      text_is g gs = ap (λ x. core.receiver_call (member d n m) x (expressions_of (coerced_arguments m.params (types_of ts) gs))) (receiver-coerced d (type_of_term e) g)
+      text_is : (g : core.Expression) (gs : List core.Expression) → text (g ∷ gs) ≡ core.receiver_call (callees.Member (member d n m)) (coerced (class_type d) (type_of_term e) g) (expressions_of (coerced_arguments m.params (types_of ts) gs))
+      text_is g gs = ap (λ x. core.receiver_call (callees.Member (member d n m)) x (expressions_of (coerced_arguments m.params (types_of ts) gs))) (receiver-coerced d (type_of_term e) g)
 
       given : (rs : List ir.Run) (es : List core.Expression) (w : World) (env : ir.Env) (s : ir.State) (sc : js.Scope) (u : js.State) → Inside z.place z.code sc → OperandsAlike z w env sc ((receiver_piece c.targets e).here.tpe ∷ types z lawful (list_of z lawful low c.targets ts)) rs es → SameState z.place w s u → Sim z.direction (Valued z.place w env t) (ir_meaning.in_order rs act env s) (shown z (text es) sc u)
-      given _ _ w env s sc u inside (more_operands own q g _ qs gs told one others) same = subst (λ o. Sim z.direction (Valued z.place w env t) (ir_meaning.in_order (q ∷ qs) act env s) (shown z o sc u)) (sym (text_is g gs)) (subst (λ i. Sim z.direction (Valued z.place w env i) (ir_meaning.in_order (q ∷ qs) act env s) (shown z (core.receiver_call (member d n m) (coerced (class_type d) (type_of_term e) g) (expressions_of (coerced_arguments m.params (types_of ts) gs))) sc u)) (sym is) (received_call_alike z lawful.base (member d n m) (stood (class_type d) (type_of_term e) on.0) (all_stood (types_referred m.params) (types_of ts) fit.0) q qs (coerced (class_type d) (type_of_term e) g) (coerced_arguments m.params (types_of ts) gs) there (stood-fits (class_type d) (type_of_term e) on.0) (all-stood-fit (types_referred m.params) (types_of ts) fit.0) w env s sc u inside (called_with c e d m ts on fit w env sc inside q qs g gs told one others) same))
+      given _ _ w env s sc u inside (more_operands own q g _ qs gs told one others) same = subst (λ o. Sim z.direction (Valued z.place w env t) (ir_meaning.in_order (q ∷ qs) act env s) (shown z o sc u)) (sym (text_is g gs)) (subst (λ i. Sim z.direction (Valued z.place w env i) (ir_meaning.in_order (q ∷ qs) act env s) (shown z (core.receiver_call (callees.Member (member d n m)) (coerced (class_type d) (type_of_term e) g) (expressions_of (coerced_arguments m.params (types_of ts) gs))) sc u)) (sym is) (received_call_alike z lawful.base (member d n m) (stood (class_type d) (type_of_term e) on.0) (all_stood (types_referred m.params) (types_of ts) fit.0) q qs (coerced (class_type d) (type_of_term e) g) (coerced_arguments m.params (types_of ts) gs) there (stood-fits (class_type d) (type_of_term e) on.0) (all-stood-fit (types_referred m.params) (types_of ts) fit.0) w env s sc u inside (called_with c e d m ts on fit w env sc inside q qs g gs told one others) same))
 
   -- a call of a constructor on a receiver, which is given up: it gives nothing by the IR, and the object by its function
   pub construct_does : (p : Position) (c : Context) (j : ℕ) (e : Term) (d : List ℕ) (m : MethodName) (ts : Terms) (t : IrType) → Sound z.is_mutable c → Ahead c j → (usable z).built (member d Constructor m) ≡ true → StandsFor z (class_type d) (type_of_term e) → StandForAll z (types_referred m.params) (types_of ts) → OperandsDo z lawful c j (receiver_piece c.targets e ∷ list_of z lawful low c.targets ts) → Does z lawful c discard j (apply_statically p e d Constructor m ts t)
@@ -278,13 +279,13 @@ module _ (z : Setting) (lawful : Lawful z) (low : LowAlike z) where
       act = ir_meaning.call_on z.place.classes z.low (ir_world.member_of z.place.classes d Constructor m)
 
       text : List core.Expression → core.Expression
-      text es = core.receiver_call (member d Constructor m) (coerced_receiver (type_of_term e) (first_of es)) (expressions_of (coerced_arguments m.params (types_of ts) (rest_of es)))
+      text es = core.receiver_call (callees.Member (member d Constructor m)) (coerced_receiver (type_of_term e) (first_of es)) (expressions_of (coerced_arguments m.params (types_of ts) (rest_of es)))
 
-      text_is : (g : core.Expression) (gs : List core.Expression) → text (g ∷ gs) ≡ core.receiver_call (member d Constructor m) (coerced (class_type d) (type_of_term e) g) (expressions_of (coerced_arguments m.params (types_of ts) gs))
-      text_is g gs = ap (λ x. core.receiver_call (member d Constructor m) x (expressions_of (coerced_arguments m.params (types_of ts) gs))) (receiver-coerced d (type_of_term e) g)
+      text_is : (g : core.Expression) (gs : List core.Expression) → text (g ∷ gs) ≡ core.receiver_call (callees.Member (member d Constructor m)) (coerced (class_type d) (type_of_term e) g) (expressions_of (coerced_arguments m.params (types_of ts) gs))
+      text_is g gs = ap (λ x. core.receiver_call (callees.Member (member d Constructor m)) x (expressions_of (coerced_arguments m.params (types_of ts) gs))) (receiver-coerced d (type_of_term e) g)
 
       final : (w : World) (sc : js.Scope) → Final z lawful c discard w sc c.kept j sc w (types z lawful (receiver_piece c.targets e ∷ list_of z lawful low c.targets ts)) act (λ es. finish discard p t false (text es))
-      final from before q i _ _ w env s sc u more so ah l g ready kb ks same (more_operands own a f _ qs gs told one others) = subst (λ o. Ends z lawful c c.scope discard from before (ir_meaning.in_order (a ∷ qs) act env s) (core.statement (core.evaluate_of (Some p) o) core.no_statements) sc u) (sym (text_is f gs)) (ends-one z lawful c c.scope discard from before (ir_meaning.in_order (a ∷ qs) act env s) (core.evaluate_of (Some p) (core.receiver_call (member d Constructor m) (coerced (class_type d) (type_of_term e) f) (expressions_of (coerced_arguments m.params (types_of ts) gs)))) sc u (subst (λ o. Sim z.direction (Came z.place z.code c c.scope discard from before) o (then_do (shown z (core.receiver_call (member d Constructor m) (coerced (class_type d) (type_of_term e) f) (expressions_of (coerced_arguments m.params (types_of ts) gs))) sc u) (js.in_statement sc (λ v. js_meaning.nothing sc)))) (then_do-right (ir_meaning.in_order (a ∷ qs) act env s)) (sim_then z.direction (Ran z.place w env) (Came z.place z.code c c.scope discard from before) (ir_meaning.in_order (a ∷ qs) act env s) (shown z (core.receiver_call (member d Constructor m) (coerced (class_type d) (type_of_term e) f) (expressions_of (coerced_arguments m.params (types_of ts) gs))) sc u) done (js.in_statement sc (λ v. js_meaning.nothing sc)) (constructor_runs z lawful.base d m (stood (class_type d) (type_of_term e) on.0) (all_stood (types_referred m.params) (types_of ts) fit.0) a qs (coerced (class_type d) (type_of_term e) f) (coerced_arguments m.params (types_of ts) gs) there (stood-fits (class_type d) (type_of_term e) on.0) (all-stood-fit (types_referred m.params) (types_of ts) fit.0) w env s sc u ready.sees.inside (called_with c e d m ts on fit w env sc ready.sees.inside a qs f gs told one others) same) each)))
+      final from before q i _ _ w env s sc u more so ah l g ready kb ks same (more_operands own a f _ qs gs told one others) = subst (λ o. Ends z lawful c c.scope discard from before (ir_meaning.in_order (a ∷ qs) act env s) (core.statement (core.evaluate_of (Some p) o) core.no_statements) sc u) (sym (text_is f gs)) (ends-one z lawful c c.scope discard from before (ir_meaning.in_order (a ∷ qs) act env s) (core.evaluate_of (Some p) (core.receiver_call (callees.Member (member d Constructor m)) (coerced (class_type d) (type_of_term e) f) (expressions_of (coerced_arguments m.params (types_of ts) gs)))) sc u (subst (λ o. Sim z.direction (Came z.place z.code c c.scope discard from before) o (then_do (shown z (core.receiver_call (callees.Member (member d Constructor m)) (coerced (class_type d) (type_of_term e) f) (expressions_of (coerced_arguments m.params (types_of ts) gs))) sc u) (js.in_statement sc (λ v. js_meaning.nothing sc)))) (then_do-right (ir_meaning.in_order (a ∷ qs) act env s)) (sim_then z.direction (Ran z.place w env) (Came z.place z.code c c.scope discard from before) (ir_meaning.in_order (a ∷ qs) act env s) (shown z (core.receiver_call (callees.Member (member d Constructor m)) (coerced (class_type d) (type_of_term e) f) (expressions_of (coerced_arguments m.params (types_of ts) gs))) sc u) done (js.in_statement sc (λ v. js_meaning.nothing sc)) (constructor_runs z lawful.base d m (stood (class_type d) (type_of_term e) on.0) (all_stood (types_referred m.params) (types_of ts) fit.0) a qs (coerced (class_type d) (type_of_term e) f) (coerced_arguments m.params (types_of ts) gs) there (stood-fits (class_type d) (type_of_term e) on.0) (all-stood-fit (types_referred m.params) (types_of ts) fit.0) w env s sc u ready.sees.inside (called_with c e d m ts on fit w env sc ready.sees.inside a qs f gs told one others) same) each)))
         where
           each : (a : ir.Ended) (b : js.ExpressionEnd) → Ran z.place w env a b → Sim z.direction (Came z.place z.code c c.scope discard from before) (done a) (js.in_statement sc (λ v. js_meaning.nothing sc) b)
           each _ _ (ran y v x s u h states) = sim_done z.direction (Came z.place z.code c c.scope discard from before) (ir.ends (ir.gives v) env s) (js.ends js.normally sc u) (gave y v env s sc u js.normally (grows-trans from w y g h) let_go (ready-lift z c.scope c.writable w y env sc h ready) (keeps-less z c.kept discard before sc kb) states)

@@ -42,7 +42,7 @@ next-associative f g (js.ends (js.thrown_with v) sc s) = refl
 
 -- a statement in front of others is a statement and then others
 abbrev pub act_of : Setting → core.Statement → js.Execution
-act_of z s = js_meaning.execute z.place.program z.js_low (statement_template z.place.name z.place.label (usable z).target s)
+act_of z s = js_meaning.execute z.place.program z.js_low (statement_template z.place.name z.place.label (usable z).lookup s)
 
 pub run-one : (z : Setting) (s : core.Statement) (sc : js.Scope) (u : js.State) → run z (core.statement s core.no_statements) sc u ≡ act_of z s sc u
 run-one z s sc u = ap (then_do (act_of z s sc u)) (fun_ext next-done) ∙ then_do-right (act_of z s sc u)

@@ -48,7 +48,7 @@ use Rattle.sj_plain.proofs.Worlds.{World}
 
 -- the level below: each tree of the forms that are built, and its statements, with one unit less
 abbrev pub LowAlike : Setting → Type 1
-LowAlike z = (c : Context) (k : Destination) (j : ℕ) (t : Term) → Sound z.is_mutable c → Ahead c j → Outside c (Own t) → Writes c.writable k → Fine z.place.classes z.is_mutable (usable z) z.code c.scope (around c) k t → (w : World) (env : ir.Env) (s : ir.State) (sc : js.Scope) (u : js.State) → Ready z.place z.code c.scope c.writable w env sc → SameState z.place w s u → Sim z.direction (Came z.place z.code c c.scope k w sc) (z.low t env s) (z.js_low (statement_templates z.place.name z.place.label (usable z).target (into z.is_mutable z.code.sure c.targets k j t).statements) sc u)
+LowAlike z = (c : Context) (k : Destination) (j : ℕ) (t : Term) → Sound z.is_mutable c → Ahead c j → Outside c (Own t) → Writes c.writable k → Fine z.place.classes z.is_mutable (usable z) z.code c.scope (around c) k t → (w : World) (env : ir.Env) (s : ir.State) (sc : js.Scope) (u : js.State) → Ready z.place z.code c.scope c.writable w env sc → SameState z.place w s u → Sim z.direction (Came z.place z.code c c.scope k w sc) (z.low t env s) (z.js_low (statement_templates z.place.name z.place.label (usable z).lookup (into z.is_mutable z.code.sure c.targets k j t).statements) sc u)
 
 -- what is written for a tree in which each local is defined once, wherever its values go
 pub written : (is_mutable sure : List ℕ → Bool) (ls : Targets) (t : Term) (k : Destination) (j : ℕ) {around : List (List ℕ)} → Once around t → Good (Own t) around false j (into is_mutable sure ls k j t)

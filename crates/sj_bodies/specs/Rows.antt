@@ -5,13 +5,14 @@ use Rattle.outcomes.specs.Outcome.{Out}
 use Rattle.ir_mean.specs.Rows.{int_method}
 use Rattle.js_mean.specs.Meaning as js_meaning
 use Rattle.js_mean.specs.States as js
+use Rattle.sj_core.specs.Lookup.{own_targets}
 use Rattle.sj_desugar.specs.Desugar.{desugared, names_of}
 use Rattle.sj_emit_expr.specs.Templates.{parameter_names, body_template}
 use Rattle.sj_trees.specs.Term.{Term}
 
 -- the file `main.js` with the function `f` of the parameter `p` and the statements of this body
 abbrev pub int_program : Term → js.Program
-int_program body = record { file = codes "main.js"; content = Some (record { imports = []; items = function_item (codes "f") (parameter_names (names_of (int_method body).params)) (body_template (λ m. m) (desugared (int_method body) body)) ∷ []; exports = [] }) } ∷ []
+int_program body = record { file = codes "main.js"; content = Some (record { imports = []; items = function_item (codes "f") (parameter_names (names_of (int_method body).params)) (body_template own_targets (desugared (int_method body) body)) ∷ []; exports = [] }) } ∷ []
 
 -- what a call of it comes to within this bound
 abbrev pub int_function_result : Term → ℕ → ℤ → Out js.ExpressionEnd

@@ -13,6 +13,7 @@ use Rattle.js_mean.specs.Meaning as js_meaning
 use Rattle.js_mean.specs.Proper.{is_among, declared}
 use Rattle.js_mean.specs.States as js
 use Rattle.js_tree.specs.Terms.{Name}
+use Rattle.sj_core.specs.Lookup.{Lookup}
 use Rattle.sj_core.specs.Terms as core
 use Rattle.sj_desugar.specs.Desugar.{is_mutable_in, result_destination, names_of, desugared}
 use Rattle.sj_desugar.specs.Plain.{is_no_type}
@@ -170,12 +171,12 @@ module _ (p : Place) (names : NamesDiffer p) where
   parameters-free (n ∷ ns) (x ∷ xs) b y none h = ap (λ (t : Bool). if t then js.holds false x else js_meaning.bind_parameters (parameters_in p ns) xs b y) (differs y (p.name (core.named n)) (λ e. none (core.named n) (sym e))) ∙ parameters-free ns xs b y none h
 
   -- neither does a body declare one
-  pub body-free : (target : Member → Member) (ss : core.Statements) (y : Name) → OfNoVariable p y → js_meaning.bind_declared (statement_templates p.name p.label target ss) (λ x. js.absent) y ≡ js.absent
-  body-free target ss y none = bind-undeclared (statement_templates p.name p.label target ss) (λ x. js.absent) y (go (is_among (declared (statement_templates p.name p.label target ss)) y) refl)
+  pub body-free : (lookup : Lookup) (ss : core.Statements) (y : Name) → OfNoVariable p y → js_meaning.bind_declared (statement_templates p.name p.label lookup ss) (λ x. js.absent) y ≡ js.absent
+  body-free lookup ss y none = bind-undeclared (statement_templates p.name p.label lookup ss) (λ x. js.absent) y (go (is_among (declared (statement_templates p.name p.label lookup ss)) y) refl)
     where
-      go : (b : Bool) → is_among (declared (statement_templates p.name p.label target ss)) y ≡ b → is_among (declared (statement_templates p.name p.label target ss)) y ≡ false
+      go : (b : Bool) → is_among (declared (statement_templates p.name p.label lookup ss)) y ≡ b → is_among (declared (statement_templates p.name p.label lookup ss)) y ≡ false
       go false e = e
-      go true e = let n = declared-named p.name p.label target ss y e in absurd (none n.variable n.name)
+      go true e = let n = declared-named p.name p.label lookup ss y e in absurd (none n.variable n.name)
 
   -- calls of a member and of its function are alike where the levels below are
   pub call_alike : (d : Direction) (low : ir_meaning.Low) (js_low : js_meaning.Low) (m : Member) (l : Linked p m) → LowAlike (record { place = p; code = record { file = p.home (a_function m); owner = m.class; sure = sure_locals l.its_body }; direction = d; is_mutable = is_mutable_in l.definition l.its_body; low = low; js_low = js_low }) → (w : World) (vs : List ir.Value) (xs : List js.Value) (env : ir.Env) (s : ir.State) (u : js.State) → SameValues w (types_referred m.method.params) vs xs → SameState p w s u → Sim d (Valued p w env (call_type m.method.result)) (ir_meaning.call low (member_of p.classes m.class m.namespace m.method) None vs env s) (function_call p js_low m xs u)
@@ -221,4 +222,4 @@ module _ (p : Place) (names : NamesDiffer p) where
           inner = record { this_value = None; locals = h.locals; sure = sure_locals l.its_body }
 
           ready : Ready p here scope (λ y. ⊥) w inner sc
-          ready = record { sees = record { inside = record { file = refl; free = λ y none. parameters-free (names_of l.definition.params) xs names_declared y none (body-free (p.has (p.home (a_function m))).target (desugared l.definition l.its_body).body y none) }; this = no_receiver (sc.bindings (p.name core.receiver)); sure = refl; locals = h.hold }; «open» = λ y wr. absurd wr }
+          ready = record { sees = record { inside = record { file = refl; free = λ y none. parameters-free (names_of l.definition.params) xs names_declared y none (body-free (p.has (p.home (a_function m))).lookup (desugared l.definition l.its_body).body y none) }; this = no_receiver (sc.bindings (p.name core.receiver)); sure = refl; locals = h.hold }; «open» = λ y wr. absurd wr }

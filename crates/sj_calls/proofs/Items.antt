@@ -6,6 +6,7 @@ use Rattle.js_mean.specs.Proper.{is_among, are_distinct, item_names}
 use Rattle.js_mean.specs.States.{Cell, absent, holds, function}
 use Rattle.js_tree.specs.Names.{is_same_text}
 use Rattle.js_tree.specs.Terms.{Name, Item}
+use Rattle.sj_core.specs.Lookup.{own_targets}
 use Rattle.sj_desugar.specs.Desugar.{desugared}
 use Rattle.sj_emit_expr.specs.Templates.{member_name, parameter_names, body_template}
 use Rattle.body_rules.proofs.Lists.{nothing_in, in_front_or_behind}
@@ -17,7 +18,7 @@ abbrev name_of : EmittedMethod → Name
 name_of e = member_name e.member
 
 abbrev pub code_with : EmittedMethod → Code
-code_with e = record { parameters = parameter_names (desugared e.definition e.its_body).params; body = body_template (λ m. m) (desugared e.definition e.its_body) }
+code_with e = record { parameters = parameter_names (desugared e.definition e.its_body).params; body = body_template own_targets (desugared e.definition e.its_body) }
 
 first_too : (a b : Bool) → a ≡ true → (a || b) ≡ true
 first_too true b h = refl

@@ -64,7 +64,7 @@ module _ (p : Place) (ordered : IsSubtyping (IsSub p.classes)) (names : NamesDif
     statics = λ c g t i. impossible (sym (or_from ((p.has f.file).static_field c g t) ((p.has f.file).static_setter c g t) (alone.static_field f.file c g t) (alone.static_setter f.file c g t)) ∙ i);
     sets = λ c g t i. impossible (sym (alone.static_setter f.file c g t) ∙ i);
     calls = λ m l. member_alike d n k (levels k h) m (linked f.file m l);
-    receives = λ m l. impossible (sym (alone.received f.file (called_member (p.has f.file).target m.namespace m)) ∙ l);
+    receives = λ m l. impossible (sym (alone.received f.file (called_member (p.has f.file).lookup m.namespace m)) ∙ l);
     builds = λ m l. impossible (sym (alone.built f.file m) ∙ l);
     makes = λ c l. impossible (sym (alone.made f.file c) ∙ l);
     objects = λ c l. impossible (sym (alone.made f.file c) ∙ l);
@@ -77,7 +77,7 @@ module _ (p : Place) (ordered : IsSubtyping (IsSub p.classes)) (names : NamesDif
   next d n k levels h f reaches is_mutable c q j t sound ahead out wr fine w env s sc u ready same = does (within f d is_mutable n k) (lawful d n k levels h f reaches is_mutable) (levels k (fewer d p.room.each n k h) f reaches is_mutable) t c q j sound ahead out wr fine w env s sc u ready same
 
   pub levels : (d : Direction) (n : ℕ) → Levels d n
-  levels forward zero k h = λ f reaches is_mutable c q j t sound ahead out wr fine w env s sc u ready same. sim_over (Came p f c c.scope q w sc) (js_meaning.below p.program k (statement_templates p.name p.label (p.has f.file).target (into is_mutable f.sure c.targets q j t).statements) sc u)
+  levels forward zero k h = λ f reaches is_mutable c q j t sound ahead out wr fine w env s sc u ready same. sim_over (Came p f c c.scope q w sc) (js_meaning.below p.program k (statement_templates p.name p.label (p.has f.file).lookup (into is_mutable f.sure c.targets q j t).statements) sc u)
   levels backward n zero h = λ f reaches is_mutable c q j t sound ahead out wr fine w env s sc u ready same. sim_going (Came p f c c.scope q w sc) (ir_meaning.below p.classes n t env s)
   levels forward (suc n) zero h = absurd (omega arith)
   levels backward zero (suc k) h = absurd (omega arith)

@@ -98,11 +98,11 @@ module _ (p : Place) (plain : IsPlain p.classes) (ordered : IsSubtyping (IsSub p
   taken_by : (w : World) (m o : Member) (v : ir.Value) (x : js.Value) → IsTargetOf p.classes m o → IsReceiver w m.class v x → IsReceiver w o.class v x
   taken_by w m o v x its this = record { stands = value-fits w (class_type o.class) (class_type m.class) v x (fits-sub p.classes ordered (class_type o.class) (class_type m.class) its.above (ap (λ b. b && not (is_char (class_type o.class))) (class-no-char m.class))) this.stands; there = this.there }
 
-  method_alike : (f : Code) (is_mutable : List ℕ → Bool) (d : Direction) (n k : ℕ) → Level d n k → (m : Member) → IsTargetOf p.classes m (called_member (p.has f.file).target m.namespace m) → RunsOn p (called_member (p.has f.file).target m.namespace m) → ReceivesAlike (within f d is_mutable n k) m
+  method_alike : (f : Code) (is_mutable : List ℕ → Bool) (d : Direction) (n k : ℕ) → Level d n k → (m : Member) → IsTargetOf p.classes m (called_member (p.has f.file).lookup m.namespace m) → RunsOn p (called_member (p.has f.file).lookup m.namespace m) → ReceivesAlike (within f d is_mutable n k) m
   method_alike f is_mutable d n k level m its l w v x vs xs env s u this values same = subst (λ (g : MethodName). Sim d (Valued p w env (call_type g.result)) (ir_meaning.call (ir_meaning.below p.classes n) (ir_meaning.static_target p.classes m.class m.namespace m.method) (Some v) vs env s) (top_call p (js_meaning.below p.program k) (a_method o) (x ∷ xs) u)) its.method (receive_alike p names d (ir_meaning.below p.classes n) (js_meaning.below p.program k) o l (ir_meaning.static_target p.classes m.class m.namespace m.method) (its.runs l.definition l.its_body l.has_body l.found) (level (record { file = p.home (a_method o); owner = o.class; sure = sure_locals l.its_body }) l.reaches (is_mutable_in l.definition l.its_body)) w v x vs xs env s u (taken_by w m o v x its this) (subst (λ (g : MethodName). SameValues w (types_referred g.params) vs xs) (sym its.method) values) same)
     where
       o : Member
-      o = called_member (p.has f.file).target m.namespace m
+      o = called_member (p.has f.file).lookup m.namespace m
 
   constructor_alike : (f : Code) (is_mutable : List ℕ → Bool) (d : Direction) (n k : ℕ) → Enough p.room 0 d n k → Level d n k → (m : Member) → Constructs p m → BuildsAlike (within f d is_mutable n k) m
   constructor_alike f is_mutable d n (suc k) h level m l = build_alike p names d (ir_meaning.below p.classes n) k m l (level (record { file = p.home (a_constructor m); owner = m.class; sure = sure_locals l.its_body }) l.reaches (is_mutable_in l.definition l.its_body))
@@ -128,7 +128,7 @@ module _ (p : Place) (plain : IsPlain p.classes) (ordered : IsSubtyping (IsSub p
     statics = λ c g t l. (has.statics f.file c g t l).field;
     sets = λ c g t l. set_alike f is_mutable d n k h c g t l;
     calls = λ m l. member_alike d n k (levels k h) m (has.linked f.file m l);
-    receives = λ m l. method_alike f is_mutable d n k (levels k h) m (called_target p.classes (p.has f.file).target (λ o. (p.has f.file).received o ≡ true) (λ o i. has.targets f.file o i) m.namespace m l) (has.received f.file (called_member (p.has f.file).target m.namespace m) l);
+    receives = λ m l. method_alike f is_mutable d n k (levels k h) m (called_target p.classes (p.has f.file).lookup (λ o. (p.has f.file).received o ≡ true) (λ o i. has.targets f.file o i) m.namespace m l) (has.received f.file (called_member (p.has f.file).lookup m.namespace m) l);
     builds = λ m l. constructor_alike f is_mutable d n k h (levels k h) m (has.built f.file m l);
     makes = λ c l w env s u same. let made = has.made f.file c l in made_alike d p c k (enough_for d n k c made h) w env s u (made.stands w s u same) same;
   }
@@ -202,7 +202,7 @@ module _ (p : Place) (plain : IsPlain p.classes) (ordered : IsSubtyping (IsSub p
   next d n k levels h f reaches is_mutable c q j t sound ahead out wr fine w env s sc u ready same = does (within f d is_mutable n k) (lawful d n k levels h f reaches is_mutable) (levels k (fewer d p.room.each n k h) f reaches is_mutable) t c q j sound ahead out wr fine w env s sc u ready same
 
   pub levels : (d : Direction) (n : ℕ) → Levels d n
-  levels forward zero k h = λ f reaches is_mutable c q j t sound ahead out wr fine w env s sc u ready same. sim_over (Came p f c c.scope q w sc) (js_meaning.below p.program k (statement_templates p.name p.label (p.has f.file).target (into is_mutable f.sure c.targets q j t).statements) sc u)
+  levels forward zero k h = λ f reaches is_mutable c q j t sound ahead out wr fine w env s sc u ready same. sim_over (Came p f c c.scope q w sc) (js_meaning.below p.program k (statement_templates p.name p.label (p.has f.file).lookup (into is_mutable f.sure c.targets q j t).statements) sc u)
   levels backward n zero h = λ f reaches is_mutable c q j t sound ahead out wr fine w env s sc u ready same. sim_going (Came p f c c.scope q w sc) (ir_meaning.below p.classes n t env s)
   levels forward (suc n) zero h = absurd (omega arith)
   levels backward zero (suc k) h = absurd (omega arith)

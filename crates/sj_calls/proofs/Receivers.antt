@@ -96,11 +96,11 @@ module _ (p : Place) (names : NamesDiffer p) where
           inner = record { this_value = Some v; locals = h.locals; sure = sure_locals l.its_body }
 
           ready : Ready p here scope (λ y. ⊥) w inner sc
-          ready = record { sees = record { inside = record { file = refl; free = λ y none. free_there x outer y none ∙ parameters-free p names (names_of l.definition.params) xs names_declared y none (body-free p names (p.has here.file).target (body_of l.definition l.its_body) y none) }; this = subst (Receiving w m.class (Some v)) (sym (receiver_here x outer)) (on_receiver v x this); sure = refl; locals = λ y t i. subst (Holding w t (h.locals y)) (sym (local_there x outer y)) (h.hold y t i) }; «open» = λ y wr. absurd wr }
+          ready = record { sees = record { inside = record { file = refl; free = λ y none. free_there x outer y none ∙ parameters-free p names (names_of l.definition.params) xs names_declared y none (body-free p names (p.has here.file).lookup (body_of l.definition l.its_body) y none) }; this = subst (Receiving w m.class (Some v)) (sym (receiver_here x outer)) (on_receiver v x this); sure = refl; locals = λ y t i. subst (Holding w t (h.locals y)) (sym (local_there x outer y)) (h.hold y t i) }; «open» = λ y wr. absurd wr }
 
   -- behind the body of a constructor its function gives the object that it ran on
-  comes_out : (d : Direction) (js_low : js_meaning.Low) (c : Context) (scope : Scope) (here : Code) (w : World) (before : js.Scope) (x : js.Value) (t : IrType) (env : ir.Env) → c.kept core.receiver → before.bindings (p.name core.receiver) ≡ js.holds false x → (a : ir.Ended) (b : js.StatementEnd) → Came p here c scope discard w before a b → Sim d (Built p w env x) (ir_meaning.returned t env a) (then_do (js.next_statement (js_meaning.execute_all p.program js_low (statement_templates p.name p.label (p.has here.file).target (core.statement (core.return_of None (core.variable_use core.receiver)) core.no_statements))) b) js_meaning.returned)
-  comes_out d js_low c scope here w before x t env kept held _ _ (gave y v inner s sc u _ g let_go r ks same) = subst (λ (cell : js.Cell). Sim d (Built p w env x) (ir.given (ir_meaning.result_value t v) env s) (then_do (then_do (then_do (js_meaning.cell_value (js_meaning.or_outer cell (js_meaning.top_cell (owner p.program sc.file (p.name core.receiver)) (p.name core.receiver) u)) u) (js.in_statement sc (λ v s. done (js.ends (js.returns v) sc s)))) (js.next_statement (js_meaning.execute_all p.program js_low (statement_templates p.name p.label (p.has here.file).target core.no_statements)))) js_meaning.returned)) (sym (ks.same core.receiver (kept, λ e. e) ∙ held)) (sim_done d (Built p w env x) (ir.ends (ir.gives (ir_meaning.result_value t v)) env s) (js.gives x u) (built y (ir_meaning.result_value t v) s u g same))
+  comes_out : (d : Direction) (js_low : js_meaning.Low) (c : Context) (scope : Scope) (here : Code) (w : World) (before : js.Scope) (x : js.Value) (t : IrType) (env : ir.Env) → c.kept core.receiver → before.bindings (p.name core.receiver) ≡ js.holds false x → (a : ir.Ended) (b : js.StatementEnd) → Came p here c scope discard w before a b → Sim d (Built p w env x) (ir_meaning.returned t env a) (then_do (js.next_statement (js_meaning.execute_all p.program js_low (statement_templates p.name p.label (p.has here.file).lookup (core.statement (core.return_of None (core.variable_use core.receiver)) core.no_statements))) b) js_meaning.returned)
+  comes_out d js_low c scope here w before x t env kept held _ _ (gave y v inner s sc u _ g let_go r ks same) = subst (λ (cell : js.Cell). Sim d (Built p w env x) (ir.given (ir_meaning.result_value t v) env s) (then_do (then_do (then_do (js_meaning.cell_value (js_meaning.or_outer cell (js_meaning.top_cell (owner p.program sc.file (p.name core.receiver)) (p.name core.receiver) u)) u) (js.in_statement sc (λ v s. done (js.ends (js.returns v) sc s)))) (js.next_statement (js_meaning.execute_all p.program js_low (statement_templates p.name p.label (p.has here.file).lookup core.no_statements)))) js_meaning.returned)) (sym (ks.same core.receiver (kept, λ e. e) ∙ held)) (sim_done d (Built p w env x) (ir.ends (ir.gives (ir_meaning.result_value t v)) env s) (js.gives x u) (built y (ir_meaning.result_value t v) s u g same))
   comes_out d js_low c scope here w before x t env kept held _ _ (left y l v inner s sc u e reach g a r ks same) = sim_wrong d (Built p w env x) _
   comes_out d js_low c scope here w before x t env kept held _ _ (threw y v q inner s sc u g a r ks same) = sim_done d (Built p w env x) (ir.ends (ir.throws v) env s) (js.throws q u) (failed y v q s u g a same)
   comes_out d js_low c scope here w before x t env kept held _ _ (stopped y inner s sc u q g r ks same) = sim_wrong d (Built p w env x) _
@@ -158,7 +158,7 @@ module _ (p : Place) (names : NamesDiffer p) where
           inner = record { this_value = Some v; locals = h.locals; sure = sure_locals l.its_body }
 
           ready : Ready p here scope (λ y. ⊥) w inner sc
-          ready = record { sees = record { inside = record { file = refl; free = λ y none. free_there x outer y none ∙ parameters-free p names (names_of l.definition.params) xs names_declared y none (body-free p names (p.has here.file).target (constructor_body l.definition l.its_body) y none) }; this = subst (Receiving w m.class (Some v)) (sym (receiver_here x outer)) (on_receiver v x this); sure = refl; locals = λ y t i. subst (Holding w t (h.locals y)) (sym (local_there x outer y)) (h.hold y t i) }; «open» = λ y wr. absurd wr }
+          ready = record { sees = record { inside = record { file = refl; free = λ y none. free_there x outer y none ∙ parameters-free p names (names_of l.definition.params) xs names_declared y none (body-free p names (p.has here.file).lookup (constructor_body l.definition l.its_body) y none) }; this = subst (Receiving w m.class (Some v)) (sym (receiver_here x outer)) (on_receiver v x this); sure = refl; locals = λ y t i. subst (Holding w t (h.locals y)) (sym (local_there x outer y)) (h.hold y t i) }; «open» = λ y wr. absurd wr }
 
           gone : result_destination l.definition.result ≡ discard
           gone = ap result_destination l.result_is

@@ -29,7 +29,7 @@ parameters_in p (x ∷ xs) = p.name (named x) ∷ parameters_in p xs
 
 -- the emitted function of a method with this body, in this file
 abbrev pub function_of : Place → Name → MethodDef → Term → js_meaning.Code
-function_of p f d e = record { parameters = parameters_in p (desugared d e).params; body = statement_templates p.name p.label (p.has f).target (desugared d e).body }
+function_of p f d e = record { parameters = parameters_in p (desugared d e).params; body = statement_templates p.name p.label (p.has f).lookup (desugared d e).body }
 
 -- a member of the classes with the types that its name tells and a body that keeps the rules by what the code of its file can use, whose function stands
 -- in that file; and what can be used there is reached there

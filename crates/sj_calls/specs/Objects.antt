@@ -17,7 +17,7 @@ use Rattle.sj_trees.specs.declared.types.IrType.TheVariants.{NoType}
 
 -- the emitted function of a method that runs on a receiver, with this body, in this file: the receiver is its first parameter
 abbrev pub function_on : Place → Name → MethodDef → core.Statements → js_meaning.Code
-function_on p f d ss = record { parameters = p.name core.receiver ∷ parameters_in p (names_of d.params); body = statement_templates p.name p.label (p.has f).target ss }
+function_on p f d ss = record { parameters = p.name core.receiver ∷ parameters_in p (names_of d.params); body = statement_templates p.name p.label (p.has f).lookup ss }
 
 -- the body of a method with this tree, and that of a constructor, which gives the object that it ran on
 abbrev pub body_of : MethodDef → Term → core.Statements

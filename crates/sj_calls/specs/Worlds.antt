@@ -113,7 +113,7 @@ pub record StaticStands (p : Place) (c f : List ℕ) (t : IrType) : Type 0 where
 pub record HasObjects (p : Place) : Type 0 where
   pub linked : (f : Name) (m : Member) → (p.has f).linked m ≡ true → Linked p m
   pub received : (f : Name) (m : Member) → (p.has f).received m ≡ true → RunsOn p m
-  pub targets : (f : Name) (m : Member) → (p.has f).received ((p.has f).target m) ≡ true → IsTargetOf p.classes m ((p.has f).target m)
+  pub targets : (f : Name) (m : Member) → (p.has f).received ((p.has f).lookup.target m) ≡ true → IsTargetOf p.classes m ((p.has f).lookup.target m)
   pub built : (f : Name) (m : Member) → (p.has f).built m ≡ true → Constructs p m
   pub made : (f : Name) (c : List ℕ) → (p.has f).made c ≡ true → IsMade p c
   pub objects : (f : Name) (c : List ℕ) → (p.has f).made c ≡ true → is_hijacked c ≡ false

@@ -2,6 +2,7 @@
 use Rattle.std.specs.Prelude.{ℕ, ℤ, Bool, List, Option}
 use Rattle.sj_names.specs.declared.method_names.Member.{Member}
 use Rattle.sj_names.specs.declared.method_names.Namespace.{Namespace}
+use Rattle.sj_core.specs.declared.callees.Callee.{Callee}
 use Rattle.sj_trees.specs.declared.operators.BinaryOp.{BinaryOp}
 use Rattle.sj_trees.specs.declared.operators.UnaryOp.{UnaryOp}
 use Rattle.sj_trees.specs.declared.positions.Position.{Position}
@@ -15,7 +16,7 @@ pub data Variable : Type 0 where
 
 mutual
   -- among them a field of an object, a static field, a value that isn't null, an object of the member's class on which that constructor ran, a call of the
-  -- member on a receiver, whether a value is of a type, and a value cast to a type
+  -- callee on a receiver, whether a value is of a type, and a value cast to a type
   pub data Expression : Type 0 where
     undefined_value : Expression
     null_value : Expression
@@ -33,7 +34,7 @@ mutual
     static_of : List ℕ → List ℕ → Expression
     checked_value : Expression → Expression
     made_of : Member → Expressions → Expression
-    receiver_call : Member → Expression → Expressions → Expression
+    receiver_call : Callee → Expression → Expressions → Expression
     test_of : IrType → Expression → Expression
     cast_of : IrType → Expression → Expression
     unary_of : UnaryOp → Expression → Expression

@@ -1,4 +1,5 @@
 // Expressions of the core.
+use crate::Callee;
 use sj_names::{ClassName, FieldName, LocalName, Member};
 use sj_trees::{BinaryOp, IrType, UnaryOp};
 use sj_units::Units;
@@ -43,8 +44,8 @@ pub enum CoreExpression {
     Checked(Box<CoreExpression>),
     /// A new object of the member's class, on which the member, a constructor, runs with these arguments.
     Made(Member, Vec<CoreExpression>),
-    /// A call of the member on a receiver, with these arguments.
-    ReceiverCall(Member, Box<CoreExpression>, Vec<CoreExpression>),
+    /// A call on a receiver, with these arguments.
+    ReceiverCall(Callee, Box<CoreExpression>, Vec<CoreExpression>),
     /// Whether a value is an instance of the type.
     Test(IrType, Box<CoreExpression>),
     /// A value that is cast to the type.

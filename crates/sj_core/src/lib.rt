@@ -5,10 +5,12 @@
 //! pointers.
 #![tactic(auto)]
 
+mod callees;
 mod expressions;
 mod methods;
 mod statements;
 
+pub use callees::Callee;
 pub use expressions::{CoreExpression, CoreVariable};
 pub use methods::CoreMethod;
 pub use statements::{CoreCase, CoreStatement};

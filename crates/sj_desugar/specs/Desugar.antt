@@ -1,11 +1,12 @@
 -- Trees as statements and expressions of the core.
-use Rattle.std.specs.Prelude.{ℕ, Bool, true, false, List, [], ◌∷◌, ℤ, pos, Some, None, if◌then◌else◌}
+use Rattle.std.specs.Prelude.{ℕ, Bool, true, false, List, [], ◌∷◌, ℤ, pos, Option, Some, None, if◌then◌else◌}
 use Rattle.std.specs.Cmp.Lexicographic.{pointwise}
 use Rattle.std.specs.Prelude.{nat_eq}
 use Rattle.sj_names.specs.declared.method_names.Member.{Member}
 use Rattle.sj_names.specs.declared.method_names.MethodName.{MethodName}
 use Rattle.sj_names.specs.declared.method_names.Namespace.{Namespace}
-use Rattle.sj_names.specs.declared.method_names.Namespace.TheVariants.{Constructor}
+use Rattle.sj_names.specs.declared.references.TypeRef.{TypeRef}
+use Rattle.sj_names.specs.declared.method_names.Namespace.TheVariants.{Public, Constructor}
 use Rattle.sj_trees.specs.Term.{Term, Terms, no_terms, more_terms, Cases, no_cases, more_cases, var_def, skip, block_of, labeled, assign, return_to, if_then, while_loop, do_while, try_catch, try_finally, throw, match_on, new_object, load_module, store_module, select, select_static, apply, apply_statically, apply_static, unary_op, binary_op, new_array, array_value, array_length, array_select, is_instance_of, as_instance_of, undefined_literal, null_literal, boolean_literal, char_literal, byte_literal, short_literal, int_literal, long_literal, string_literal, var_ref, this_ref, log_line}
 use Rattle.sj_trees.specs.Types.{class_type}
 use Rattle.sj_trees.specs.TypeOf.{type_of_term, unary_result, binary_result}
@@ -14,13 +15,17 @@ use Rattle.sj_trees.specs.declared.classes.ParamDef.{ParamDef}
 use Rattle.sj_trees.specs.declared.operators.UnaryOp.TheVariants.{BooleanNot}
 use Rattle.sj_trees.specs.declared.positions.Position.{Position}
 use Rattle.sj_trees.specs.declared.types.IrType.{IrType}
-use Rattle.sj_trees.specs.declared.types.IrType.TheVariants.{Any, Nothing, Undefined, Boolean, Char, Byte, Short, Int, Long, String, Null, NoType}
+use Rattle.sj_trees.specs.declared.types.IrType.TheVariants.{Any, Array, Nothing, Undefined, Boolean, Char, Byte, Short, Int, Long, String, Null, NoType}
 use Rattle.sj_core.specs.Terms as core
 use Rattle.sj_core.specs.Terms.{named, Expression, field_of, static_of, made_of, receiver_call, test_of, cast_of, checked_value, undefined_value, null_value, boolean_value, number_value, long_value, text_value, variable_use, choice_of, static_call, unary_of, binary_of, Statement, define_of, declare_of, assign_to, evaluate_of, return_of, log_of, assign_field, assign_static, throw_of, leave_label, break_nearest, if_of, while_of, loop_of, labeled_of, switch_of, Statements, no_statements, statement, followed, Method}
 use Rattle.sj_core.specs.Views.{expressions_of}
+use Rattle.sj_core.specs.declared.callees.Callee.{Callee}
+use Rattle.sj_core.specs.declared.callees.Callee.TheVariants as callees
 use Rattle.sj_desugar.specs.Coercions.{coerced, coerced_arguments, coerced_receiver}
 use Rattle.sj_desugar.specs.Plain.{is_no_type, is_plain, is_fixed, is_among, mutable_in, mutable_params}
 use Rattle.sj_desugar.specs.Texts.{operand_of}
+use Rattle.sj_world.specs.Calls.{receiver_class}
+use Rattle.sj_world.specs.Known.{is_hijacked}
 use Rattle.sure_receivers.specs.Sure.{is_sure, sure_locals}
 use Rattle.sj_desugar.specs.Spill.{Destination, discard, to_variable, to_result, Code, no_code, one, put_first, joined, then_code, Operand, spill, then_use}
 
@@ -81,6 +86,23 @@ has_no_value _ = false
 abbrev pub member : List ℕ → Namespace → MethodName → Member
 member c n m = record { class = c; namespace = n; method = m }
 
+-- a public method, called on a receiver of this class: a hijacked class decides by itself what is called; where there is no class, none has a value
+abbrev pub called_in : Option (List ℕ) → MethodName → Callee
+called_in None m = callees.OfArray m
+called_in (Some c) m = if is_hijacked c then callees.Member (member c Public m) else callees.LookedUp c m
+
+-- by what a receiver of this type is called under a name: a name without a result is a reflective one
+abbrev pub called_on : IrType → MethodName → Callee
+called_on (Array r) m = callees.OfArray m
+called_on t m = called_in (receiver_class t) m
+
+abbrev pub named_by : Option TypeRef → IrType → MethodName → Callee
+named_by None t m = callees.Reflective m
+named_by (Some r) t m = called_on t m
+
+abbrev pub callee_of : IrType → MethodName → Callee
+callee_of t m = named_by m.result t m
+
 -- the first of these expressions; a form that has an operand has one
 abbrev pub first_of : List Expression → Expression
 first_of [] = undefined_value
@@ -107,7 +129,8 @@ module _ (sure : List ℕ → Bool) where
     pub expression_of : Term → Expression
     expression_of (if_then p c a b t) = choice_of (expression_of c) (coerced t (type_of_term a) (expression_of a)) (coerced t (type_of_term b) (expression_of b))
     expression_of (apply_static p c n m ts t) = static_call (member c n m) (expressions_of (coerced_arguments m.params (types_of ts) (all_expressions ts)))
-    expression_of (apply_statically p e c n m ts t) = receiver_call (member c n m) (coerced_receiver (type_of_term e) (received_text (is_sure sure e) (expression_of e))) (expressions_of (coerced_arguments m.params (types_of ts) (all_expressions ts)))
+    expression_of (apply p e m ts t) = receiver_call (callee_of (type_of_term e) m) (coerced_receiver (type_of_term e) (received_text (is_sure sure e) (expression_of e))) (expressions_of (coerced_arguments m.params (types_of ts) (all_expressions ts)))
+    expression_of (apply_statically p e c n m ts t) = receiver_call (callees.Member (member c n m)) (coerced_receiver (type_of_term e) (received_text (is_sure sure e) (expression_of e))) (expressions_of (coerced_arguments m.params (types_of ts) (all_expressions ts)))
     expression_of (this_ref p t) = variable_use core.receiver
     expression_of (new_object p c m ts) = made_of (member c Constructor m) (expressions_of (coerced_arguments m.params (types_of ts) (all_expressions ts)))
     expression_of (select p e c f t) = field_of (received_text (is_sure sure e) (expression_of e)) c f
@@ -223,7 +246,8 @@ module _ (is_mutable sure : List ℕ → Bool) where
     into ls k j (do_while p b c) = wrapped (loop_of (Some p)) (then_code (into ls discard j b) (λ j. then_use (spill (operand c (λ k j. into ls k j c) ∷ []) j) (λ es. one (break_unless (first_of es)))))
     into ls k j (match_on p e cs d t) = then_use (spill (operand e (λ k j. into ls k j e) ∷ []) j) (λ es j. switch_code p (first_of es) (cases ls k j cs) (λ j. into ls k j d))
     into ls k j (apply_static p c n m ts t) = then_use (spill (operands ls ts) j) (λ es. finish k p t false (static_call (member c n m) (expressions_of (coerced_arguments m.params (types_of ts) es))))
-    into ls k j (apply_statically p e c n m ts t) = then_use (spill (receiver e (λ k j. into ls k j e) ∷ operands ls ts) j) (λ es. finish k p t false (receiver_call (member c n m) (coerced_receiver (type_of_term e) (first_of es)) (expressions_of (coerced_arguments m.params (types_of ts) (rest_of es)))))
+    into ls k j (apply p e m ts t) = then_use (spill (receiver e (λ k j. into ls k j e) ∷ operands ls ts) j) (λ es. finish k p t false (receiver_call (callee_of (type_of_term e) m) (coerced_receiver (type_of_term e) (first_of es)) (expressions_of (coerced_arguments m.params (types_of ts) (rest_of es)))))
+    into ls k j (apply_statically p e c n m ts t) = then_use (spill (receiver e (λ k j. into ls k j e) ∷ operands ls ts) j) (λ es. finish k p t false (receiver_call (callees.Member (member c n m)) (coerced_receiver (type_of_term e) (first_of es)) (expressions_of (coerced_arguments m.params (types_of ts) (rest_of es)))))
     into ls k j (this_ref p t) = finish k p t true (variable_use core.receiver) j
     into ls k j (throw p e) = then_use (spill (operand e (λ k j. into ls k j e) ∷ []) j) (λ es. one (throw_of (Some p) (coerced Any (type_of_term e) (first_of es))))
     into ls k j (new_object p c m ts) = then_use (spill (operands ls ts) j) (λ es. finish k p (class_type c) false (made_of (member c Constructor m) (expressions_of (coerced_arguments m.params (types_of ts) es))))

@@ -2,6 +2,7 @@
 use Rattle.std.specs.Prelude.{◌≡◌, ℕ, Bool, false, List, [], ◌∷◌, Some, codes, pos}
 use Rattle.sj_core.specs.Terms as core
 use Rattle.sj_core.specs.Terms.{Statements, statement, no_statements, named, numbered, variable_use, field_of, checked_value, receiver_call, number_value, expression, no_expressions, constant_of, assign_to, return_of}
+use Rattle.sj_core.specs.declared.callees.Callee.TheVariants as callees
 use Rattle.sj_desugar.specs.Desugar.{into, member}
 use Rattle.sj_desugar.specs.Spill.{to_result}
 use Rattle.sj_names.specs.Same.{is_same_text}
@@ -34,4 +35,4 @@ block = block_of nowhere (more_terms (skip nowhere) (more_terms (int_literal now
 pub record ReceiversAreChecked : Type 0 where
   pub of_a : returned (select nowhere (use_of (codes "a")) (codes "A") (codes "f") Int) ≡ statement (return_of (Some nowhere) (field_of (variable_use (named (codes "a"))) (codes "A") (codes "f"))) no_statements
   pub of_b : returned (select nowhere (use_of (codes "b")) (codes "A") (codes "f") Int) ≡ statement (return_of (Some nowhere) (field_of (checked_value (variable_use (named (codes "b")))) (codes "A") (codes "f"))) no_statements
-  pub in_front : returned (apply_statically nowhere (use_of (codes "b")) (codes "A") Private takes_int (more_terms block no_terms) Int) ≡ statement (constant_of (Some nowhere) (numbered 1) (checked_value (variable_use (named (codes "b"))))) (statement (core.declare_of (Some nowhere) (numbered 2)) (statement (assign_to (Some nowhere) (numbered 2) (number_value (pos 4))) (statement (return_of (Some nowhere) (receiver_call (member (codes "A") Private takes_int) (variable_use (numbered 1)) (expression (variable_use (numbered 2)) no_expressions))) no_statements)))
+  pub in_front : returned (apply_statically nowhere (use_of (codes "b")) (codes "A") Private takes_int (more_terms block no_terms) Int) ≡ statement (constant_of (Some nowhere) (numbered 1) (checked_value (variable_use (named (codes "b"))))) (statement (core.declare_of (Some nowhere) (numbered 2)) (statement (assign_to (Some nowhere) (numbered 2) (number_value (pos 4))) (statement (return_of (Some nowhere) (receiver_call (callees.Member (member (codes "A") Private takes_int)) (variable_use (numbered 1)) (expression (variable_use (numbered 2)) no_expressions))) no_statements)))

@@ -2,6 +2,7 @@
 use Rattle.std.proofs.Common.{◌≡◌, ◌∙◌, ℕ, suc, Bool, true, false, ◌&&◌, List, [], ◌∷◌, ap, sym, refl, Some}
 use Rattle.sj_core.specs.Terms.{named, assign_to, log_of, while_of, loop_of, boolean_value}
 use Rattle.sj_core.specs.Terms as core
+use Rattle.sj_core.specs.declared.callees.Callee.{Callee}
 use Rattle.sj_desugar.specs.Coercions.{coerced, coerced_arguments, coerced_receiver}
 use Rattle.sj_core.specs.Views.{expressions_of}
 use Rattle.sj_desugar.specs.Desugar.{Targets, into, expression_of, cases, member, types_of, operand, operands, branched, wrapped, break_unless, switched, finish, first_of, second_of, rest_of, received, receiver, position_of, branches, switch_code, Branches}
@@ -16,7 +17,7 @@ use Rattle.sj_desugarer.proofs.Spilling.{use-one, use-two, use-first}
 use Rattle.sj_desugarer.proofs.Runs.{operands-plain}
 use Rattle.sj_names.specs.declared.method_names.MethodName.{MethodName}
 use Rattle.sj_names.specs.declared.method_names.Namespace.{Namespace}
-use Rattle.sj_trees.specs.Term.{Term, Terms, Cases, apply_static, apply_statically, throw, select, select_static, assign, var_ref, if_then, while_loop, do_while, match_on, unary_op, binary_op, is_instance_of, as_instance_of, log_line}
+use Rattle.sj_trees.specs.Term.{Term, Terms, Cases, apply_static, throw, select, select_static, assign, var_ref, if_then, while_loop, do_while, match_on, unary_op, binary_op, is_instance_of, as_instance_of, log_line}
 use Rattle.sj_trees.specs.TypeOf.{type_of_term, unary_result, binary_result}
 use Rattle.sj_trees.specs.declared.operators.BinaryOp.{BinaryOp}
 use Rattle.sj_trees.specs.declared.operators.UnaryOp.{UnaryOp}
@@ -139,11 +140,15 @@ module _ (m s : List ℕ → Bool) (ls : Targets) (k : Destination) (j : ℕ) (p
   assignment-row (select_static q c f t) e = static-row q c f t e
   assignment-row _ e = refl
 
-  receive-row : (e : Term) (c : List ℕ) (n : Namespace) (f : MethodName) (ts : Terms) (t : IrType) → into m s ls k j (apply_statically p e c n f ts t) ≡ behind (comes_received m s ls (are_plain ts) j e) (λ g i. then_use (spill (operands m s ls ts) i) (λ es. finish k p t false (core.receiver_call (member c n f) (coerced_receiver (type_of_term e) g) (expressions_of (coerced_arguments f.params (types_of ts) es)))))
-  unfolding comes_received
-  receive-row e c n f ts t = use-first (receiver m s e (λ k j. into m s ls k j e)) (operands m s ls ts) j (λ es. finish k p t false (core.receiver_call (member c n f) (coerced_receiver (type_of_term e) (first_of es)) (expressions_of (coerced_arguments f.params (types_of ts) (rest_of es))))) ∙ ap (λ b. behind (placed b (receiver m s e (λ k j. into m s ls k j e)) j) (λ g i. then_use (spill (operands m s ls ts) i) (λ es. finish k p t false (core.receiver_call (member c n f) (coerced_receiver (type_of_term e) g) (expressions_of (coerced_arguments f.params (types_of ts) es)))))) (operands-plain m s ls ts)
+  -- what is written for a call of this callee on a receiver, with these arguments
+  abbrev pub call_of : Callee → Term → MethodName → Terms → IrType → Code
+  call_of u e f ts t = then_use (spill (receiver m s e (λ k j. into m s ls k j e) ∷ operands m s ls ts) j) (λ es. finish k p t false (core.receiver_call u (coerced_receiver (type_of_term e) (first_of es)) (expressions_of (coerced_arguments f.params (types_of ts) (rest_of es)))))
 
-  pub receive-joins : (o : Placed) (r : Spilled) (e : Term) (c : List ℕ) (n : Namespace) (f : MethodName) (ts : Terms) (t : IrType) (rest : Bool) → rest ≡ are_plain ts → o ≡ comes_received m s ls rest j e → r ≡ with_arguments f.params (types_of ts) (spill (operands m s ls ts) o.next) → into m s ls k j (apply_statically p e c n f ts t) ≡ behind o (λ g i. then_use r (λ es. finish k p t false (core.receiver_call (member c n f) (coerced_receiver (type_of_term e) g) (expressions_of es))))
-  receive-joins o r e c n f ts t rest hr h ha =
+  receive-row : (u : Callee) (e : Term) (f : MethodName) (ts : Terms) (t : IrType) → call_of u e f ts t ≡ behind (comes_received m s ls (are_plain ts) j e) (λ g i. then_use (spill (operands m s ls ts) i) (λ es. finish k p t false (core.receiver_call u (coerced_receiver (type_of_term e) g) (expressions_of (coerced_arguments f.params (types_of ts) es)))))
+  unfolding comes_received
+  receive-row u e f ts t = use-first (receiver m s e (λ k j. into m s ls k j e)) (operands m s ls ts) j (λ es. finish k p t false (core.receiver_call u (coerced_receiver (type_of_term e) (first_of es)) (expressions_of (coerced_arguments f.params (types_of ts) (rest_of es))))) ∙ ap (λ b. behind (placed b (receiver m s e (λ k j. into m s ls k j e)) j) (λ g i. then_use (spill (operands m s ls ts) i) (λ es. finish k p t false (core.receiver_call u (coerced_receiver (type_of_term e) g) (expressions_of (coerced_arguments f.params (types_of ts) es)))))) (operands-plain m s ls ts)
+
+  pub receive-joins : (o : Placed) (r : Spilled) (u : Callee) (e : Term) (f : MethodName) (ts : Terms) (t : IrType) (rest : Bool) → rest ≡ are_plain ts → o ≡ comes_received m s ls rest j e → r ≡ with_arguments f.params (types_of ts) (spill (operands m s ls ts) o.next) → call_of u e f ts t ≡ behind o (λ g i. then_use r (λ es. finish k p t false (core.receiver_call u (coerced_receiver (type_of_term e) g) (expressions_of es))))
+  receive-joins o r u e f ts t rest hr h ha =
       let e1 : comes_received m s ls (are_plain ts) j e ≡ o = ap (λ b. comes_received m s ls b j e) (sym hr) ∙ sym h in
-      receive-row e c n f ts t ∙ ap (λ (x : Placed). behind x (λ g i. then_use (with_arguments f.params (types_of ts) (spill (operands m s ls ts) i)) (λ es. finish k p t false (core.receiver_call (member c n f) (coerced_receiver (type_of_term e) g) (expressions_of es))))) e1 ∙ ap (λ (x : Spilled). behind o (λ g i. then_use x (λ es. finish k p t false (core.receiver_call (member c n f) (coerced_receiver (type_of_term e) g) (expressions_of es))))) (sym ha)
+      receive-row u e f ts t ∙ ap (λ (x : Placed). behind x (λ g i. then_use (with_arguments f.params (types_of ts) (spill (operands m s ls ts) i)) (λ es. finish k p t false (core.receiver_call u (coerced_receiver (type_of_term e) g) (expressions_of es))))) e1 ∙ ap (λ (x : Spilled). behind o (λ g i. then_use x (λ es. finish k p t false (core.receiver_call u (coerced_receiver (type_of_term e) g) (expressions_of es))))) (sym ha)

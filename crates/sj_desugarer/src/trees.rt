@@ -12,13 +12,13 @@ ghost use Rattle.sj_trees.specs.View.{view, terms_view, cases_view};
 
 use sj_core::CoreExpression;
 use sj_desugaring::{
-    Callee, Destination, FieldPlace, Operation, Placed, PlacedAll, SwitchCases, Target, Written,
-    are_plain, assigned, binary_value, branched, brought, call_value, case_of, cast_value, checked,
-    checked_operand, coerced_argument, declared, defined, expression_of, field_set, field_value,
-    in_place, is_fixed, is_plain, is_sure, joined, kept, labeled, leaving, local_destination,
-    logged, looped, looped_behind, made_value, nothing, number_behind, operand_destination,
-    position_of, receiver_value, static_set, switched, target_of, tested_loop, tested_value,
-    thrown, unary_value, value_of, with_label, without_first,
+    CalledMember, Destination, FieldPlace, Operation, Placed, PlacedAll, SwitchCases, Target,
+    Written, are_plain, assigned, binary_value, branched, brought, call_value, case_of, cast_value,
+    checked, checked_operand, coerced_argument, declared, defined, expression_of, field_set,
+    field_value, in_place, is_fixed, is_plain, is_sure, joined, kept, labeled, leaving,
+    local_destination, logged, looked_up_value, looped, looped_behind, made_value, member_value,
+    nothing, number_behind, operand_destination, position_of, static_set, switched, target_of,
+    tested_loop, tested_value, thrown, unary_value, value_of, with_label, without_first,
 };
 use sj_names::{LocalName, NoMemory, TypeRef};
 use sj_trees::{MatchCase, Position, Tree, type_of};
@@ -104,17 +104,33 @@ pub fn statements_of(
             switched(alloc, *position, selected, branches, last)
         }
         Tree::ApplyStatic(position, class, namespace, method, trees, tpe) => {
-            let callee = Callee {
+            let member = CalledMember {
                 class,
                 namespace: *namespace,
                 method,
             };
             let params = method.params.as_slice();
             let arguments = arguments_of(alloc, locals, targets, params, next, trees)?;
-            call_value(alloc, destination, *position, &callee, tpe, arguments)
+            call_value(alloc, destination, *position, &member, tpe, arguments)
+        }
+        Tree::Apply(position, object, method, trees, tpe) => {
+            let trees_plain = are_plain(trees);
+            let owner = receiver_of(alloc, locals, targets, trees_plain, next, object)?;
+            let params = method.params.as_slice();
+            let arguments = arguments_of(alloc, locals, targets, params, owner.next, trees)?;
+            looked_up_value(
+                alloc,
+                destination,
+                *position,
+                method,
+                tpe,
+                object,
+                owner,
+                arguments,
+            )
         }
         Tree::ApplyStatically(position, object, class, namespace, method, trees, tpe) => {
-            let callee = Callee {
+            let member = CalledMember {
                 class,
                 namespace: *namespace,
                 method,
@@ -123,11 +139,11 @@ pub fn statements_of(
             let owner = receiver_of(alloc, locals, targets, all_plain, next, object)?;
             let params = method.params.as_slice();
             let arguments = arguments_of(alloc, locals, targets, params, owner.next, trees)?;
-            receiver_value(
+            member_value(
                 alloc,
                 destination,
                 *position,
-                &callee,
+                &member,
                 tpe,
                 object,
                 owner,
@@ -192,7 +208,6 @@ pub fn statements_of(
         | Tree::TryFinally(_, _, _)
         | Tree::LoadModule(_, _)
         | Tree::StoreModule(_, _, _)
-        | Tree::Apply(_, _, _, _, _)
         | Tree::NewArray(_, _, _)
         | Tree::ArrayValue(_, _, _)
         | Tree::ArrayLength(_, _)

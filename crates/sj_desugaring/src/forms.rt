@@ -416,9 +416,9 @@ fn binary(
     Ok(CoreExpression::Binary(operation.op, left, right))
 }
 
-/// What a call of a static method names.
+/// The member that a call names.
 #[derive(Clone, Copy)]
-pub struct Callee<'m> {
+pub struct CalledMember<'m> {
     pub class: &'m ClassName,
     pub namespace: Namespace,
     pub method: &'m MethodName,
@@ -429,7 +429,7 @@ pub fn call_value(
     alloc: Global,
     destination: &Destination,
     position: Position,
-    callee: &Callee<'_>,
+    callee: &CalledMember<'_>,
     tpe: &IrType,
     arguments: PlacedAll,
 ) -> Result<Written, NoMemory>

@@ -13,13 +13,13 @@ mod writing;
 
 pub use destinations::{Destination, Target, target_of, with_label};
 pub use forms::{
-    Callee, Operation, SwitchCases, assigned, binary_value, branched, call_value, case_of,
+    CalledMember, Operation, SwitchCases, assigned, binary_value, branched, call_value, case_of,
     declared, defined, logged, looped, looped_behind, switched, tested_loop, unary_value,
 };
 pub use jumps::{labeled, leaving};
 pub use objects::{
-    FieldPlace, cast_value, checked_operand, field_set, field_value, made_value, receiver_value,
-    static_set, tested_value, thrown,
+    FieldPlace, cast_value, checked_operand, field_set, field_value, looked_up_value, made_value,
+    member_value, static_set, tested_value, thrown,
 };
 pub use placing::{
     Placed, PlacedAll, brought, in_place, kept, local_destination, number_behind,

@@ -2,6 +2,7 @@
 ghost use Rattle.std.specs.Prelude.{◌≡◌, true, false, Some, IfOk};
 ghost use Rattle.sj_core.specs.Terms as terms;
 ghost use Rattle.sj_core.specs.Views.{expression_view, expressions_of};
+ghost use Rattle.sj_core.specs.declared.callees.Callee.TheVariants as callees;
 ghost use Rattle.sj_desugar.specs.Coercions as coercions;
 ghost use Rattle.sj_desugar.specs.Desugar as desugar;
 ghost use Rattle.sj_desugar.specs.Spill as spill;
@@ -14,13 +15,14 @@ ghost use Rattle.sj_trees.specs.declared.types.IrType.TheVariants.{Any, Boolean}
 ghost use Rattle.sj_desugaring.specs.Views.{destination_view, code_view, placed_view, all_view};
 
 use crate::destinations::Destination;
-use crate::forms::{Callee, finish};
+use crate::forms::{CalledMember, finish};
 use crate::placing::{Placed, PlacedAll};
 use crate::writing::{Written, joined, one};
 use plain_desugaring::{
-    cast, checked, coerced, coerced_receiver, field_of, made, position_of, receiver_call, tested,
+    callee_on, cast, checked, coerced, coerced_receiver, field_of, made, member_called,
+    position_of, receiver_call, tested,
 };
-use sj_core::{CoreExpression, CoreStatement};
+use sj_core::{Callee, CoreExpression, CoreStatement};
 use sj_names::{ClassName, FieldName, MethodName, NoMemory};
 use sj_trees::{IrType, Position, Tree, type_of};
 use std::alloc::Global;
@@ -239,28 +241,74 @@ pub fn made_value(
     joined(front, back)
 }
 
-/// A call on what this tree comes to as a receiver, with these arguments. Its value goes to a destination.
-pub fn receiver_value(
+/// A call of this member on what a tree comes to as a receiver, with these arguments. Its value goes to a destination.
+pub fn member_value(
     alloc: Global,
     destination: &Destination,
     position: Position,
-    callee: &Callee<'_>,
+    member: &CalledMember<'_>,
     tpe: &IrType,
     tree: &Tree,
     receiver: Placed,
     arguments: PlacedAll,
 ) -> Result<Written, NoMemory>
-    ensures { IfOk result (λ w. code_view w ≡ behind (placed_view receiver) (λ e j. spill.then_use (all_view arguments) (λ es. desugar.finish (destination_view destination.now) position tpe.now false (terms.receiver_call (desugar.member callee.now.class.now callee.now.namespace callee.now.method.now) (coercions.coerced_receiver (type_of_term (view tree.now)) e) (expressions_of es))))) }
+    ensures { IfOk result (λ w. code_view w ≡ behind (placed_view receiver) (λ e j. spill.then_use (all_view arguments) (λ es. desugar.finish (destination_view destination.now) position tpe.now false (terms.receiver_call (callees.Member (desugar.member member.now.class.now member.now.namespace member.now.method.now)) (coercions.coerced_receiver (type_of_term (view tree.now)) e) (expressions_of es))))) }
+{
+    let callee = member_called(member.class, member.namespace, member.method)?;
+    receiver_value(
+        alloc,
+        destination,
+        position,
+        callee,
+        tpe,
+        tree,
+        receiver,
+        arguments,
+    )
+}
+
+/// A call of what this name calls on what a tree comes to as a receiver, with these arguments. Its value goes to a destination.
+pub fn looked_up_value(
+    alloc: Global,
+    destination: &Destination,
+    position: Position,
+    method: &MethodName,
+    tpe: &IrType,
+    tree: &Tree,
+    receiver: Placed,
+    arguments: PlacedAll,
+) -> Result<Written, NoMemory>
+    ensures { IfOk result (λ w. code_view w ≡ behind (placed_view receiver) (λ e j. spill.then_use (all_view arguments) (λ es. desugar.finish (destination_view destination.now) position tpe.now false (terms.receiver_call (desugar.callee_of (type_of_term (view tree.now)) method.now) (coercions.coerced_receiver (type_of_term (view tree.now)) e) (expressions_of es))))) }
+{
+    let callee = callee_on(alloc, tree, method)?;
+    receiver_value(
+        alloc,
+        destination,
+        position,
+        callee,
+        tpe,
+        tree,
+        receiver,
+        arguments,
+    )
+}
+
+// A call on what a tree comes to as a receiver, with these arguments. Its value goes to a destination.
+fn receiver_value(
+    alloc: Global,
+    destination: &Destination,
+    position: Position,
+    callee: Callee,
+    tpe: &IrType,
+    tree: &Tree,
+    receiver: Placed,
+    arguments: PlacedAll,
+) -> Result<Written, NoMemory>
+    ensures { IfOk result (λ w. code_view w ≡ behind (placed_view receiver) (λ e j. spill.then_use (all_view arguments) (λ es. desugar.finish (destination_view destination.now) position tpe.now false (terms.receiver_call callee (coercions.coerced_receiver (type_of_term (view tree.now)) e) (expressions_of es))))) }
 {
     let own = type_of(alloc, tree)?;
     let called = coerced_receiver(alloc, &own, receiver.expression)?;
-    let value = receiver_call(
-        callee.class,
-        callee.namespace,
-        callee.method,
-        called,
-        arguments.expressions,
-    )?;
+    let value = receiver_call(callee, called, arguments.expressions);
     let back = finish(
         alloc,
         destination,

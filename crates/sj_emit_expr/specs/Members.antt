@@ -1,6 +1,7 @@
 -- The piece of any method: a function, which has its receiver as the first parameter where there is one.
 use Rattle.std.specs.Prelude.{List, ◌∷◌}
 use Rattle.js_tree.specs.Terms.{Name, Piece}
+use Rattle.sj_core.specs.Lookup.{Lookup}
 use Rattle.sj_core.specs.Terms.{Method, receiver}
 use Rattle.sj_emit_expr.specs.Names.{variable_name}
 use Rattle.sj_emit_expr.specs.Pieces.{function_piece}
@@ -19,6 +20,6 @@ with_receiver _ xs = variable_name receiver ∷ xs
 abbrev pub function_parameters : Method → List Name
 function_parameters m = with_receiver m.namespace (parameter_names m.params)
 
--- by the targets of public members
-abbrev pub member_piece : (Member → Member) → Member → Method → Piece
-member_piece target m c = function_piece m (function_parameters c) (body_template target c) (uses target c.body)
+-- by what is known of the classes
+abbrev pub member_piece : Lookup → Member → Method → Piece
+member_piece known m c = function_piece m (function_parameters c) (body_template known c) (uses known c.body)

@@ -1,6 +1,7 @@
 -- Methods with objects, and the functions that are written for them.
 use Rattle.std.specs.Prelude.{ℕ, false, List, [], ◌∷◌, pos, codes, Some, None, if◌then◌else◌}
 use Rattle.js_tree.specs.Terms.{Piece}
+use Rattle.sj_core.specs.Lookup.{Lookup, own_targets}
 use Rattle.sj_desugar.specs.Desugar.{desugared_member}
 use Rattle.sj_emit_expr.specs.Members.{member_piece}
 use Rattle.sj_names.specs.Same.{is_same_text}
@@ -8,9 +9,10 @@ use Rattle.sj_names.specs.declared.method_names.Member.{Member}
 use Rattle.sj_names.specs.declared.method_names.MethodName.{MethodName}
 use Rattle.sj_names.specs.declared.method_names.Namespace.{Namespace}
 use Rattle.sj_names.specs.declared.method_names.Namespace.TheVariants.{Public, PublicStatic, Private, PrivateStatic, Constructor}
+use Rattle.sj_names.specs.declared.references.BaseRef.{BaseRef}
 use Rattle.sj_names.specs.declared.references.TypeRef.{TypeRef}
 use Rattle.sj_trees.specs.Erase.{nowhere}
-use Rattle.sj_trees.specs.Term.{Term, Terms, no_terms, more_terms, var_def, skip, block_of, assign, throw, new_object, select, select_static, apply_statically, int_literal, long_literal, var_ref, this_ref, binary_op}
+use Rattle.sj_trees.specs.Term.{Term, Terms, no_terms, more_terms, var_def, skip, block_of, assign, throw, new_object, select, select_static, apply, apply_statically, int_literal, long_literal, var_ref, this_ref, binary_op}
 use Rattle.sj_trees.specs.declared.classes.ParamDef.{ParamDef}
 use Rattle.sj_trees.specs.declared.operators.BinaryOp.TheVariants.{IntAdd, IntDivide, LongRemainder}
 use Rattle.sj_trees.specs.declared.types.IrType.{IrType}
@@ -48,13 +50,13 @@ field e = select nowhere e a_name (codes "f") Types.Int
 abbrev pub this : Term
 this = this_ref nowhere a_class
 
--- the piece of a method of the class A with this body, by the targets of public members
-abbrev pub piece_by : (Member → Member) → Namespace → MethodName → List ParamDef → IrType → Term → Piece
-piece_by target n m params result body = member_piece target (record { class = a_name; namespace = n; method = m }) (desugared_member (record { pos = nowhere; namespace = n; name = m; params = params; result = result; body = Some body; hash = None }) body)
+-- the piece of a method of the class A with this body, by what is known of the classes
+abbrev pub piece_by : Lookup → Namespace → MethodName → List ParamDef → IrType → Term → Piece
+piece_by known n m params result body = member_piece known (record { class = a_name; namespace = n; method = m }) (desugared_member (record { pos = nowhere; namespace = n; name = m; params = params; result = result; body = Some body; hash = None }) body)
 
 -- the same where each member is its own target
 abbrev pub piece : Namespace → MethodName → List ParamDef → IrType → Term → Piece
-piece = piece_by (λ m. m)
+piece = piece_by own_targets
 
 abbrev pub block : List Term → Term
 block ts = block_of nowhere (all ts)
@@ -99,7 +101,21 @@ abbrev pub inherited : Member → Member
 inherited m = if is_same_text m.class (codes "B") then record m { class = a_name } else m
 
 abbrev pub called_piece : Piece
-called_piece = piece_by inherited PublicStatic (named (codes "called") (TypeRef.Class a_name ∷ []) TypeRef.Void) (param (codes "q") a_class ∷ []) Types.NoType (block (call (codes "B") Public ∷ call (codes "C") Public ∷ call (codes "B") Private ∷ []))
+called_piece = piece_by (record own_targets { target = inherited }) PublicStatic (named (codes "called") (TypeRef.Class a_name ∷ []) TypeRef.Void) (param (codes "q") a_class ∷ []) Types.NoType (block (call (codes "B") Public ∷ call (codes "C") Public ∷ call (codes "B") Private ∷ []))
   where
     call : List ℕ → Namespace → Term
     call c n = apply_statically nowhere (use_of (codes "q") a_class) c n (named (codes "m") [] TypeRef.Void) no_terms Types.NoType
+
+-- calls that are looked up: on an object of a class, on any value, on a number, on a value of a hijacked class, on an array, on a char by a name without a
+-- result, and on one that isn't plain; a hijacked class stands below `java.lang.Object` alone
+abbrev pub looks_up_piece : Piece
+looks_up_piece = piece_by (record { target = inherited; has_hijacked = is_same_text (codes "java.lang.Object") }) PublicStatic (named (codes "calls") [] TypeRef.Void) [] Types.NoType (block (on a_class ∷ on Types.Any ∷ on Types.Int ∷ on (Types.Class (codes "java.lang.Byte")) ∷ on (Types.Array (record { base = BaseRef.Int; dimensions = 1 })) ∷ call (use_of (codes "q") Types.Char) proxy ∷ call (block (skip nowhere ∷ use_of (codes "q") a_class ∷ [])) (named (codes "m") [] TypeRef.Void) ∷ []))
+  where
+    call : Term → MethodName → Term
+    call e m = apply nowhere e m no_terms Types.NoType
+
+    on : IrType → Term
+    on t = call (use_of (codes "q") t) (named (codes "m") [] TypeRef.Void)
+
+    proxy : MethodName
+    proxy = record { simple = codes "m"; params = []; result = None }

@@ -2,6 +2,7 @@
 use Rattle.std.specs.Prelude.{List}
 use Rattle.js_tree.specs.Terms.{Name, Statements, Piece, function_item}
 use Rattle.js_tree.specs.declared.items.Binding.{Binding}
+use Rattle.sj_core.specs.Lookup.{Lookup}
 use Rattle.sj_core.specs.Terms.{Method}
 use Rattle.sj_emit_expr.specs.Templates.{member_name, parameter_names, body_template}
 use Rattle.sj_emit_expr.specs.Uses.{uses}
@@ -11,5 +12,5 @@ use Rattle.sj_names.specs.declared.method_names.Member.{Member}
 abbrev pub function_piece : Member → List Name → Statements → List Binding → Piece
 function_piece m params body used = record { owner = m.class; name = member_name m; uses = used; item = function_item (member_name m) params body }
 
-abbrev pub piece_of : (Member → Member) → Member → Method → Piece
-piece_of target m c = function_piece m (parameter_names c.params) (body_template target c) (uses target c.body)
+abbrev pub piece_of : Lookup → Member → Method → Piece
+piece_of known m c = function_piece m (parameter_names c.params) (body_template known c) (uses known c.body)

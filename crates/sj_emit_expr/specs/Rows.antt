@@ -1,6 +1,7 @@
 -- Two methods, and the functions that are emitted for them.
 use Rattle.std.specs.Prelude.{true, [], ◌∷◌, pos, codes, Some, None}
 use Rattle.js_tree.specs.Terms.{function_item, Piece}
+use Rattle.sj_core.specs.Lookup.{own_targets}
 use Rattle.sj_desugar.specs.Desugar.{desugared, names_of}
 use Rattle.sj_emit_expr.specs.Templates.{parameter_names, body_template, member_name}
 use Rattle.sj_emit_expr.specs.Uses.{uses}
@@ -20,8 +21,8 @@ abbrev pub piece_of : MethodDef → Term → Piece
 piece_of d e = record {
   owner = codes "A";
   name = member_name (record { class = codes "A"; namespace = d.namespace; method = d.name });
-  uses = uses (λ m. m) (desugared d e).body;
-  item = function_item (member_name (record { class = codes "A"; namespace = d.namespace; method = d.name })) (parameter_names (names_of d.params)) (body_template (λ m. m) (desugared d e));
+  uses = uses own_targets (desugared d e).body;
+  item = function_item (member_name (record { class = codes "A"; namespace = d.namespace; method = d.name })) (parameter_names (names_of d.params)) (body_template own_targets (desugared d e));
 }
 
 abbrev pub p_use : Term

@@ -1,19 +1,24 @@
 -- The emitted text of each expression and statement of the core: one line a form and an operator.
 use Rattle.std.specs.Prelude.{ℕ, zero, Bool, true, false, List, [], ◌∷◌, pos, codes}
 use Rattle.js_tree.specs.Terms as js
-use Rattle.js_tree.specs.Terms.{Name, null_literal, boolean_literal, undefined_literal, number_literal, big_literal, text_literal, name_use, property_of, call_of, new_of, binary_of, conditional_of, host_call, host_call_of_two, const_of, let_of, expression_statement, assign_name, assign_property, break_to, if_only, if_else, do_forever, switch_on}
+use Rattle.js_tree.specs.Terms.{Name, null_literal, boolean_literal, undefined_literal, number_literal, big_literal, text_literal, name_use, property_of, call_of, method_call_of, new_of, binary_of, conditional_of, host_call, host_call_of_two, const_of, let_of, expression_statement, assign_name, assign_property, break_to, if_only, if_else, do_forever, switch_on}
 use Rattle.js_tree.specs.declared.operators.BinaryOperator.TheVariants.{Add, Subtract, Multiply, Divide, Remainder, BitAnd, BitOr, BitXor, ShiftLeft, ShiftRight, ShiftRightUnsigned, StrictEqual, StrictNotEqual, Less, LessOrEqual, Greater, GreaterOrEqual}
 use Rattle.js_tree.specs.declared.operators.HostFunction.TheVariants.{BigInt, Number, StringFromCharCode, ConsoleLog}
 use Rattle.js_tree.specs.declared.operators.HostOperation.TheVariants.{BigIntAsIntN, BigIntAsUintN, MathImul}
 use Rattle.js_tree.specs.declared.operators.UnaryOperator.TheVariants.{Not}
+use Rattle.sj_core.specs.Lookup.{Lookup}
 use Rattle.sj_core.specs.Terms as core
 use Rattle.sj_core.specs.Terms.{Variable, undefined_value, null_value, boolean_value, number_value, long_value, text_value, variable_use, boxed_char, char_text, value_text, choice_of, static_call, field_of, static_of, checked_value, made_of, receiver_call, constant_of, define_of, assign_to, assign_field, assign_static, evaluate_of, log_of, leave_label, if_of, loop_of, switch_of, Method}
+use Rattle.sj_core.specs.declared.callees.Callee.{Callee}
+use Rattle.sj_core.specs.declared.callees.Callee.TheVariants as callees
 use Rattle.sj_emit_expr.specs.Names.{variable_name, label_name}
 use Rattle.sj_emit_expr.specs.Tests.{test_template, cast_template, same_template}
-use Rattle.sj_mangling.specs.Bindings.{function_name, class_binding, field_binding}
+use Rattle.sj_mangling.specs.Bindings.{function_name, class_binding, field_binding, method_binding}
 use Rattle.sj_mangling.specs.declared.bindings.ClassBinding.TheVariants.{Class}
 use Rattle.sj_mangling.specs.declared.bindings.FieldBinding.TheVariants.{Property, Variable as StaticField, Setter}
+use Rattle.sj_mangling.specs.declared.bindings.MethodBinding.TheVariants.{Entry, Dispatch, Reflective}
 use Rattle.sj_names.specs.declared.method_names.Member.{Member}
+use Rattle.sj_names.specs.declared.method_names.MethodName.{MethodName}
 use Rattle.sj_names.specs.declared.method_names.Namespace.{Namespace}
 use Rattle.sj_names.specs.declared.method_names.Namespace.TheVariants.{Public}
 use Rattle.sj_trees.specs.declared.operators.BinaryOp.{BinaryOp}
@@ -144,13 +149,25 @@ abbrev pub choice_template : js.Expression → js.Statements → js.Statements �
 choice_template c ss js.no_statements = if_only c ss
 choice_template c ss (js.statement t ts) = if_else c ss (js.statement t ts)
 
--- what a call of a member on a receiver runs, by the targets of public members: a public one may be a member that the class inherits, and any other is its own
-abbrev pub called_member : (Member → Member) → Namespace → Member → Member
-called_member target Public m = target m
-called_member target _ m = m
+-- what a call of a member on a receiver runs: a public one may be a member that the class inherits, and any other is its own
+abbrev pub called_member : Lookup → Namespace → Member → Member
+called_member known Public m = known.target m
+called_member known _ m = m
 
--- for any names of variables and labels, and any targets of public members
-module _ (name : Variable → Name) (label : List ℕ → Name) (target : Member → Member) where
+-- a method that is looked up: where a hijacked class stands below the class of the receiver, this may be a primitive value, and a function tells it from objects
+abbrev pub looked_up_template : Bool → MethodName → js.Expression → js.Expressions → js.Expression
+looked_up_template true m x xs = call_of (method_binding Dispatch m) (js.expression x xs)
+looked_up_template false m x xs = method_call_of x (method_binding Entry m) xs
+
+-- a call on a receiver, with these arguments
+abbrev pub call_template : Lookup → Callee → js.Expression → js.Expressions → js.Expression
+call_template known (callees.Member m) x xs = call_of (member_name (called_member known m.namespace m)) (js.expression x xs)
+call_template known (callees.LookedUp c m) x xs = looked_up_template (known.has_hijacked c) m x xs
+call_template known (callees.OfArray m) x xs = looked_up_template false m x xs
+call_template known (callees.Reflective m) x xs = call_of (method_binding Reflective m) (js.expression x xs)
+
+-- for any names of variables and labels, by what is known of the classes
+module _ (name : Variable → Name) (label : List ℕ → Name) (known : Lookup) where
   abbrev mutual
     pub expression_template : core.Expression → js.Expression
     expression_template undefined_value = undefined_literal
@@ -169,7 +186,7 @@ module _ (name : Variable → Name) (label : List ℕ → Name) (target : Member
     expression_template (static_of c f) = name_use (static_name c f)
     expression_template (checked_value e) = call_of check_name (js.expression (expression_template e) js.no_expressions)
     expression_template (made_of m es) = call_of (member_name m) (js.expression (new_of (class_name m.class) js.no_expressions) (expression_templates es))
-    expression_template (receiver_call m e es) = call_of (member_name (called_member target m.namespace m)) (js.expression (expression_template e) (expression_templates es))
+    expression_template (receiver_call k e es) = call_template known k (expression_template e) (expression_templates es)
     expression_template (core.test_of t e) = test_template t (expression_template e)
     expression_template (core.cast_of t e) = cast_template t (expression_template e)
     expression_template (core.unary_of o e) = unary_template o (expression_template e)
@@ -212,5 +229,5 @@ abbrev pub parameter_names : List (List ℕ) → List Name
 parameter_names [] = []
 parameter_names (x ∷ xs) = variable_name (core.named x) ∷ parameter_names xs
 
-abbrev pub body_template : (Member → Member) → Method → js.Statements
-body_template target m = statement_templates variable_name label_name target m.body
+abbrev pub body_template : Lookup → Method → js.Statements
+body_template known m = statement_templates variable_name label_name known m.body

@@ -1,12 +1,18 @@
 -- The bindings that a method's function uses, each with the class that owns it, in order of first use in the text.
-use Rattle.std.specs.Prelude.{ℕ, Bool, false, ◌&&◌, List, [], ◌∷◌, ◌++◌, nat_eq, codes, if◌then◌else◌}
+use Rattle.std.specs.Prelude.{ℕ, Bool, true, false, ◌&&◌, List, [], ◌∷◌, ◌++◌, nat_eq, codes, if◌then◌else◌}
 use Rattle.std.specs.Cmp.Lexicographic.{pointwise}
 use Rattle.std.specs.List.{list_any}
 use Rattle.js_tree.specs.declared.items.Binding.{Binding}
+use Rattle.sj_core.specs.Lookup.{Lookup}
+use Rattle.sj_core.specs.declared.callees.Callee.{Callee}
+use Rattle.sj_core.specs.declared.callees.Callee.TheVariants as callees
 use Rattle.sj_core.specs.Terms.{Expression, boxed_char, char_text, value_text, choice_of, static_call, field_of, static_of, checked_value, made_of, receiver_call, test_of, cast_of, unary_of, binary_of, Expressions, no_expressions, expression, Statement, constant_of, define_of, declare_of, assign_to, evaluate_of, return_of, log_of, assign_field, assign_static, throw_of, leave_label, break_nearest, if_of, while_of, loop_of, labeled_of, switch_of, Statements, no_statements, statement, Cases, no_cases, switch_case}
 use Rattle.sj_emit_expr.specs.Tests.{test_name, cast_name, same_name}
 use Rattle.sj_emit_expr.specs.Templates.{called_member, member_name, class_name, static_name, setter_name, check_name, is_nonzero_literal}
+use Rattle.sj_mangling.specs.Bindings.{method_binding}
+use Rattle.sj_mangling.specs.declared.bindings.MethodBinding.TheVariants.{Dispatch, Reflective}
 use Rattle.sj_names.specs.declared.method_names.Member.{Member}
+use Rattle.sj_names.specs.declared.method_names.MethodName.{MethodName}
 use Rattle.sj_trees.specs.declared.operators.BinaryOp.{BinaryOp}
 use Rattle.sj_trees.specs.declared.operators.BinaryOp.TheVariants.{StrictEqual, StrictNotEqual, IntDivide, IntRemainder, LongDivide, LongRemainder}
 use Rattle.sj_trees.specs.declared.types.IrType.{IrType}
@@ -49,8 +55,20 @@ cast_uses (Class c) = record { owner = c; name = cast_name (Class c) } ∷ []
 cast_uses (Array r) = []
 cast_uses t = object_binding (cast_name t) ∷ []
 
--- by the targets of public members
-module _ (target : Member → Member) where
+-- the function that looks a method up, where a primitive value may be the receiver
+abbrev pub looked_up_uses : Bool → MethodName → List Binding
+looked_up_uses true m = object_binding (method_binding Dispatch m) ∷ []
+looked_up_uses false m = []
+
+-- what a call on a receiver names
+abbrev pub call_uses : Lookup → Callee → List Binding
+call_uses known (callees.Member m) = function_binding (called_member known m.namespace m) ∷ []
+call_uses known (callees.LookedUp c m) = looked_up_uses (known.has_hijacked c) m
+call_uses known (callees.OfArray m) = []
+call_uses known (callees.Reflective m) = object_binding (method_binding Reflective m) ∷ []
+
+-- by what is known of the classes
+module _ (known : Lookup) where
   abbrev mutual
     -- each use in the order of the text
     pub uses_in : Expression → List Binding
@@ -63,7 +81,7 @@ module _ (target : Member → Member) where
     uses_in (static_of c f) = static_use c f ∷ []
     uses_in (checked_value e) = object_binding check_name ∷ uses_in e
     uses_in (made_of m es) = function_binding m ∷ class_use m.class ∷ uses_in_all es
-    uses_in (receiver_call m e es) = function_binding (called_member target m.namespace m) ∷ uses_in e ++ uses_in_all es
+    uses_in (receiver_call k e es) = call_uses known k ++ uses_in e ++ uses_in_all es
     uses_in (test_of t e) = test_uses t ++ uses_in e
     uses_in (cast_of t e) = cast_uses t ++ uses_in e
     uses_in (unary_of o e) = uses_in e
@@ -110,5 +128,5 @@ abbrev pub once_each : List Binding → List Binding → List Binding
 once_each seen [] = []
 once_each seen (b ∷ bs) = if list_any (is_same_binding b) seen then once_each seen bs else (b ∷ once_each (b ∷ seen) bs)
 
-abbrev pub uses : (Member → Member) → Statements → List Binding
-uses target ss = once_each [] (uses_of_all target ss)
+abbrev pub uses : Lookup → Statements → List Binding
+uses known ss = once_each [] (uses_of_all known ss)

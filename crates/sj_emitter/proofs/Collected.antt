@@ -4,10 +4,10 @@ use Rattle.std.proofs.Math.Seq.{drop-cons}
 use Rattle.std.proofs.lemmas.List.{append-nil}
 use Rattle.std.specs.List.{list_any}
 use Rattle.js_tree.specs.declared.items.Binding.{Binding}
+use Rattle.sj_core.specs.Lookup.{Lookup}
 use Rattle.sj_core.specs.Views.{case_view, cases_view}
 use Rattle.sj_core.specs.declared.statements.CoreCase.{CoreCase}
 use Rattle.sj_emit_expr.specs.Uses.{is_same_binding, once_each, uses_of_all, uses_of_cases}
-use Rattle.sj_names.specs.declared.method_names.Member.{Member}
 use Rattle.sj_emitter.specs.Collecting.{with_use, with_uses}
 
 pub with_uses-append : (bs cs ds : List Binding) → with_uses bs (cs ++ ds) ≡ with_uses (with_uses bs cs) ds
@@ -18,11 +18,11 @@ with_uses-append bs (c ∷ cs) ds = with_uses-append (with_use bs c) cs ds
 pub more-uses : (b0 b1 xs ys us : List Binding) → b1 ≡ with_uses b0 xs → xs ++ ys ≡ us → with_uses b1 ys ≡ with_uses b0 us
 more-uses b0 b1 xs ys us e h = ap (λ b. with_uses b ys) e ∙ sym (with_uses-append b0 xs ys) ∙ ap (with_uses b0) h
 
-pub case-step : (target : Member → Member) (cs : List CoreCase) (i : ℕ) (c : CoreCase) (b0 b1 : List Binding) → i < length cs → c ≡ get_or cs i c → b1 ≡ with_uses b0 (uses_of_all target (case_view c).1) → with_uses b1 (uses_of_cases target (cases_view (drop (i + 1) cs))) ≡ with_uses b0 (uses_of_cases target (cases_view (drop i cs)))
-case-step target cs i c b0 b1 h e g =
-    let here : uses_of_all target (case_view c).1 ++ uses_of_cases target (cases_view (drop (i + 1) cs)) ≡ uses_of_cases target (cases_view (drop i cs)) =
-    ap (λ n. uses_of_all target (case_view c).1 ++ uses_of_cases target (cases_view (drop n cs))) (add-one i) ∙ ap (λ u. uses_of_all target (case_view u).1 ++ uses_of_cases target (cases_view (drop (suc i) cs))) e ∙ sym (ap (λ us. uses_of_cases target (cases_view us)) (drop-cons cs i c h)) in
-    more-uses b0 b1 (uses_of_all target (case_view c).1) (uses_of_cases target (cases_view (drop (i + 1) cs))) (uses_of_cases target (cases_view (drop i cs))) g here
+pub case-step : (known : Lookup) (cs : List CoreCase) (i : ℕ) (c : CoreCase) (b0 b1 : List Binding) → i < length cs → c ≡ get_or cs i c → b1 ≡ with_uses b0 (uses_of_all known (case_view c).1) → with_uses b1 (uses_of_cases known (cases_view (drop (i + 1) cs))) ≡ with_uses b0 (uses_of_cases known (cases_view (drop i cs)))
+case-step known cs i c b0 b1 h e g =
+    let here : uses_of_all known (case_view c).1 ++ uses_of_cases known (cases_view (drop (i + 1) cs)) ≡ uses_of_cases known (cases_view (drop i cs)) =
+    ap (λ n. uses_of_all known (case_view c).1 ++ uses_of_cases known (cases_view (drop n cs))) (add-one i) ∙ ap (λ u. uses_of_all known (case_view u).1 ++ uses_of_cases known (cases_view (drop (suc i) cs))) e ∙ sym (ap (λ us. uses_of_cases known (cases_view us)) (drop-cons cs i c h)) in
+    more-uses b0 b1 (uses_of_all known (case_view c).1) (uses_of_cases known (cases_view (drop (i + 1) cs))) (uses_of_cases known (cases_view (drop i cs))) g here
 
 pub ruleset steps = (with_uses-append)
 

@@ -1,3 +1,3 @@
 pub mod Cases
 pub mod Collecting
-pub mod Targets
+pub mod Known

@@ -1,10 +1,17 @@
-// Calls that hand a first value on in front of others.
+// Calls on a receiver, which a function has in front of its arguments.
 ghost use Rattle.std.specs.Prelude.{◌≡◌, ◌∷◌, IfOk, codes};
 ghost use Rattle.js_tree.specs.Terms as js;
 ghost use Rattle.js_tree.specs.Views.{expression_view, expressions_view};
+ghost use Rattle.sj_emit_expr.specs.Templates as templates;
+ghost use Rattle.sj_emitter.specs.Known.{lookup_of};
+ghost use Rattle.sj_mangling.specs.Bindings as bindings;
+ghost use Rattle.sj_mangling.specs.declared.bindings.MethodBinding.TheVariants.{Entry};
 
+use crate::lookup::CallLookup;
 use js_tree::JsExpr;
-use sj_names::{NoMemory, Text};
+use sj_core::Callee;
+use sj_mangling::{MethodBinding, function_name, method_binding};
+use sj_names::{MethodName, NoMemory, Text};
 use std::alloc::Global;
 
 // The first value, and behind it the others.
@@ -54,4 +61,67 @@ pub fn new_object(alloc: Global, class: Text) -> JsExpr
         class,
         arguments: Vec::new(alloc),
     }
+}
+
+/// A call of what is called on a receiver: of the function of a member, of a method that is looked up, or of the function of a reflective name.
+pub fn call_of_callee(
+    alloc: Global,
+    known: &CallLookup,
+    callee: &Callee,
+    receiver: JsExpr,
+    arguments: Vec<JsExpr>,
+) -> Result<JsExpr, NoMemory>
+    ensures { IfOk result (λ e. expression_view e ≡ templates.call_template (lookup_of known.now) callee.now (expression_view receiver) (expressions_view arguments.items)) }
+{
+    match callee {
+        Callee::Member(member) => {
+            let function = function_name(alloc, known.called(member))?;
+            call_on(alloc, function, receiver, arguments)
+        }
+        Callee::LookedUp(class, method) => {
+            let has_primitives = known.has_hijacked(class);
+            call_looked_up(alloc, has_primitives, method, receiver, arguments)
+        }
+        Callee::OfArray(method) => call_looked_up(alloc, false, method, receiver, arguments),
+        Callee::Reflective(method) => {
+            let function = method_binding(alloc, MethodBinding::Reflective, method)?;
+            call_on(alloc, function, receiver, arguments)
+        }
+    }
+}
+
+// A call of a method that is looked up: `d_m(receiver, ..)` where primitive values may be the receiver, else `receiver.m_m(..)`.
+fn call_looked_up(
+    alloc: Global,
+    has_primitives: bool,
+    method: &MethodName,
+    receiver: JsExpr,
+    arguments: Vec<JsExpr>,
+) -> Result<JsExpr, NoMemory>
+    ensures { IfOk result (λ e. expression_view e ≡ templates.looked_up_template has_primitives method.now (expression_view receiver) (expressions_view arguments.items)) }
+{
+    if has_primitives {
+        let function = method_binding(alloc, MethodBinding::Dispatch, method)?;
+        call_on(alloc, function, receiver, arguments)
+    } else {
+        call_entry(alloc, method, receiver, arguments)
+    }
+}
+
+// A call of the method that an object has under the name.
+fn call_entry(
+    alloc: Global,
+    method: &MethodName,
+    receiver: JsExpr,
+    arguments: Vec<JsExpr>,
+) -> Result<JsExpr, NoMemory>
+    ensures { IfOk result (λ e. expression_view e ≡ js.method_call_of (expression_view receiver) (bindings.method_binding Entry method.now) (expressions_view arguments.items)) }
+{
+    let property = method_binding(alloc, MethodBinding::Entry, method)?;
+    let object = Box::new(alloc, receiver)?;
+    Ok(JsExpr::MethodCall {
+        object,
+        property,
+        arguments,
+    })
 }

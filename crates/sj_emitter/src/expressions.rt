@@ -4,14 +4,14 @@ ghost use Rattle.js_tree.specs.Views as js;
 ghost use Rattle.sj_core.specs.Views as core;
 ghost use Rattle.sj_emit_expr.specs.Names.{variable_name, label_name};
 ghost use Rattle.sj_emit_expr.specs.Templates as templates;
-ghost use Rattle.sj_emitter.specs.Targets.{target_of};
+ghost use Rattle.sj_emitter.specs.Known.{lookup_of};
 
-use crate::calls::{call_of_one, call_on, new_object};
+use crate::calls::{call_of_callee, call_of_one, call_on, new_object};
+use crate::lookup::CallLookup;
 use crate::names::variable_name;
 use crate::operators::{
     as_text, binary_template, boxed_char, host_call, is_nonzero_literal, unary_template,
 };
-use crate::targets::CallTargets;
 use crate::tests::{cast_template, test_template};
 use js_tree::{HostFunction, JsExpr};
 use sj_core::CoreExpression;
@@ -23,10 +23,10 @@ use std::alloc::Global;
 #[cycle(expression)]
 pub fn emit_expression(
     alloc: Global,
-    targets: &CallTargets,
+    known: &CallLookup,
     expression: &CoreExpression,
 ) -> Result<JsExpr, NoMemory>
-    ensures { IfOk result (λ e. js.expression_view e ≡ templates.expression_template variable_name label_name (target_of targets.now) (core.expression_view expression.now)) }
+    ensures { IfOk result (λ e. js.expression_view e ≡ templates.expression_template variable_name label_name (lookup_of known.now) (core.expression_view expression.now)) }
 {
     match expression {
         CoreExpression::Undefined => Ok(JsExpr::Undefined),
@@ -37,26 +37,26 @@ pub fn emit_expression(
         CoreExpression::Text(units) => Ok(JsExpr::Text(units.copied()?)),
         CoreExpression::Variable(variable) => Ok(JsExpr::Name(variable_name(alloc, variable)?)),
         CoreExpression::Boxed(operand) => {
-            let operand = emit_expression(alloc, targets, operand)?;
+            let operand = emit_expression(alloc, known, operand)?;
             boxed_char(alloc, operand)
         }
         CoreExpression::CharText(operand) => {
-            let operand = emit_expression(alloc, targets, operand)?;
+            let operand = emit_expression(alloc, known, operand)?;
             host_call(alloc, HostFunction::StringFromCharCode, operand)
         }
         CoreExpression::ValueText(operand) => {
-            let operand = emit_expression(alloc, targets, operand)?;
+            let operand = emit_expression(alloc, known, operand)?;
             as_text(alloc, operand)
         }
         CoreExpression::Choice(test, yes, no) => {
-            let test = emit_boxed(alloc, targets, test)?;
-            let yes = emit_boxed(alloc, targets, yes)?;
-            let no = emit_boxed(alloc, targets, no)?;
+            let test = emit_boxed(alloc, known, test)?;
+            let yes = emit_boxed(alloc, known, yes)?;
+            let no = emit_boxed(alloc, known, no)?;
             Ok(JsExpr::Conditional { test, yes, no })
         }
         CoreExpression::StaticCall(member, arguments) => {
             let function = function_name(alloc, member)?;
-            let arguments = emit_expressions(alloc, targets, arguments)?;
+            let arguments = emit_expressions(alloc, known, arguments)?;
             Ok(JsExpr::Call {
                 function,
                 arguments,
@@ -64,7 +64,7 @@ pub fn emit_expression(
         }
         CoreExpression::Field(object, class, field) => {
             let property = field_binding(alloc, FieldBinding::Property, class, field)?;
-            let object = emit_boxed(alloc, targets, object)?;
+            let object = emit_boxed(alloc, known, object)?;
             Ok(JsExpr::Property { object, property })
         }
         CoreExpression::StaticField(class, field) => Ok(JsExpr::Name(field_binding(
@@ -75,37 +75,36 @@ pub fn emit_expression(
         )?)),
         CoreExpression::Checked(operand) => {
             let check = Text::from_str(alloc, "$nn")?;
-            let operand = emit_expression(alloc, targets, operand)?;
+            let operand = emit_expression(alloc, known, operand)?;
             call_of_one(alloc, check, operand)
         }
         CoreExpression::Made(member, arguments) => {
             let constructor = function_name(alloc, member)?;
             let class = class_binding(alloc, ClassBinding::Class, &member.class)?;
-            let arguments = emit_expressions(alloc, targets, arguments)?;
+            let arguments = emit_expressions(alloc, known, arguments)?;
             call_on(alloc, constructor, new_object(alloc, class), arguments)
         }
-        CoreExpression::ReceiverCall(member, receiver, arguments) => {
-            let function = function_name(alloc, targets.called(member))?;
-            let receiver = emit_expression(alloc, targets, receiver)?;
-            let arguments = emit_expressions(alloc, targets, arguments)?;
-            call_on(alloc, function, receiver, arguments)
+        CoreExpression::ReceiverCall(callee, receiver, arguments) => {
+            let receiver = emit_expression(alloc, known, receiver)?;
+            let arguments = emit_expressions(alloc, known, arguments)?;
+            call_of_callee(alloc, known, callee, receiver, arguments)
         }
         CoreExpression::Test(tpe, operand) => {
-            let operand = emit_expression(alloc, targets, operand)?;
+            let operand = emit_expression(alloc, known, operand)?;
             test_template(alloc, tpe, operand)
         }
         CoreExpression::Cast(tpe, operand) => {
-            let operand = emit_expression(alloc, targets, operand)?;
+            let operand = emit_expression(alloc, known, operand)?;
             cast_template(alloc, tpe, operand)
         }
         CoreExpression::Unary(op, operand) => {
-            let operand = emit_expression(alloc, targets, operand)?;
+            let operand = emit_expression(alloc, known, operand)?;
             unary_template(alloc, *op, operand)
         }
         CoreExpression::Binary(op, left, right) => {
             let nonzero = is_nonzero_literal(right);
-            let left = emit_expression(alloc, targets, left)?;
-            let right = emit_expression(alloc, targets, right)?;
+            let left = emit_expression(alloc, known, left)?;
+            let right = emit_expression(alloc, known, right)?;
             binary_template(alloc, nonzero, *op, left, right)
         }
     }
@@ -114,26 +113,26 @@ pub fn emit_expression(
 #[cycle(expression)]
 fn emit_boxed(
     alloc: Global,
-    targets: &CallTargets,
+    known: &CallLookup,
     expression: &CoreExpression,
 ) -> Result<Box<JsExpr>, NoMemory>
-    ensures { IfOk result (λ e. js.expression_view e.value ≡ templates.expression_template variable_name label_name (target_of targets.now) (core.expression_view expression.now)) }
+    ensures { IfOk result (λ e. js.expression_view e.value ≡ templates.expression_template variable_name label_name (lookup_of known.now) (core.expression_view expression.now)) }
 {
-    Ok(Box::new(alloc, emit_expression(alloc, targets, expression)?)?)
+    Ok(Box::new(alloc, emit_expression(alloc, known, expression)?)?)
 }
 
 #[cycle(expression)]
 #[tactic(auto, using(std::proofs::lemmas::Grind::common_steps, crate::proofs::Lists::pushes))]
 fn emit_expressions(
     alloc: Global,
-    targets: &CallTargets,
+    known: &CallLookup,
     expressions: &[CoreExpression],
 ) -> Result<Vec<JsExpr>, NoMemory>
-    ensures { IfOk result (λ es. js.expressions_view es.items ≡ templates.expression_templates variable_name label_name (target_of targets.now) (core.expressions_view expressions.now)) }
+    ensures { IfOk result (λ es. js.expressions_view es.items ≡ templates.expression_templates variable_name label_name (lookup_of known.now) (core.expressions_view expressions.now)) }
 {
     let mut emitted = Vec::new(alloc);
     for each in expressions {
-        emitted.push(emit_expression(alloc, targets, each)?)?;
+        emitted.push(emit_expression(alloc, known, each)?)?;
     }
     Ok(emitted)
 }

@@ -1,28 +1,43 @@
-// The public members that a body calls on receivers.
+// What has to be asked for what a body calls on receivers.
 ghost use Rattle.std.specs.Prelude.{◌≡◌, ◌++◌, IfOk, OnOk};
 ghost use Rattle.emit_questions.specs.Calls as calls;
 ghost use Rattle.sj_core.specs.Views as core;
 
-use sj_core::{CoreCase, CoreExpression, CoreStatement};
+use emit_questions::Inquiry;
+use sj_core::{Callee, CoreCase, CoreExpression, CoreStatement};
 use sj_names::{Member, Namespace, NoMemory};
 use std::alloc::Global;
 
-// Adds a public member.
-fn add(member: &Member, members: &mut Vec<Member>) -> Result<(), NoMemory>
-    ensures { OnOk result (members.new.items ≡ members.old.items ++ calls.own_call member.now) }
+// Adds the target of a public member.
+fn add_target(member: &Member, inquiries: &mut Vec<Inquiry>) -> Result<(), NoMemory>
+    ensures { OnOk result (inquiries.new.items ≡ inquiries.old.items ++ calls.if_public member.now.namespace member.now) }
 {
     match member.namespace {
         Namespace::Public => {
-            members.push(member.copied()?)?;
+            inquiries.push(Inquiry::Target(member.copied()?))?;
             Ok(())
         }
         _ => Ok(()),
     }
 }
 
+// Adds what has to be asked for what is called.
+fn add(callee: &Callee, inquiries: &mut Vec<Inquiry>) -> Result<(), NoMemory>
+    ensures { OnOk result (inquiries.new.items ≡ inquiries.old.items ++ calls.own_call callee.now) }
+{
+    match callee {
+        Callee::Member(member) => add_target(member, inquiries),
+        Callee::LookedUp(class, _) => {
+            inquiries.push(Inquiry::Hijacked(class.copied()?))?;
+            Ok(())
+        }
+        Callee::OfArray(_) | Callee::Reflective(_) => Ok(()),
+    }
+}
+
 #[cycle(expression_calls)]
-fn add_calls_in(expression: &CoreExpression, members: &mut Vec<Member>) -> Result<(), NoMemory>
-    ensures { OnOk result (members.new.items ≡ members.old.items ++ calls.calls_in (core.expression_view expression.now)) }
+fn add_calls_in(expression: &CoreExpression, inquiries: &mut Vec<Inquiry>) -> Result<(), NoMemory>
+    ensures { OnOk result (inquiries.new.items ≡ inquiries.old.items ++ calls.calls_in (core.expression_view expression.now)) }
 {
     match expression {
         CoreExpression::Boxed(operand)
@@ -32,23 +47,23 @@ fn add_calls_in(expression: &CoreExpression, members: &mut Vec<Member>) -> Resul
         | CoreExpression::Checked(operand)
         | CoreExpression::Test(_, operand)
         | CoreExpression::Cast(_, operand)
-        | CoreExpression::Unary(_, operand) => add_calls_in(operand, members),
+        | CoreExpression::Unary(_, operand) => add_calls_in(operand, inquiries),
         CoreExpression::Choice(test, yes, no) => {
-            add_calls_in(test, members)?;
-            add_calls_in(yes, members)?;
-            add_calls_in(no, members)
+            add_calls_in(test, inquiries)?;
+            add_calls_in(yes, inquiries)?;
+            add_calls_in(no, inquiries)
         }
         CoreExpression::StaticCall(_, arguments) | CoreExpression::Made(_, arguments) => {
-            add_calls_in_all(arguments, members)
+            add_calls_in_all(arguments, inquiries)
         }
-        CoreExpression::ReceiverCall(member, receiver, arguments) => {
-            add_calls_in(receiver, members)?;
-            add_calls_in_all(arguments, members)?;
-            add(member, members)
+        CoreExpression::ReceiverCall(callee, receiver, arguments) => {
+            add_calls_in(receiver, inquiries)?;
+            add_calls_in_all(arguments, inquiries)?;
+            add(callee, inquiries)
         }
         CoreExpression::Binary(_, left, right) => {
-            add_calls_in(left, members)?;
-            add_calls_in(right, members)
+            add_calls_in(left, inquiries)?;
+            add_calls_in(right, inquiries)
         }
         CoreExpression::Undefined
         | CoreExpression::Null
@@ -64,19 +79,19 @@ fn add_calls_in(expression: &CoreExpression, members: &mut Vec<Member>) -> Resul
 #[cycle(expression_calls)]
 fn add_calls_in_all(
     expressions: &[CoreExpression],
-    members: &mut Vec<Member>,
+    inquiries: &mut Vec<Inquiry>,
 ) -> Result<(), NoMemory>
-    ensures { OnOk result (members.new.items ≡ members.old.items ++ calls.calls_in_all (core.expressions_view expressions.now)) }
+    ensures { OnOk result (inquiries.new.items ≡ inquiries.old.items ++ calls.calls_in_all (core.expressions_view expressions.now)) }
 {
     for each in expressions {
-        add_calls_in(each, members)?;
+        add_calls_in(each, inquiries)?;
     }
     Ok(())
 }
 
 #[cycle(statement_calls)]
-fn add_calls_of(statement: &CoreStatement, members: &mut Vec<Member>) -> Result<(), NoMemory>
-    ensures { OnOk result (members.new.items ≡ members.old.items ++ calls.calls_of (core.statement_view statement.now)) }
+fn add_calls_of(statement: &CoreStatement, inquiries: &mut Vec<Inquiry>) -> Result<(), NoMemory>
+    ensures { OnOk result (inquiries.new.items ≡ inquiries.old.items ++ calls.calls_of (core.statement_view statement.now)) }
 {
     match statement {
         CoreStatement::Constant(_, _, value)
@@ -86,66 +101,69 @@ fn add_calls_of(statement: &CoreStatement, members: &mut Vec<Member>) -> Result<
         | CoreStatement::Return(_, value)
         | CoreStatement::Log(_, value)
         | CoreStatement::AssignStatic(_, _, _, value)
-        | CoreStatement::Throw(_, value) => add_calls_in(value, members),
+        | CoreStatement::Throw(_, value) => add_calls_in(value, inquiries),
         CoreStatement::Declare(_, _) | CoreStatement::Leave(_, _) | CoreStatement::Break(_) => {
             Ok(())
         }
         CoreStatement::AssignField(_, object, _, _, value) => {
-            add_calls_in(object, members)?;
-            add_calls_in(value, members)
+            add_calls_in(object, inquiries)?;
+            add_calls_in(value, inquiries)
         }
         CoreStatement::If(_, test, yes, no) => {
-            add_calls_in(test, members)?;
-            add_calls_of_all(yes, members)?;
-            add_calls_of_all(no, members)
+            add_calls_in(test, inquiries)?;
+            add_calls_of_all(yes, inquiries)?;
+            add_calls_of_all(no, inquiries)
         }
         CoreStatement::While(_, test, body) => {
-            add_calls_in(test, members)?;
-            add_calls_of_all(body, members)
+            add_calls_in(test, inquiries)?;
+            add_calls_of_all(body, inquiries)
         }
         CoreStatement::Loop(_, body) | CoreStatement::Labeled(_, _, body) => {
-            add_calls_of_all(body, members)
+            add_calls_of_all(body, inquiries)
         }
         CoreStatement::Switch(_, selector, cases, default) => {
-            add_calls_in(selector, members)?;
-            add_calls_of_cases(cases, members)?;
-            add_calls_of_all(default, members)
+            add_calls_in(selector, inquiries)?;
+            add_calls_of_cases(cases, inquiries)?;
+            add_calls_of_all(default, inquiries)
         }
     }
 }
 
 #[cycle(statement_calls)]
-fn add_calls_of_all(statements: &[CoreStatement], members: &mut Vec<Member>) -> Result<(), NoMemory>
-    ensures { OnOk result (members.new.items ≡ members.old.items ++ calls.calls_of_all (core.statements_view statements.now)) }
+fn add_calls_of_all(
+    statements: &[CoreStatement],
+    inquiries: &mut Vec<Inquiry>,
+) -> Result<(), NoMemory>
+    ensures { OnOk result (inquiries.new.items ≡ inquiries.old.items ++ calls.calls_of_all (core.statements_view statements.now)) }
 {
     for each in statements {
-        add_calls_of(each, members)?;
+        add_calls_of(each, inquiries)?;
     }
     Ok(())
 }
 
 #[cycle(statement_calls)]
-fn add_calls_of_cases(cases: &[CoreCase], members: &mut Vec<Member>) -> Result<(), NoMemory>
-    ensures { OnOk result (members.new.items ≡ members.old.items ++ calls.calls_of_cases (core.cases_view cases.now)) }
+fn add_calls_of_cases(cases: &[CoreCase], inquiries: &mut Vec<Inquiry>) -> Result<(), NoMemory>
+    ensures { OnOk result (inquiries.new.items ≡ inquiries.old.items ++ calls.calls_of_cases (core.cases_view cases.now)) }
 {
     for each in cases {
-        add_calls_of_case(each, members)?;
+        add_calls_of_case(each, inquiries)?;
     }
     Ok(())
 }
 
 #[cycle(statement_calls)]
-fn add_calls_of_case(case: &CoreCase, members: &mut Vec<Member>) -> Result<(), NoMemory>
-    ensures { OnOk result (members.new.items ≡ members.old.items ++ calls.calls_of_all (core.case_view case.now).1) }
+fn add_calls_of_case(case: &CoreCase, inquiries: &mut Vec<Inquiry>) -> Result<(), NoMemory>
+    ensures { OnOk result (inquiries.new.items ≡ inquiries.old.items ++ calls.calls_of_all (core.case_view case.now).1) }
 {
-    add_calls_of_all(&case.body, members)
+    add_calls_of_all(&case.body, inquiries)
 }
 
-/// The public members that statements call on receivers, each time one is called, in the order in which the calls are evaluated.
-pub fn calls_of(alloc: Global, statements: &[CoreStatement]) -> Result<Vec<Member>, NoMemory>
-    ensures { IfOk result (λ members. members.items ≡ calls.calls_of_all (core.statements_view statements.now)) }
+/// What has to be asked for the calls of statements on receivers, each time something is called, in the order in which the calls are evaluated.
+pub fn calls_of(alloc: Global, statements: &[CoreStatement]) -> Result<Vec<Inquiry>, NoMemory>
+    ensures { IfOk result (λ inquiries. inquiries.items ≡ calls.calls_of_all (core.statements_view statements.now)) }
 {
-    let mut members = Vec::new(alloc);
-    add_calls_of_all(statements, &mut members)?;
-    Ok(members)
+    let mut inquiries = Vec::new(alloc);
+    add_calls_of_all(statements, &mut inquiries)?;
+    Ok(inquiries)
 }

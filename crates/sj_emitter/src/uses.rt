@@ -4,15 +4,19 @@ ghost use Rattle.std.specs.List.{list_any};
 ghost use Rattle.sj_core.specs.Views as core;
 ghost use Rattle.sj_emit_expr.specs.Uses as uses;
 ghost use Rattle.sj_emitter.specs.Collecting.{with_use, with_uses};
-ghost use Rattle.sj_emitter.specs.Targets.{target_of};
+ghost use Rattle.sj_emitter.specs.Known.{lookup_of};
+ghost use Rattle.sj_mangling.specs.Bindings as bindings_of;
 
+use crate::lookup::CallLookup;
 use crate::operators::is_nonzero_literal;
-use crate::targets::CallTargets;
 use crate::tests::{cast_name, test_name};
 use js_tree::Binding;
-use sj_core::{CoreCase, CoreExpression, CoreStatement};
-use sj_mangling::{ClassBinding, FieldBinding, class_binding, field_binding, function_name};
-use sj_names::{ClassName, FieldName, Items, Member, NoMemory, Text};
+use sj_core::{Callee, CoreCase, CoreExpression, CoreStatement};
+use sj_mangling::{
+    ClassBinding, FieldBinding, MethodBinding, class_binding, field_binding, function_name,
+    method_binding,
+};
+use sj_names::{ClassName, FieldName, Items, Member, MethodName, NoMemory, Text};
 use sj_trees::{BinaryOp, IrType};
 use std::alloc::Global;
 
@@ -146,64 +150,116 @@ fn add_cast(alloc: Global, tpe: &IrType, bindings: &mut Vec<Binding>) -> Result<
     }
 }
 
+// The function for all receivers of methods of this name.
+fn method_use(
+    alloc: Global,
+    binding: MethodBinding,
+    method: &MethodName,
+) -> Result<Binding, NoMemory>
+    ensures { IfOk result (λ b. b ≡ uses.object_binding (bindings_of.method_binding binding method.now)) }
+{
+    let name = method_binding(alloc, binding, method)?;
+    helper_binding(alloc, name)
+}
+
+// Adds the function that looks a method up, where primitive values may be the receiver.
+fn add_looked_up(
+    alloc: Global,
+    has_primitives: bool,
+    method: &MethodName,
+    bindings: &mut Vec<Binding>,
+) -> Result<(), NoMemory>
+    ensures { OnOk result (bindings.new.items ≡ with_uses bindings.old.items (uses.looked_up_uses has_primitives method.now)) }
+{
+    if has_primitives {
+        let function = method_use(alloc, MethodBinding::Dispatch, method)?;
+        add(bindings, function)
+    } else {
+        Ok(())
+    }
+}
+
+// Adds what a call on a receiver names.
+fn add_call(
+    alloc: Global,
+    known: &CallLookup,
+    callee: &Callee,
+    bindings: &mut Vec<Binding>,
+) -> Result<(), NoMemory>
+    ensures { OnOk result (bindings.new.items ≡ with_uses bindings.old.items (uses.call_uses (lookup_of known.now) callee.now)) }
+{
+    match callee {
+        Callee::Member(member) => add(bindings, function_binding(alloc, known.called(member))?),
+        Callee::LookedUp(class, method) => {
+            add_looked_up(alloc, known.has_hijacked(class), method, bindings)
+        }
+        Callee::OfArray(_) => Ok(()),
+        Callee::Reflective(method) => {
+            add(
+                bindings,
+                method_use(alloc, MethodBinding::Reflective, method)?,
+            )
+        }
+    }
+}
+
 #[cycle(expression_uses)]
 #[tactic(auto, using(std::proofs::lemmas::Grind::common_steps, crate::proofs::Collected::steps))]
 fn add_uses_in(
     alloc: Global,
-    targets: &CallTargets,
+    known: &CallLookup,
     expression: &CoreExpression,
     bindings: &mut Vec<Binding>,
 ) -> Result<(), NoMemory>
-    ensures { OnOk result (bindings.new.items ≡ with_uses bindings.old.items (uses.uses_in (target_of targets.now) (core.expression_view expression.now))) }
+    ensures { OnOk result (bindings.new.items ≡ with_uses bindings.old.items (uses.uses_in (lookup_of known.now) (core.expression_view expression.now))) }
 {
     match expression {
         CoreExpression::Boxed(operand) => {
             add(bindings, object_binding(alloc, "$C")?)?;
-            add_uses_in(alloc, targets, operand, bindings)
+            add_uses_in(alloc, known, operand, bindings)
         }
         CoreExpression::Choice(test, yes, no) => {
-            add_uses_in(alloc, targets, test, bindings)?;
-            add_uses_in(alloc, targets, yes, bindings)?;
-            add_uses_in(alloc, targets, no, bindings)
+            add_uses_in(alloc, known, test, bindings)?;
+            add_uses_in(alloc, known, yes, bindings)?;
+            add_uses_in(alloc, known, no, bindings)
         }
         CoreExpression::StaticCall(member, arguments) => {
             add(bindings, function_binding(alloc, member)?)?;
-            add_all_uses_in(alloc, targets, arguments, bindings)
+            add_all_uses_in(alloc, known, arguments, bindings)
         }
         CoreExpression::StaticField(class, field) => {
             add(bindings, static_use(alloc, class, field)?)
         }
         CoreExpression::Checked(operand) => {
             add(bindings, object_binding(alloc, "$nn")?)?;
-            add_uses_in(alloc, targets, operand, bindings)
+            add_uses_in(alloc, known, operand, bindings)
         }
         CoreExpression::Made(member, arguments) => {
             add(bindings, function_binding(alloc, member)?)?;
             add(bindings, class_use(alloc, &member.class)?)?;
-            add_all_uses_in(alloc, targets, arguments, bindings)
+            add_all_uses_in(alloc, known, arguments, bindings)
         }
-        CoreExpression::ReceiverCall(member, receiver, arguments) => {
-            let function = function_binding(alloc, targets.called(member))?;
-            add(bindings, function)?;
-            add_uses_in(alloc, targets, receiver, bindings)?;
-            add_all_uses_in(alloc, targets, arguments, bindings)
+        CoreExpression::ReceiverCall(callee, receiver, arguments) => {
+            add_call(alloc, known, callee, bindings)?;
+            add_uses_in(alloc, known, receiver, bindings)?;
+            add_all_uses_in(alloc, known, arguments, bindings)
         }
         CoreExpression::Test(tpe, operand) => {
             add_test(alloc, tpe, bindings)?;
-            add_uses_in(alloc, targets, operand, bindings)
+            add_uses_in(alloc, known, operand, bindings)
         }
         CoreExpression::Cast(tpe, operand) => {
             add_cast(alloc, tpe, bindings)?;
-            add_uses_in(alloc, targets, operand, bindings)
+            add_uses_in(alloc, known, operand, bindings)
         }
         CoreExpression::CharText(operand)
         | CoreExpression::Field(operand, _, _)
         | CoreExpression::ValueText(operand)
-        | CoreExpression::Unary(_, operand) => add_uses_in(alloc, targets, operand, bindings),
+        | CoreExpression::Unary(_, operand) => add_uses_in(alloc, known, operand, bindings),
         CoreExpression::Binary(op, left, right) => {
             add_helper(alloc, is_nonzero_literal(right), *op, bindings)?;
-            add_uses_in(alloc, targets, left, bindings)?;
-            add_uses_in(alloc, targets, right, bindings)
+            add_uses_in(alloc, known, left, bindings)?;
+            add_uses_in(alloc, known, right, bindings)
         }
         CoreExpression::Undefined
         | CoreExpression::Null
@@ -219,14 +275,14 @@ fn add_uses_in(
 #[tactic(auto, using(std::proofs::lemmas::Grind::common_steps, crate::proofs::Collected::steps))]
 fn add_all_uses_in(
     alloc: Global,
-    targets: &CallTargets,
+    known: &CallLookup,
     expressions: &[CoreExpression],
     bindings: &mut Vec<Binding>,
 ) -> Result<(), NoMemory>
-    ensures { OnOk result (bindings.new.items ≡ with_uses bindings.old.items (uses.uses_in_all (target_of targets.now) (core.expressions_view expressions.now))) }
+    ensures { OnOk result (bindings.new.items ≡ with_uses bindings.old.items (uses.uses_in_all (lookup_of known.now) (core.expressions_view expressions.now))) }
 {
     for each in expressions {
-        add_uses_in(alloc, targets, each, bindings)?;
+        add_uses_in(alloc, known, each, bindings)?;
     }
     Ok(())
 }
@@ -235,11 +291,11 @@ fn add_all_uses_in(
 #[tactic(auto, using(std::proofs::lemmas::Grind::common_steps, crate::proofs::Collected::steps))]
 fn add_uses_of(
     alloc: Global,
-    targets: &CallTargets,
+    known: &CallLookup,
     statement: &CoreStatement,
     bindings: &mut Vec<Binding>,
 ) -> Result<(), NoMemory>
-    ensures { OnOk result (bindings.new.items ≡ with_uses bindings.old.items (uses.uses_of (target_of targets.now) (core.statement_view statement.now))) }
+    ensures { OnOk result (bindings.new.items ≡ with_uses bindings.old.items (uses.uses_of (lookup_of known.now) (core.statement_view statement.now))) }
 {
     match statement {
         CoreStatement::Constant(_, _, value)
@@ -248,34 +304,34 @@ fn add_uses_of(
         | CoreStatement::Evaluate(_, value)
         | CoreStatement::Return(_, value)
         | CoreStatement::Throw(_, value)
-        | CoreStatement::Log(_, value) => add_uses_in(alloc, targets, value, bindings),
+        | CoreStatement::Log(_, value) => add_uses_in(alloc, known, value, bindings),
         CoreStatement::Declare(_, _) | CoreStatement::Leave(_, _) | CoreStatement::Break(_) => {
             Ok(())
         }
         CoreStatement::AssignField(_, object, _, _, value) => {
-            add_uses_in(alloc, targets, object, bindings)?;
-            add_uses_in(alloc, targets, value, bindings)
+            add_uses_in(alloc, known, object, bindings)?;
+            add_uses_in(alloc, known, value, bindings)
         }
         CoreStatement::AssignStatic(_, class, field, value) => {
             add(bindings, setter_use(alloc, class, field)?)?;
-            add_uses_in(alloc, targets, value, bindings)
+            add_uses_in(alloc, known, value, bindings)
         }
         CoreStatement::If(_, test, yes, no) => {
-            add_uses_in(alloc, targets, test, bindings)?;
-            add_uses_of_all(alloc, targets, yes, bindings)?;
-            add_uses_of_all(alloc, targets, no, bindings)
+            add_uses_in(alloc, known, test, bindings)?;
+            add_uses_of_all(alloc, known, yes, bindings)?;
+            add_uses_of_all(alloc, known, no, bindings)
         }
         CoreStatement::While(_, test, body) => {
-            add_uses_in(alloc, targets, test, bindings)?;
-            add_uses_of_all(alloc, targets, body, bindings)
+            add_uses_in(alloc, known, test, bindings)?;
+            add_uses_of_all(alloc, known, body, bindings)
         }
         CoreStatement::Loop(_, body) | CoreStatement::Labeled(_, _, body) => {
-            add_uses_of_all(alloc, targets, body, bindings)
+            add_uses_of_all(alloc, known, body, bindings)
         }
         CoreStatement::Switch(_, selector, cases, default) => {
-            add_uses_in(alloc, targets, selector, bindings)?;
-            add_uses_of_cases(alloc, targets, cases, bindings)?;
-            add_uses_of_all(alloc, targets, default, bindings)
+            add_uses_in(alloc, known, selector, bindings)?;
+            add_uses_of_cases(alloc, known, cases, bindings)?;
+            add_uses_of_all(alloc, known, default, bindings)
         }
     }
 }
@@ -284,14 +340,14 @@ fn add_uses_of(
 #[tactic(auto, using(std::proofs::lemmas::Grind::common_steps, crate::proofs::Collected::steps))]
 fn add_uses_of_all(
     alloc: Global,
-    targets: &CallTargets,
+    known: &CallLookup,
     statements: &[CoreStatement],
     bindings: &mut Vec<Binding>,
 ) -> Result<(), NoMemory>
-    ensures { OnOk result (bindings.new.items ≡ with_uses bindings.old.items (uses.uses_of_all (target_of targets.now) (core.statements_view statements.now))) }
+    ensures { OnOk result (bindings.new.items ≡ with_uses bindings.old.items (uses.uses_of_all (lookup_of known.now) (core.statements_view statements.now))) }
 {
     for each in statements {
-        add_uses_of(alloc, targets, each, bindings)?;
+        add_uses_of(alloc, known, each, bindings)?;
     }
     Ok(())
 }
@@ -300,14 +356,14 @@ fn add_uses_of_all(
 #[tactic(auto, using(std::proofs::lemmas::Grind::common_steps, crate::proofs::Collected::steps))]
 fn add_uses_of_cases(
     alloc: Global,
-    targets: &CallTargets,
+    known: &CallLookup,
     cases: &[CoreCase],
     bindings: &mut Vec<Binding>,
 ) -> Result<(), NoMemory>
-    ensures { OnOk result (bindings.new.items ≡ with_uses bindings.old.items (uses.uses_of_cases (target_of targets.now) (core.cases_view cases.now))) }
+    ensures { OnOk result (bindings.new.items ≡ with_uses bindings.old.items (uses.uses_of_cases (lookup_of known.now) (core.cases_view cases.now))) }
 {
     for each in cases {
-        add_uses_of_case(alloc, targets, each, bindings)?;
+        add_uses_of_case(alloc, known, each, bindings)?;
     }
     Ok(())
 }
@@ -315,25 +371,25 @@ fn add_uses_of_cases(
 #[cycle(statement_uses)]
 fn add_uses_of_case(
     alloc: Global,
-    targets: &CallTargets,
+    known: &CallLookup,
     case: &CoreCase,
     bindings: &mut Vec<Binding>,
 ) -> Result<(), NoMemory>
-    ensures { OnOk result (bindings.new.items ≡ with_uses bindings.old.items (uses.uses_of_all (target_of targets.now) (core.case_view case.now).1)) }
+    ensures { OnOk result (bindings.new.items ≡ with_uses bindings.old.items (uses.uses_of_all (lookup_of known.now) (core.case_view case.now).1)) }
 {
-    add_uses_of_all(alloc, targets, &case.body, bindings)
+    add_uses_of_all(alloc, known, &case.body, bindings)
 }
 
 /// The bindings that statements use, each once, in order of first use.
 #[tactic(auto, using(std::proofs::lemmas::Grind::common_steps, crate::proofs::Collected::once))]
 pub fn uses_of(
     alloc: Global,
-    targets: &CallTargets,
+    known: &CallLookup,
     statements: &[CoreStatement],
 ) -> Result<Items<Binding>, NoMemory>
-    ensures { IfOk result (λ bs. bs ≡ uses.uses (target_of targets.now) (core.statements_view statements.now)) }
+    ensures { IfOk result (λ bs. bs ≡ uses.uses (lookup_of known.now) (core.statements_view statements.now)) }
 {
     let mut bindings = Vec::new(alloc);
-    add_uses_of_all(alloc, targets, statements, &mut bindings)?;
+    add_uses_of_all(alloc, known, statements, &mut bindings)?;
     Ok(Items::from_vec(bindings))
 }

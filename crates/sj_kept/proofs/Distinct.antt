@@ -8,7 +8,7 @@ use Rattle.sj_local.specs.declared.walks.Declaration.TheVariants as declaration
 use Rattle.sj_local.specs.Nodes.{Context, Node, node, inside, in_a_block, with_label, behind, below, statements_below, all_below, cases_below}
 use Rattle.sj_local.specs.TreeRules.{declarations}
 use Rattle.sj_names.specs.declared.method_names.Namespace.{Namespace}
-use Rattle.sj_trees.specs.Term.{Term, Terms, no_terms, more_terms, Cases, no_cases, more_cases, var_def, skip, block_of, labeled, assign, return_to, if_then, while_loop, do_while, throw, match_on, new_object, select, apply_statically, apply_static, unary_op, binary_op, is_instance_of, as_instance_of, log_line}
+use Rattle.sj_trees.specs.Term.{Term, Terms, no_terms, more_terms, Cases, no_cases, more_cases, var_def, skip, block_of, labeled, assign, return_to, if_then, while_loop, do_while, throw, match_on, new_object, select, apply, apply_statically, apply_static, unary_op, binary_op, is_instance_of, as_instance_of, log_line}
 use Rattle.body_rules.specs.Locals.{Own, OwnAll, OwnCases}
 use Rattle.body_rules.proofs.Equal.{is-equal}
 use Rattle.sj_names.proofs.Same.{impossible}
@@ -85,7 +85,9 @@ mutual
   own-declares (match_on p e cs d t) x y (inr (inr o)) = in-right (At x e ++ cases_below x cs) (At x d) (declaration.Local y) (own-declares d x y o)
   own-declares (new_object p c m ts) x y o = own-all ts x y o
   own-declares (select p e c f t) x y o = own-declares e x y o
+  own-declares (apply p e m ts t) x y (inl o) = in-left (At x e) (all_below x ts) (declaration.Local y) (own-declares e x y o)
   own-declares (apply_statically p e c n m ts t) x y (inl o) = in-left (At x e) (all_below x ts) (declaration.Local y) (own-declares e x y o)
+  own-declares (apply p e m ts t) x y (inr o) = in-right (At x e) (all_below x ts) (declaration.Local y) (own-all ts x y o)
   own-declares (apply_statically p e c n m ts t) x y (inr o) = in-right (At x e) (all_below x ts) (declaration.Local y) (own-all ts x y o)
   own-declares (apply_static p c n m ts t) x y o = own-all ts x y o
   own-declares (unary_op p q e) x y o = own-declares e x y o
@@ -203,6 +205,10 @@ module _ (owner : List ℕ) (space : Namespace) where
         )
     once (new_object p c m ts) x y a z l k h f o = once_all ts x a l h f o
     once (select p e c q t) x y a z l k h f o = once e x x a refl l h.0 h.1 f o
+    once (apply p e m ts t) x y a z l k h f o =
+        let g = parts (At x e) (all_below x ts) f in
+        let v = keep-front owner space (At x e) (all_below x ts) h in
+        (once e x x a refl l v.0 v.1 g.0 (out-left a (At x e) (all_below x ts) o), once_all ts x a l (keep-behind owner space (At x e) (all_below x ts) h) g.1 (out-right a (At x e) (all_below x ts) o), apart (Own e) (OwnAll ts) (At x e) (all_below x ts) (own-declares e x) (own-all ts x) g.2)
     once (apply_statically p e c n m ts t) x y a z l k h f o =
         let g = parts (At x e) (all_below x ts) f in
         let v = keep-front owner space (At x e) (all_below x ts) h in

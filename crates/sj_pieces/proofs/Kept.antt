@@ -1,16 +1,21 @@
 -- The piece of a method keeps the rules of printing.
 use Rattle.std.proofs.Common.{Bool, true, false, List, [], ◌∷◌, ℕ, refl, arith}
-use Rattle.std.specs.Prelude.{All}
+use Rattle.std.specs.Prelude.{All, IsTrue}
 use Rattle.std.proofs.lemmas.List.Elements.{All-nil, All-cons, All-head, All-tail}
 use Rattle.emit_questions.specs.Calls.{own_call, calls_in, calls_in_all, calls_of, calls_of_all, calls_of_cases}
-use Rattle.js_tree.specs.Rules.{IsName, IsUnit, IsExpression, IsExpressions, IsStatement, AreStatements, AreCases, IsPiece}
+use Rattle.js_tree.specs.Rules.{is_receiver, IsName, IsUnit, IsExpression, IsExpressions, IsStatement, AreStatements, AreCases, IsPiece}
 use Rattle.js_tree.specs.Terms as js
+use Rattle.sj_core.specs.Lookup.{Lookup}
 use Rattle.sj_core.specs.Terms as core
+use Rattle.sj_core.specs.declared.callees.Callee.{Callee}
+use Rattle.sj_core.specs.declared.callees.Callee.TheVariants as callees
 use Rattle.sj_emit_expr.specs.Members.{with_receiver, member_piece}
 use Rattle.sj_emit_expr.specs.Names.{variable_name, label_name}
-use Rattle.sj_emit_expr.specs.Templates.{unary_template, binary_template, is_nonzero_literal, choice_template, expression_template, expression_templates, statement_template, statement_templates, case_templates, parameter_names, called_member}
+use Rattle.sj_emit_expr.specs.Templates.{unary_template, binary_template, is_nonzero_literal, choice_template, expression_template, expression_templates, statement_template, statement_templates, case_templates, parameter_names, called_member, looked_up_template, call_template}
 use Rattle.sj_emit_expr.specs.Tests.{test_template, cast_template}
+use Rattle.sj_mangling.specs.declared.bindings.MethodBinding.TheVariants.{Dispatch, Reflective}
 use Rattle.sj_names.specs.declared.method_names.Member.{Member}
+use Rattle.sj_names.specs.declared.method_names.MethodName.{MethodName}
 use Rattle.sj_names.specs.declared.method_names.Namespace.{Namespace}
 use Rattle.sj_names.specs.declared.method_names.Namespace.TheVariants.{Public, PublicStatic, Private, PrivateStatic, Constructor}
 use Rattle.sj_trees.specs.declared.operators.BinaryOp.{BinaryOp}
@@ -22,9 +27,9 @@ use Rattle.sj_trees.specs.declared.types.IrType.{IrType}
 use Rattle.sj_trees.specs.declared.types.IrType.TheVariants.{Any, Array}
 use Rattle.sj_pieces.specs.Fits.{RunsFit, TargetsFit}
 use Rattle.sj_pieces.specs.Keys.{IsKeyed, AreKeyed, HaveKeys, HasKeys}
-use Rattle.sj_pieces.specs.Owners.{HasOwners, HaveOwners, IsOwned, AreOwned, CasesOwned, FieldsHaveOwners}
-use Rattle.sj_pieces.specs.Ranges.{AreBytes, FitsType, FitsMember, FitsExpression, FitExpressions, FitsStatement, FitStatements, FitCases, FitsMethod}
-use Rattle.sj_pieces.proofs.Names.{variable-named, label-named, member-named, class-named, test-named, cast-named, property-named, static-named, setter-named}
+use Rattle.sj_pieces.specs.Owners.{MayCall, HasOwners, HaveOwners, IsOwned, AreOwned, CasesOwned, FieldsHaveOwners}
+use Rattle.sj_pieces.specs.Ranges.{AreBytes, FitsType, FitsMethodName, FitsMember, FitsCallee, FitsExpression, FitExpressions, FitsStatement, FitStatements, FitCases, FitsMethod}
+use Rattle.sj_pieces.proofs.Names.{variable-named, label-named, member-named, method-named, entry-named, class-named, test-named, cast-named, property-named, static-named, setter-named}
 use Rattle.sj_pieces.proofs.Runs.{two, three, run-fits}
 use Rattle.sj_pieces.proofs.Uses.{uses-named}
 
@@ -99,9 +104,19 @@ choice-kept : (c : js.Expression) (ss ts : js.Statements) → IsExpression c →
 choice-kept c ss js.no_statements h k l = (h, k)
 choice-kept c ss (js.statement t ts) h k l = (h, k, l)
 
-module _ (target : Member → Member) where
+looked-up-kept : (mixed : Bool) (m : MethodName) (x : js.Expression) (xs : js.Expressions) → FitsMethodName m → IsTrue (is_receiver x) → IsExpression x → IsExpressions xs → IsExpression (looked_up_template mixed m x xs)
+looked-up-kept true m x xs h o k l = (method-named Dispatch m h, (k, l))
+looked-up-kept false m x xs h o k l = (o, k, entry-named m h, l)
+
+module _ (known : Lookup) where
+  call-kept : (k : Callee) (e : core.Expression) (xs : js.Expressions) → FitsCallee k → MayCall k e → RunsFit known (own_call k) → IsExpression (expression_template variable_name label_name known e) → IsExpressions xs → IsExpression (call_template known k (expression_template variable_name label_name known e) xs)
+  call-kept (callees.Member m) e xs h o r x l = (member-named (called_member known m.namespace m) (run-fits known m.namespace m r h), (x, l))
+  call-kept (callees.LookedUp c m) e xs h o r x l = looked-up-kept (known.has_hijacked c) m (expression_template variable_name label_name known e) xs h.1 (o known) x l
+  call-kept (callees.OfArray m) e xs h o r x l = looked-up-kept false m (expression_template variable_name label_name known e) xs h (o known) x l
+  call-kept (callees.Reflective m) e xs h o r x l = (method-named Reflective m h, (x, l))
+
   mutual
-    expression-kept : (e : core.Expression) → FitsExpression e → HasOwners e → RunsFit target (calls_in e) → IsExpression (expression_template variable_name label_name target e)
+    expression-kept : (e : core.Expression) → FitsExpression e → HasOwners e → RunsFit known (calls_in e) → IsExpression (expression_template variable_name label_name known e)
     expression-kept (core.number_value z) h o r = h
     expression-kept (core.long_value z) h o r = h
     expression-kept (core.text_value us) h o r = h
@@ -109,25 +124,25 @@ module _ (target : Member → Member) where
     expression-kept (core.boxed_char e) h o r = (refl, (expression-kept e h o r, tt))
     expression-kept (core.char_text e) h o r = expression-kept e h o r
     expression-kept (core.value_text e) h o r = (All-nil IsUnit, expression-kept e h o r)
-    expression-kept (core.choice_of c e g) h o r = let q = three target (calls_in c) (calls_in e) (calls_in g) r in (expression-kept c h.0 o.0 q.0, expression-kept e h.1 o.1 q.1, expression-kept g h.2 o.2 q.2)
+    expression-kept (core.choice_of c e g) h o r = let q = three known (calls_in c) (calls_in e) (calls_in g) r in (expression-kept c h.0 o.0 q.0, expression-kept e h.1 o.1 q.1, expression-kept g h.2 o.2 q.2)
     expression-kept (core.static_call m es) h o r = (member-named m h.0, expressions-kept es h.1 o r)
-    expression-kept (core.field_of e c f) h o r = (o.0 target, expression-kept e h.0 o.1 r, property-named c f h.1 h.2)
+    expression-kept (core.field_of e c f) h o r = (o.0 known, expression-kept e h.0 o.1 r, property-named c f h.1 h.2)
     expression-kept (core.static_of c f) h o r = static-named c f h.0 h.1
     expression-kept (core.checked_value e) h o r = (refl, (expression-kept e h o r, tt))
     expression-kept (core.made_of m es) h o r = (member-named m h.0, ((class-named m.class h.0.0, tt), expressions-kept es h.1 o r))
-    expression-kept (core.receiver_call m e es) h o r = let q = three target (calls_in e) (calls_in_all es) (own_call m) r in (member-named (called_member target m.namespace m) (run-fits target m.namespace m q.2 h.0), (expression-kept e h.1 o.0 q.0, expressions-kept es h.2 o.1 q.1))
-    expression-kept (core.test_of t e) h o r = test-kept t (expression_template variable_name label_name target e) h.0 (expression-kept e h.1 o r)
-    expression-kept (core.cast_of t e) h o r = cast-kept t (expression_template variable_name label_name target e) h.0 (expression-kept e h.1 o r)
-    expression-kept (core.unary_of u e) h o r = unary-kept u (expression_template variable_name label_name target e) (expression-kept e h o r)
-    expression-kept (core.binary_of b e g) h o r = let q = two target (calls_in e) (calls_in g) r in binary-kept (is_nonzero_literal g) b (expression_template variable_name label_name target e) (expression_template variable_name label_name target g) (expression-kept e h.0 o.0 q.0) (expression-kept g h.1 o.1 q.1)
+    expression-kept (core.receiver_call k e es) h o r = let q = three known (calls_in e) (calls_in_all es) (own_call k) r in call-kept k e (expression_templates variable_name label_name known es) h.0 o.0 q.2 (expression-kept e h.1 o.1 q.0) (expressions-kept es h.2 o.2 q.1)
+    expression-kept (core.test_of t e) h o r = test-kept t (expression_template variable_name label_name known e) h.0 (expression-kept e h.1 o r)
+    expression-kept (core.cast_of t e) h o r = cast-kept t (expression_template variable_name label_name known e) h.0 (expression-kept e h.1 o r)
+    expression-kept (core.unary_of u e) h o r = unary-kept u (expression_template variable_name label_name known e) (expression-kept e h o r)
+    expression-kept (core.binary_of b e g) h o r = let q = two known (calls_in e) (calls_in g) r in binary-kept (is_nonzero_literal g) b (expression_template variable_name label_name known e) (expression_template variable_name label_name known g) (expression-kept e h.0 o.0 q.0) (expression-kept g h.1 o.1 q.1)
     expression-kept _ h o r = tt
 
-    expressions-kept : (es : core.Expressions) → FitExpressions es → HaveOwners es → RunsFit target (calls_in_all es) → IsExpressions (expression_templates variable_name label_name target es)
+    expressions-kept : (es : core.Expressions) → FitExpressions es → HaveOwners es → RunsFit known (calls_in_all es) → IsExpressions (expression_templates variable_name label_name known es)
     expressions-kept core.no_expressions h o r = tt
-    expressions-kept (core.expression e es) h o r = let q = two target (calls_in e) (calls_in_all es) r in (expression-kept e h.0 o.0 q.0, expressions-kept es h.1 o.1 q.1)
+    expressions-kept (core.expression e es) h o r = let q = two known (calls_in e) (calls_in_all es) r in (expression-kept e h.0 o.0 q.0, expressions-kept es h.1 o.1 q.1)
 
   mutual
-    statement-kept : (s : core.Statement) → FitsStatement s → IsKeyed s → IsOwned s → RunsFit target (calls_of s) → IsStatement (statement_template variable_name label_name target s)
+    statement-kept : (s : core.Statement) → FitsStatement s → IsKeyed s → IsOwned s → RunsFit known (calls_of s) → IsStatement (statement_template variable_name label_name known s)
     statement-kept (core.constant_of p x e) h k o r = (variable-named x h.0, expression-kept e h.1 o r)
     statement-kept (core.define_of p x e) h k o r = (variable-named x h.0, expression-kept e h.1 o r)
     statement-kept (core.declare_of p x) h k o r = variable-named x h
@@ -135,24 +150,24 @@ module _ (target : Member → Member) where
     statement-kept (core.evaluate_of p e) h k o r = expression-kept e h o r
     statement-kept (core.return_of p e) h k o r = expression-kept e h o r
     statement-kept (core.log_of p e) h k o r = expression-kept e h o r
-    statement-kept (core.assign_field p e c f g) h k o r = let q = two target (calls_in e) (calls_in g) r in (o.0 target, expression-kept e h.0 o.1 q.0, property-named c f h.1 h.2, expression-kept g h.3 o.2 q.1)
+    statement-kept (core.assign_field p e c f g) h k o r = let q = two known (calls_in e) (calls_in g) r in (o.0 known, expression-kept e h.0 o.1 q.0, property-named c f h.1 h.2, expression-kept g h.3 o.2 q.1)
     statement-kept (core.assign_static p c f e) h k o r = (setter-named c f h.0 h.1, (expression-kept e h.2 o r, tt))
     statement-kept (core.throw_of p e) h k o r = expression-kept e h o r
     statement-kept (core.leave_label p l) h k o r = label-named l h
     statement-kept (core.break_nearest p) h k o r = tt
-    statement-kept (core.if_of p c ss ts) h k o r = let q = three target (calls_in c) (calls_of_all ss) (calls_of_all ts) r in choice-kept (expression_template variable_name label_name target c) (statement_templates variable_name label_name target ss) (statement_templates variable_name label_name target ts) (expression-kept c h.0 o.0 q.0) (statements-kept ss h.1 k.0 o.1 q.1) (statements-kept ts h.2 k.1 o.2 q.2)
-    statement-kept (core.while_of p c ss) h k o r = let q = two target (calls_in c) (calls_of_all ss) r in (expression-kept c h.0 o.0 q.0, statements-kept ss h.1 k o.1 q.1)
+    statement-kept (core.if_of p c ss ts) h k o r = let q = three known (calls_in c) (calls_of_all ss) (calls_of_all ts) r in choice-kept (expression_template variable_name label_name known c) (statement_templates variable_name label_name known ss) (statement_templates variable_name label_name known ts) (expression-kept c h.0 o.0 q.0) (statements-kept ss h.1 k.0 o.1 q.1) (statements-kept ts h.2 k.1 o.2 q.2)
+    statement-kept (core.while_of p c ss) h k o r = let q = two known (calls_in c) (calls_of_all ss) r in (expression-kept c h.0 o.0 q.0, statements-kept ss h.1 k o.1 q.1)
     statement-kept (core.loop_of p ss) h k o r = statements-kept ss h k o r
     statement-kept (core.labeled_of p l ss) h k o r = (label-named l h.0, statements-kept ss h.1 k o r)
-    statement-kept (core.switch_of p e cs ss) h k o r = let q = three target (calls_in e) (calls_of_cases cs) (calls_of_all ss) r in (expression-kept e h.0 o.0 q.0, cases-kept cs h.1 k.0 o.1 q.1, statements-kept ss h.2 k.1 o.2 q.2)
+    statement-kept (core.switch_of p e cs ss) h k o r = let q = three known (calls_in e) (calls_of_cases cs) (calls_of_all ss) r in (expression-kept e h.0 o.0 q.0, cases-kept cs h.1 k.0 o.1 q.1, statements-kept ss h.2 k.1 o.2 q.2)
 
-    statements-kept : (ss : core.Statements) → FitStatements ss → AreKeyed ss → AreOwned ss → RunsFit target (calls_of_all ss) → AreStatements (statement_templates variable_name label_name target ss)
+    statements-kept : (ss : core.Statements) → FitStatements ss → AreKeyed ss → AreOwned ss → RunsFit known (calls_of_all ss) → AreStatements (statement_templates variable_name label_name known ss)
     statements-kept core.no_statements h k o r = tt
-    statements-kept (core.statement s ss) h k o r = let q = two target (calls_of s) (calls_of_all ss) r in (statement-kept s h.0 k.0 o.0 q.0, statements-kept ss h.1 k.1 o.1 q.1)
+    statements-kept (core.statement s ss) h k o r = let q = two known (calls_of s) (calls_of_all ss) r in (statement-kept s h.0 k.0 o.0 q.0, statements-kept ss h.1 k.1 o.1 q.1)
 
-    cases-kept : (cs : core.Cases) → FitCases cs → HaveKeys cs → CasesOwned cs → RunsFit target (calls_of_cases cs) → AreCases (case_templates variable_name label_name target cs)
+    cases-kept : (cs : core.Cases) → FitCases cs → HaveKeys cs → CasesOwned cs → RunsFit known (calls_of_cases cs) → AreCases (case_templates variable_name label_name known cs)
     cases-kept core.no_cases h k o r = tt
-    cases-kept (core.switch_case ks ss cs) h k o r = let q = two target (calls_of_all ss) (calls_of_cases cs) r in ((k.0, h.0), statements-kept ss h.1 k.1 o.0 q.0, cases-kept cs h.2 k.2 o.1 q.1)
+    cases-kept (core.switch_case ks ss cs) h k o r = let q = two known (calls_of_all ss) (calls_of_cases cs) r in ((k.0, h.0), statements-kept ss h.1 k.1 o.0 q.0, cases-kept cs h.2 k.2 o.1 q.1)
 
 parameters-kept : (xs : List (List ℕ)) → All AreBytes xs → All IsName (parameter_names xs)
 parameters-kept [] h = All-nil IsName
@@ -168,5 +183,5 @@ receiver-kept Public xs h = behind-receiver xs h
 receiver-kept Private xs h = behind-receiver xs h
 receiver-kept Constructor xs h = behind-receiver xs h
 
-pub piece-kept : (target : Member → Member) (m : Member) (c : core.Method) → FitsMember m → FitsMethod c → HasKeys c → FieldsHaveOwners c → TargetsFit target c → IsPiece (member_piece target m c)
-piece-kept target m c named fits keys owners runs = (member-named m named, uses-named target c.body fits.1 runs, (member-named m named, receiver-kept c.namespace (parameter_names c.params) (parameters-kept c.params fits.0), statements-kept target c.body fits.1 keys owners runs))
+pub piece-kept : (known : Lookup) (m : Member) (c : core.Method) → FitsMember m → FitsMethod c → HasKeys c → FieldsHaveOwners c → TargetsFit known c → IsPiece (member_piece known m c)
+piece-kept known m c named fits keys owners runs = (member-named m named, uses-named known c.body fits.1 runs, (member-named m named, receiver-kept c.namespace (parameter_names c.params) (parameters-kept c.params fits.0), statements-kept known c.body fits.1 keys owners runs))

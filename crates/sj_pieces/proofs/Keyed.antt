@@ -3,12 +3,13 @@ use Rattle.std.proofs.Common.{ℕ, pos, suc, Bool, true, false, ◌&&◌, List, 
 use Rattle.sj_core.specs.Terms as core
 use Rattle.sj_core.specs.Terms.{followed}
 use Rattle.sj_core.specs.Views.{expressions_of}
+use Rattle.sj_core.specs.declared.callees.Callee.TheVariants as callees
 use Rattle.sj_desugar.specs.Coercions.{coerced, coerced_arguments, coerced_receiver}
-use Rattle.sj_desugar.specs.Desugar.{operand, into, block, operands, cases, finish, has_no_value, target_of, Targets, expression_of, labeled_code, leaving_code, wrapped, branches, break_unless, switch_code, first_of, second_of, rest_of, member, types_of, received, receiver, desugared, desugared_member, completed, body_code, is_mutable_in, result_destination}
+use Rattle.sj_desugar.specs.Desugar.{operand, into, block, operands, cases, finish, has_no_value, target_of, Targets, expression_of, labeled_code, leaving_code, wrapped, branches, break_unless, switch_code, first_of, second_of, rest_of, member, callee_of, types_of, received, receiver, desugared, desugared_member, completed, body_code, is_mutable_in, result_destination}
 use Rattle.sj_desugar.specs.Plain.{is_plain}
 use Rattle.sj_desugar.specs.Spill.{Destination, discard, to_variable, to_result, Code, one, put_first, Operand, all_plain, Spilled, spill, spill_case, then_use}
 use Rattle.sj_desugar.specs.Texts.{operand_of}
-use Rattle.sj_trees.specs.Term.{Term, Terms, no_terms, more_terms, Cases, no_cases, more_cases, var_def, block_of, labeled, assign, return_to, if_then, while_loop, do_while, match_on, throw, new_object, select, select_static, apply_statically, apply_static, unary_op, binary_op, is_instance_of, as_instance_of, undefined_literal, null_literal, boolean_literal, char_literal, byte_literal, short_literal, int_literal, long_literal, string_literal, var_ref, this_ref, log_line}
+use Rattle.sj_trees.specs.Term.{Term, Terms, no_terms, more_terms, Cases, no_cases, more_cases, var_def, block_of, labeled, assign, return_to, if_then, while_loop, do_while, match_on, throw, new_object, select, select_static, apply, apply_statically, apply_static, unary_op, binary_op, is_instance_of, as_instance_of, undefined_literal, null_literal, boolean_literal, char_literal, byte_literal, short_literal, int_literal, long_literal, string_literal, var_ref, this_ref, log_line}
 use Rattle.sj_trees.specs.TypeOf.{type_of_term, unary_result, binary_result}
 use Rattle.sj_trees.specs.declared.classes.MethodDef.{MethodDef}
 use Rattle.sj_trees.specs.Types.{class_type}
@@ -106,7 +107,8 @@ module _ (is_mutable sure : List ℕ → Bool) where
     keyed (do_while p b c) = λ ts k j. (followed-keyed (into is_mutable sure ts discard j b).statements (then_use (spill (one_of ts c) (into is_mutable sure ts discard j b).next) (λ es. one (break_unless (first_of es)))).statements (keyed b ts discard j) (act_keyed c (keyed c) ts (into is_mutable sure ts discard j b).next (λ es. one (break_unless (first_of es))) (λ es i. (((tt, tt), tt), tt))), tt)
     keyed (match_on p e cs b t) = λ ts k j. act_keyed e (keyed e) ts j (λ es j. switch_code p (first_of es) (cases is_mutable sure ts k j cs) (λ j. into is_mutable sure ts k j b)) (λ es i. ((keyed_cases cs ts k i, keyed b ts k (cases is_mutable sure ts k i cs).next), tt))
     keyed (apply_static p c n m es t) = λ ts k j. use-keyed (operands is_mutable sure ts es) (keyed_operands es ts) j (λ xs. finish k p t false (core.static_call (member c n m) (expressions_of (coerced_arguments m.params (types_of es) xs)))) (λ xs i. finish-keyed k p t false (core.static_call (member c n m) (expressions_of (coerced_arguments m.params (types_of es) xs))) i)
-    keyed (apply_statically p e c n m es t) = λ ts k j. use-keyed (owner_of ts e ∷ operands is_mutable sure ts es) (owner_keyed e (keyed e) ts, keyed_operands es ts) j (λ xs. finish k p t false (core.receiver_call (member c n m) (coerced_receiver (type_of_term e) (first_of xs)) (expressions_of (coerced_arguments m.params (types_of es) (rest_of xs))))) (λ xs i. finish-keyed k p t false (core.receiver_call (member c n m) (coerced_receiver (type_of_term e) (first_of xs)) (expressions_of (coerced_arguments m.params (types_of es) (rest_of xs)))) i)
+    keyed (apply p e m es t) = λ ts k j. use-keyed (owner_of ts e ∷ operands is_mutable sure ts es) (owner_keyed e (keyed e) ts, keyed_operands es ts) j (λ xs. finish k p t false (core.receiver_call (callee_of (type_of_term e) m) (coerced_receiver (type_of_term e) (first_of xs)) (expressions_of (coerced_arguments m.params (types_of es) (rest_of xs))))) (λ xs i. finish-keyed k p t false (core.receiver_call (callee_of (type_of_term e) m) (coerced_receiver (type_of_term e) (first_of xs)) (expressions_of (coerced_arguments m.params (types_of es) (rest_of xs)))) i)
+    keyed (apply_statically p e c n m es t) = λ ts k j. use-keyed (owner_of ts e ∷ operands is_mutable sure ts es) (owner_keyed e (keyed e) ts, keyed_operands es ts) j (λ xs. finish k p t false (core.receiver_call (callees.Member (member c n m)) (coerced_receiver (type_of_term e) (first_of xs)) (expressions_of (coerced_arguments m.params (types_of es) (rest_of xs))))) (λ xs i. finish-keyed k p t false (core.receiver_call (callees.Member (member c n m)) (coerced_receiver (type_of_term e) (first_of xs)) (expressions_of (coerced_arguments m.params (types_of es) (rest_of xs)))) i)
     keyed (this_ref p t) = λ ts k j. finish-keyed k p t true (core.variable_use core.receiver) j
     keyed (throw p e) = λ ts k j. act_keyed e (keyed e) ts j (λ es. one (core.throw_of (Some p) (coerced Any (type_of_term e) (first_of es)))) (λ es i. (tt, tt))
     keyed (new_object p c m es) = λ ts k j. use-keyed (operands is_mutable sure ts es) (keyed_operands es ts) j (λ xs. finish k p (class_type c) false (core.made_of (member c Constructor m) (expressions_of (coerced_arguments m.params (types_of es) xs)))) (λ xs i. finish-keyed k p (class_type c) false (core.made_of (member c Constructor m) (expressions_of (coerced_arguments m.params (types_of es) xs))) i)

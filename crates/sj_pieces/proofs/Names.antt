@@ -14,7 +14,9 @@ use Rattle.sj_core.specs.Terms.{Variable, named, numbered, receiver}
 use Rattle.sj_emit_expr.specs.Names.{variable_name, label_name}
 use Rattle.sj_emit_expr.specs.Templates.{member_name, class_name, property_name, static_name, setter_name}
 use Rattle.sj_emit_expr.specs.Tests.{test_name, cast_name}
-use Rattle.sj_mangling.specs.Bindings.{function_name}
+use Rattle.sj_mangling.specs.Bindings.{function_name, method_binding}
+use Rattle.sj_mangling.specs.declared.bindings.MethodBinding.{MethodBinding}
+use Rattle.sj_mangling.specs.declared.bindings.MethodBinding.TheVariants.{Entry, Dispatch, Reflective}
 use Rattle.sj_mangling.specs.Mangling.{is_alphanumeric, mangled_byte, mangled}
 use Rattle.sj_mangling.specs.Numerals.{number_text}
 use Rattle.sj_names.specs.Bases.{spelled_base}
@@ -167,6 +169,17 @@ static-named c f bytes others = rw (field-rest c f bytes others) refl
 
 pub setter-named : (c f : List ℕ) → AreBytes c → AreBytes f → IsName (setter_name c f)
 setter-named c f bytes others = rw (field-rest c f bytes others) refl
+
+method-rest : (m : MethodName) → FitsMethodName m → AreCharacters (mangled (spelled_method m))
+method-rest m h = mangled-characters (spelled_method m) (spelled-bytes m h)
+
+pub method-named : (binding : MethodBinding) (m : MethodName) → FitsMethodName m → IsName (method_binding binding m)
+method-named Entry m h = rw (method-rest m h) refl
+method-named Dispatch m h = rw (method-rest m h) refl
+method-named Reflective m h = rw (method-rest m h) refl
+
+pub entry-named : (m : MethodName) → FitsMethodName m → IsProperty (method_binding Entry m)
+entry-named m h = rw (method-rest m h) refl
 
 pub member-named : (m : Member) → FitsMember m → IsName (member_name m)
 member-named m h = function-named m.namespace m.class m.method h.0 (spelled-bytes m.method h.1)

@@ -1,23 +1,27 @@
 -- What desugaring gives has fields of what may stand before `.` alone, where no field in the tree is one of a primitive value.
-use Rattle.std.proofs.Common.{◌≡◌, ℕ, pos, suc, Bool, true, false, ◌&&◌, List, [], ◌∷◌, Some, None, refl, sym, ◌∙◌, if◌then◌else◌}
+use Rattle.std.proofs.Common.{◌≡◌, ℕ, pos, suc, Bool, true, false, ◌&&◌, List, [], ◌∷◌, Option, Some, None, refl, sym, ◌∙◌, if◌then◌else◌}
 use Rattle.std.specs.Prelude.{IsTrue}
 use Rattle.js_tree.specs.Rules.{is_receiver}
 use Rattle.js_tree.specs.Terms as js
+use Rattle.sj_core.specs.Lookup.{Lookup}
 use Rattle.sj_core.specs.Terms as core
 use Rattle.sj_core.specs.Terms.{followed}
 use Rattle.sj_core.specs.Views.{expressions_of}
+use Rattle.sj_core.specs.declared.callees.Callee.{Callee}
+use Rattle.sj_core.specs.declared.callees.Callee.TheVariants as callees
 use Rattle.sj_desugar.specs.Coercions.{coerced, coerced_arguments, coerced_receiver}
-use Rattle.sj_desugar.specs.Desugar.{operand, into, block, operands, cases, finish, has_no_value, target_of, Targets, expression_of, all_expressions, labeled_code, leaving_code, wrapped, branches, break_unless, switch_code, first_of, second_of, rest_of, member, types_of, received_text, received, receiver, desugared, desugared_member, completed, body_code, is_mutable_in, result_destination}
+use Rattle.sj_desugar.specs.Desugar.{operand, into, block, operands, cases, finish, has_no_value, target_of, Targets, expression_of, all_expressions, labeled_code, leaving_code, wrapped, branches, break_unless, switch_code, first_of, second_of, rest_of, member, named_by, callee_of, types_of, received_text, received, receiver, desugared, desugared_member, completed, body_code, is_mutable_in, result_destination}
 use Rattle.sj_desugar.specs.Plain.{is_plain}
 use Rattle.sj_desugar.specs.Spill.{Destination, discard, to_variable, to_result, Code, one, put_first, Operand, all_plain, texts, Spilled, spill, spill_case, then_use}
 use Rattle.sj_desugar.specs.Texts.{text_of, operand_of}
 use Rattle.sj_emit_expr.specs.Names.{variable_name, label_name}
-use Rattle.sj_emit_expr.specs.Templates.{expression_template, is_nonzero_literal, binary_template}
+use Rattle.sj_emit_expr.specs.Templates.{looked_up_template, call_template, expression_template, expression_templates, is_nonzero_literal, binary_template}
 use Rattle.sj_names.proofs.Same.{impossible}
+use Rattle.sj_names.specs.declared.method_names.MethodName.{MethodName}
 use Rattle.sj_names.specs.declared.method_names.Namespace.{Namespace}
 use Rattle.sj_names.specs.declared.method_names.Namespace.TheVariants.{Public, PublicStatic, Private, PrivateStatic, Constructor}
 use Rattle.sj_names.specs.declared.references.TypeRef.{TypeRef}
-use Rattle.sj_trees.specs.Term.{Term, Terms, no_terms, more_terms, Cases, no_cases, more_cases, var_def, block_of, labeled, assign, return_to, if_then, while_loop, do_while, match_on, throw, new_object, select, select_static, apply_statically, apply_static, unary_op, binary_op, is_instance_of, as_instance_of, undefined_literal, null_literal, boolean_literal, char_literal, byte_literal, short_literal, int_literal, long_literal, string_literal, var_ref, this_ref, log_line}
+use Rattle.sj_trees.specs.Term.{Term, Terms, no_terms, more_terms, Cases, no_cases, more_cases, var_def, block_of, labeled, assign, return_to, if_then, while_loop, do_while, match_on, throw, new_object, select, select_static, apply, apply_statically, apply_static, unary_op, binary_op, is_instance_of, as_instance_of, undefined_literal, null_literal, boolean_literal, char_literal, byte_literal, short_literal, int_literal, long_literal, string_literal, var_ref, this_ref, log_line}
 use Rattle.sj_trees.specs.TypeOf.{type_of_term, unary_result, binary_result}
 use Rattle.sj_trees.specs.Types.{class_type, reference_type}
 use Rattle.sj_trees.specs.declared.classes.MethodDef.{MethodDef}
@@ -27,9 +31,10 @@ use Rattle.sj_trees.specs.declared.operators.UnaryOp.{UnaryOp}
 use Rattle.sj_trees.specs.declared.operators.UnaryOp.TheVariants.{BooleanNot, CharToInt, ByteToInt, ShortToInt, IntToLong, IntToChar, IntToByte, IntToShort, LongToInt}
 use Rattle.sj_trees.specs.declared.positions.Position.{Position}
 use Rattle.sj_trees.specs.declared.types.IrType.{IrType}
-use Rattle.sj_trees.specs.declared.types.IrType.TheVariants.{Any, Undefined, Null, Boolean, Char, Byte, Short, Int, Long, String}
+use Rattle.sj_trees.specs.declared.types.IrType.TheVariants.{Any, Nothing, NoType, Class, Array, Undefined, Null, Boolean, Char, Byte, Short, Int, Long, String}
+use Rattle.sj_names.specs.WellKnown.{is_hijacked}
 use Rattle.sure_receivers.specs.Sure.{is_sure_type, is_sure, sure_locals}
-use Rattle.sj_pieces.specs.Owners.{MayOwn, HasOwners, HaveOwners, IsOwned, AreOwned, CasesOwned, FieldsHaveOwners, OnObjects, AllOnObjects, CasesOnObjects}
+use Rattle.sj_pieces.specs.Owners.{MayOwn, MayCall, HasOwners, HaveOwners, IsOwned, AreOwned, CasesOwned, FieldsHaveOwners, OnObjects, AllOnObjects, CasesOnObjects}
 
 abbrev Owned : Code → Type 0
 Owned c = AreOwned c.statements
@@ -105,34 +110,72 @@ binary-owns true LongRemainder e g = refl
 binary-owns false LongRemainder e g = refl
 binary-owns nonzero _ e g = refl
 
+-- calls
+looked-up-owns : (mixed : Bool) (m : MethodName) (x : js.Expression) (xs : js.Expressions) → IsTrue (is_receiver (looked_up_template mixed m x xs))
+looked-up-owns true m x xs = refl
+looked-up-owns false m x xs = refl
+
+call-owns : (known : Lookup) (k : Callee) (x : js.Expression) (xs : js.Expressions) → IsTrue (is_receiver (call_template known k x xs))
+call-owns known (callees.Member m) x xs = refl
+call-owns known (callees.LookedUp c m) x xs = looked-up-owns (known.has_hijacked c) m x xs
+call-owns known (callees.OfArray m) x xs = refl
+call-owns known (callees.Reflective m) x xs = refl
+
+boxed-owns : (boxed : Bool) (e : core.Expression) → MayOwn e → MayOwn (if boxed then core.boxed_char e else e)
+boxed-owns true e h = λ known. refl
+boxed-owns false e h = h
+
+-- on a receiver that may stand before `.` each method may be called, and on a primitive value those of its class
+hijacked-may : (hijacked : Bool) (c : List ℕ) (m : MethodName) (e : core.Expression) → MayOwn e → MayCall (if hijacked then callees.Member (member c Public m) else callees.LookedUp c m) e
+hijacked-may true c m e h = tt
+hijacked-may false c m e h = h
+
+named-may : (r : Option TypeRef) (t : IrType) (m : MethodName) (e : core.Expression) → (is_sure_type t ≡ false → MayOwn e) → MayCall (named_by r t m) e
+named-may None t m e h = tt
+named-may (Some r) Any m e h = h refl
+named-may (Some r) (Array a) m e h = h refl
+named-may (Some r) (Class c) m e h = hijacked-may (is_hijacked c) c m e (h refl)
+named-may (Some r) Nothing m e h = h refl
+named-may (Some r) Null m e h = h refl
+named-may (Some r) NoType m e h = h refl
+named-may (Some r) Undefined m e h = tt
+named-may (Some r) Boolean m e h = tt
+named-may (Some r) Char m e h = tt
+named-may (Some r) Byte m e h = tt
+named-may (Some r) Short m e h = tt
+named-may (Some r) Int m e h = tt
+named-may (Some r) Long m e h = tt
+named-may (Some r) String m e h = tt
+
 module _ (sure : List ℕ → Bool) where
   may-own : (t : Term) → is_sure sure t ≡ true → is_sure_type (type_of_term t) ≡ false → MayOwn (expression_of sure t)
-  may-own (if_then p c a b t) k h = λ target. refl
-  may-own (apply_static p c n m ts t) k h = λ target. refl
-  may-own (apply_statically p e c n m ts t) k h = λ target. refl
-  may-own (this_ref p t) k h = λ target. refl
-  may-own (new_object p c m ts) k h = λ target. refl
-  may-own (select p e c f t) k h = λ target. refl
-  may-own (select_static p c f t) k h = λ target. refl
+  may-own (if_then p c a b t) k h = λ known. refl
+  may-own (apply_static p c n m ts t) k h = λ known. refl
+  may-own (apply p e m ts t) k h = λ known. call-owns known (callee_of (type_of_term e) m) (expression_template variable_name label_name known (coerced_receiver (type_of_term e) (received_text (is_sure sure e) (expression_of sure e)))) (expression_templates variable_name label_name known (expressions_of (coerced_arguments m.params (types_of ts) (all_expressions sure ts))))
+  may-own (apply_statically p e c n m ts t) k h = λ known. refl
+  may-own (this_ref p t) k h = λ known. refl
+  may-own (new_object p c m ts) k h = λ known. refl
+  may-own (select p e c f t) k h = λ known. refl
+  may-own (select_static p c f t) k h = λ known. refl
   may-own (unary_op p o e) k h = absurd (unary-owns o h)
   may-own (is_instance_of p e t) k h = impossible (sym h)
   may-own (as_instance_of p e t) k h = impossible (sym h ∙ k)
-  may-own (binary_op p o e d) k h = λ target. binary-owns (is_nonzero_literal (operand_of o (type_of_term d) (expression_of sure d))) o (expression_template variable_name label_name target (operand_of o (type_of_term e) (expression_of sure e))) (expression_template variable_name label_name target (operand_of o (type_of_term d) (expression_of sure d)))
-  may-own (undefined_literal p) k h = λ target. refl
-  may-own (null_literal p) k h = λ target. refl
-  may-own (boolean_literal p b) k h = λ target. refl
+  may-own (binary_op p o e d) k h = λ known. binary-owns (is_nonzero_literal (operand_of o (type_of_term d) (expression_of sure d))) o (expression_template variable_name label_name known (operand_of o (type_of_term e) (expression_of sure e))) (expression_template variable_name label_name known (operand_of o (type_of_term d) (expression_of sure d)))
+  may-own (undefined_literal p) k h = λ known. refl
+  may-own (null_literal p) k h = λ known. refl
+  may-own (boolean_literal p b) k h = λ known. refl
   may-own (char_literal p u) k h = impossible (sym h)
   may-own (byte_literal p z) k h = impossible (sym h)
   may-own (short_literal p z) k h = impossible (sym h)
   may-own (int_literal p z) k h = impossible (sym h)
   may-own (long_literal p z) k h = impossible (sym h)
-  may-own (string_literal p us) k h = λ target. refl
-  may-own (var_ref p x t) k h = λ target. refl
-  may-own _ k h = λ target. refl
+  may-own (string_literal p us) k h = λ known. refl
+  may-own (var_ref p x t) k h = λ known. refl
+  may-own _ k h = λ known. refl
 
   received-owns : (known : Bool) (e : core.Expression) → (known ≡ true → MayOwn e) → MayOwn (received_text known e)
   received-owns true e h = h refl
-  received-owns false e h = λ target. refl
+  received-owns false e h = λ known. refl
 
   received-owned : (known : Bool) (e : core.Expression) → HasOwners e → HasOwners (received_text known e)
   received-owned true e h = h
@@ -142,7 +185,8 @@ module _ (sure : List ℕ → Bool) where
     expression-owned : (t : Term) → OnObjects t → HasOwners (expression_of sure t)
     expression-owned (if_then p c a b t) h = (expression-owned c h.0, coerced-owned t (type_of_term a) (expression_of sure a) (expression-owned a h.1), coerced-owned t (type_of_term b) (expression_of sure b) (expression-owned b h.2))
     expression-owned (apply_static p c n m ts t) h = arguments-owned m.params (types_of ts) (all_expressions sure ts) (expressions-owned ts h)
-    expression-owned (apply_statically p e c n m ts t) h = (boxed-owned _ (received_text (is_sure sure e) (expression_of sure e)) (received-owned (is_sure sure e) (expression_of sure e) (expression-owned e h.0)), arguments-owned m.params (types_of ts) (all_expressions sure ts) (expressions-owned ts h.1))
+    expression-owned (apply p e m ts t) h = (named-may m.result (type_of_term e) m (coerced_receiver (type_of_term e) (received_text (is_sure sure e) (expression_of sure e))) (λ no. boxed-owns _ (received_text (is_sure sure e) (expression_of sure e)) (received-owns (is_sure sure e) (expression_of sure e) (λ k. may-own e k no))), boxed-owned _ (received_text (is_sure sure e) (expression_of sure e)) (received-owned (is_sure sure e) (expression_of sure e) (expression-owned e h.0)), arguments-owned m.params (types_of ts) (all_expressions sure ts) (expressions-owned ts h.1))
+    expression-owned (apply_statically p e c n m ts t) h = (tt, boxed-owned _ (received_text (is_sure sure e) (expression_of sure e)) (received-owned (is_sure sure e) (expression_of sure e) (expression-owned e h.0)), arguments-owned m.params (types_of ts) (all_expressions sure ts) (expressions-owned ts h.1))
     expression-owned (new_object p c m ts) h = arguments-owned m.params (types_of ts) (all_expressions sure ts) (expressions-owned ts h)
     expression-owned (select p e c f t) h = (received-owns (is_sure sure e) (expression_of sure e) (λ k. may-own e k h.0), received-owned (is_sure sure e) (expression_of sure e) (expression-owned e h.1))
     expression-owned (unary_op p o e) h = expression-owned e h
@@ -193,14 +237,17 @@ use-owned os h j made k =
 case-owns : (all fixed plain : Bool) (o : Operand) (os : List Operand) (j : ℕ) → MayOwn o.text → MayOwn (first_of (spill_case all fixed plain o os (spill os) j).expressions)
 case-owns true fixed plain o os j h = h
 case-owns false true plain o os j h = h
-case-owns false false true o os j h = λ target. refl
-case-owns false false false o os j h = λ target. refl
+case-owns false false true o os j h = λ known. refl
+case-owns false false false o os j h = λ known. refl
 
-use-object : (o : Operand) (os : List Operand) → MayOwn o.text → OperandsOwned (o ∷ os) → (j : ℕ) (made : List core.Expression → ℕ → Code) → ((es : List core.Expression) (i : ℕ) → MayOwn (first_of es) → EachOwned es → Owned (made es i)) → Owned (then_use (spill (o ∷ os) j) made)
-use-object o os m h j made k =
+use-receiver : (o : Operand) (os : List Operand) → OperandsOwned (o ∷ os) → (j : ℕ) (made : List core.Expression → ℕ → Code) → ((es : List core.Expression) (i : ℕ) → (MayOwn o.text → MayOwn (first_of es)) → EachOwned es → Owned (made es i)) → Owned (then_use (spill (o ∷ os) j) made)
+use-receiver o os h j made k =
     let r : Spilled = spill (o ∷ os) j in
     let s = spill-owned (o ∷ os) h j in
-    followed-owned r.statements (made r.expressions r.next).statements s.0 (k r.expressions r.next (case-owns (o.plain && all_plain os) o.fixed o.plain o os j m) s.1)
+    followed-owned r.statements (made r.expressions r.next).statements s.0 (k r.expressions r.next (case-owns (o.plain && all_plain os) o.fixed o.plain o os j) s.1)
+
+use-object : (o : Operand) (os : List Operand) → MayOwn o.text → OperandsOwned (o ∷ os) → (j : ℕ) (made : List core.Expression → ℕ → Code) → ((es : List core.Expression) (i : ℕ) → MayOwn (first_of es) → EachOwned es → Owned (made es i)) → Owned (then_use (spill (o ∷ os) j) made)
+use-object o os m h j made k = use-receiver o os h j made (λ es i f g. k es i (f m) g)
 
 value-owned : (quiet : Bool) (p : Position) (e : core.Expression) (s : core.Statement) (j : ℕ) → HasOwners e → IsOwned s → Owned (elim quiet as (λ b. Code) [ true ↦ one (core.evaluate_of (Some p) e) j | false ↦ one s j ])
 value-owned true p e s j h k = (h, tt)
@@ -218,7 +265,7 @@ receiver-owned false o h = (h.0, λ x t j. use-owned (o ∷ []) (h, tt) j (λ es
 
 receiver-owns : (known : Bool) (o : Operand) → (known ≡ true → MayOwn o.text) → MayOwn (received known o).text
 receiver-owns true o h = h refl
-receiver-owns false o h = λ target. refl
+receiver-owns false o h = λ known. refl
 
 labeled-owned : (k : Destination) (p : Position) (l : List ℕ) (c : Code) → Owned c → Owned (labeled_code k p l c)
 labeled-owned (to_result t) p l c h = h
@@ -271,7 +318,8 @@ module _ (is_mutable sure : List ℕ → Bool) where
     owned (do_while p b c) h = λ ts k j. (followed-owned (into is_mutable sure ts discard j b).statements (then_use (spill (operand_in ts c ∷ []) (into is_mutable sure ts discard j b).next) (λ es. one (break_unless (first_of es)))).statements (owned b h.0 ts discard j) (act_owned c h.1 (owned c h.1) ts (into is_mutable sure ts discard j b).next (λ es. one (break_unless (first_of es))) (λ es i f. ((f, (tt, tt), tt), tt))), tt)
     owned (match_on p e cs b t) h = λ ts k j. act_owned e h.0 (owned e h.0) ts j (λ es j. switch_code p (first_of es) (cases is_mutable sure ts k j cs) (λ j. into is_mutable sure ts k j b)) (λ es i f. ((f, owned_cases cs h.1 ts k i, owned b h.2 ts k (cases is_mutable sure ts k i cs).next), tt))
     owned (apply_static p c n m es t) h = λ ts k j. use-owned (operands is_mutable sure ts es) (owned_operands es h ts) j (λ xs. finish k p t false (core.static_call (member c n m) (expressions_of (coerced_arguments m.params (types_of es) xs)))) (λ xs i f. finish-owned k p t false (core.static_call (member c n m) (expressions_of (coerced_arguments m.params (types_of es) xs))) i (arguments-owned m.params (types_of es) xs f))
-    owned (apply_statically p e c n m es t) h = λ ts k j. use-owned (owner_in ts e ∷ operands is_mutable sure ts es) (owner_owned e h.0 (owned e h.0) ts, owned_operands es h.1 ts) j (λ xs. finish k p t false (core.receiver_call (member c n m) (coerced_receiver (type_of_term e) (first_of xs)) (expressions_of (coerced_arguments m.params (types_of es) (rest_of xs))))) (λ xs i f. finish-owned k p t false (core.receiver_call (member c n m) (coerced_receiver (type_of_term e) (first_of xs)) (expressions_of (coerced_arguments m.params (types_of es) (rest_of xs)))) i (boxed-owned _ (first_of xs) (first-owned xs f), arguments-owned m.params (types_of es) (rest_of xs) (rest-owned xs f)))
+    owned (apply p e m es t) h = λ ts k j. use-receiver (owner_in ts e) (operands is_mutable sure ts es) (owner_owned e h.0 (owned e h.0) ts, owned_operands es h.1 ts) j (λ xs. finish k p t false (core.receiver_call (callee_of (type_of_term e) m) (coerced_receiver (type_of_term e) (first_of xs)) (expressions_of (coerced_arguments m.params (types_of es) (rest_of xs))))) (λ xs i g f. finish-owned k p t false (core.receiver_call (callee_of (type_of_term e) m) (coerced_receiver (type_of_term e) (first_of xs)) (expressions_of (coerced_arguments m.params (types_of es) (rest_of xs)))) i (named-may m.result (type_of_term e) m (coerced_receiver (type_of_term e) (first_of xs)) (λ no. boxed-owns _ (first_of xs) (g (owner_owns e no ts))), boxed-owned _ (first_of xs) (first-owned xs f), arguments-owned m.params (types_of es) (rest_of xs) (rest-owned xs f)))
+    owned (apply_statically p e c n m es t) h = λ ts k j. use-owned (owner_in ts e ∷ operands is_mutable sure ts es) (owner_owned e h.0 (owned e h.0) ts, owned_operands es h.1 ts) j (λ xs. finish k p t false (core.receiver_call (callees.Member (member c n m)) (coerced_receiver (type_of_term e) (first_of xs)) (expressions_of (coerced_arguments m.params (types_of es) (rest_of xs))))) (λ xs i f. finish-owned k p t false (core.receiver_call (callees.Member (member c n m)) (coerced_receiver (type_of_term e) (first_of xs)) (expressions_of (coerced_arguments m.params (types_of es) (rest_of xs)))) i (tt, boxed-owned _ (first_of xs) (first-owned xs f), arguments-owned m.params (types_of es) (rest_of xs) (rest-owned xs f)))
     owned (this_ref p t) h = λ ts k j. finish-owned k p t true (core.variable_use core.receiver) j tt
     owned (throw p e) h = λ ts k j. act_owned e h (owned e h) ts j (λ es. one (core.throw_of (Some p) (coerced Any (type_of_term e) (first_of es)))) (λ es i f. (coerced-owned Any (type_of_term e) (first_of es) f, tt))
     owned (new_object p c m es) h = λ ts k j. use-owned (operands is_mutable sure ts es) (owned_operands es h ts) j (λ xs. finish k p (class_type c) false (core.made_of (member c Constructor m) (expressions_of (coerced_arguments m.params (types_of es) xs)))) (λ xs i f. finish-owned k p (class_type c) false (core.made_of (member c Constructor m) (expressions_of (coerced_arguments m.params (types_of es) xs))) i (arguments-owned m.params (types_of es) xs f))

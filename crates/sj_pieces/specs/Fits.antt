@@ -1,14 +1,17 @@
 -- Names of what the calls of a method run.
 use Rattle.std.specs.Prelude.{List, Contains}
 use Rattle.emit_questions.specs.Calls.{calls_of_all}
+use Rattle.emit_questions.specs.declared.Inquiry.{Inquiry}
+use Rattle.emit_questions.specs.declared.Inquiry.TheVariants as inquiries
+use Rattle.sj_core.specs.Lookup.{Lookup}
 use Rattle.sj_core.specs.Terms.{Method}
 use Rattle.sj_names.specs.declared.method_names.Member.{Member}
 use Rattle.sj_pieces.specs.Ranges.{FitsMember}
 
--- what a call of a member of the list runs has names that are texts of bytes, as the member's own
-abbrev pub RunsFit : (Member → Member) → List Member → Type 0
-RunsFit target ks = (k : Member) → Contains ks k → FitsMember k → FitsMember (target k)
+-- what a call of a member runs whose target is asked for has names that are texts of bytes, as the member's own
+abbrev pub RunsFit : Lookup → List Inquiry → Type 0
+RunsFit known qs = (k : Member) → Contains qs (inquiries.Target k) → FitsMember k → FitsMember (known.target k)
 
 -- the same of the public members that a method calls on receivers
-abbrev pub TargetsFit : (Member → Member) → Method → Type 0
-TargetsFit target m = RunsFit target (calls_of_all m.body)
+abbrev pub TargetsFit : Lookup → Method → Type 0
+TargetsFit known m = RunsFit known (calls_of_all m.body)

@@ -1,20 +1,29 @@
--- Where fields are read and set: in the core, and in the trees of which desugaring makes it.
+-- Where fields are read and set and methods are looked up: in the core, and in the trees of which desugaring makes it.
 use Rattle.std.specs.Prelude.{◌≡◌, false, [], ◌∷◌, Option, None, Some, IsTrue}
 use Rattle.js_tree.specs.Rules.{is_receiver}
+use Rattle.sj_core.specs.Lookup.{Lookup}
 use Rattle.sj_core.specs.Terms as core
+use Rattle.sj_core.specs.declared.callees.Callee.{Callee}
+use Rattle.sj_core.specs.declared.callees.Callee.TheVariants as callees
 use Rattle.sj_emit_expr.specs.Names.{variable_name, label_name}
 use Rattle.sj_emit_expr.specs.Templates.{expression_template}
-use Rattle.sj_names.specs.declared.method_names.Member.{Member}
-use Rattle.sj_trees.specs.Term.{Term, Terms, no_terms, more_terms, Cases, no_cases, more_cases, var_def, block_of, labeled, assign, return_to, if_then, while_loop, do_while, throw, match_on, new_object, select, select_static, apply_statically, apply_static, unary_op, binary_op, is_instance_of, as_instance_of, var_ref, log_line}
+use Rattle.sj_trees.specs.Term.{Term, Terms, no_terms, more_terms, Cases, no_cases, more_cases, var_def, block_of, labeled, assign, return_to, if_then, while_loop, do_while, throw, match_on, new_object, select, select_static, apply, apply_statically, apply_static, unary_op, binary_op, is_instance_of, as_instance_of, var_ref, log_line}
 use Rattle.sj_trees.specs.TypeOf.{type_of_term}
 use Rattle.sure_receivers.specs.Sure.{is_sure_type}
 
--- the emitted text may stand before `.`, as that of a number can't, whatever calls run
+-- the emitted text may stand before `.`, as that of a number can't, whatever is known of the classes
 abbrev pub MayOwn : core.Expression → Type 0
-MayOwn e = (target : Member → Member) → IsTrue (is_receiver (expression_template variable_name label_name target e))
+MayOwn e = (known : Lookup) → IsTrue (is_receiver (expression_template variable_name label_name known e))
+
+-- what is called on the expression may be called on it: a method of its own is written behind `.`
+abbrev pub MayCall : Callee → core.Expression → Type 0
+MayCall (callees.Member m) e = Unit {0}
+MayCall (callees.LookedUp c m) e = MayOwn e
+MayCall (callees.OfArray m) e = MayOwn e
+MayCall (callees.Reflective m) e = Unit {0}
 
 abbrev mutual
-  -- each field in the expression is one of what may stand before `.`
+  -- each field in the expression is one of what may stand before `.`, and so is each method that is looked up
   pub HasOwners : core.Expression → Type 0
   HasOwners (core.boxed_char e) = HasOwners e
   HasOwners (core.char_text e) = HasOwners e
@@ -24,7 +33,7 @@ abbrev mutual
   HasOwners (core.field_of e c f) = MayOwn e × HasOwners e
   HasOwners (core.checked_value e) = HasOwners e
   HasOwners (core.made_of m es) = HaveOwners es
-  HasOwners (core.receiver_call m e es) = HasOwners e × HaveOwners es
+  HasOwners (core.receiver_call k e es) = MayCall k e × HasOwners e × HaveOwners es
   HasOwners (core.test_of t e) = HasOwners e
   HasOwners (core.cast_of t e) = HasOwners e
   HasOwners (core.unary_of o e) = HasOwners e
@@ -63,7 +72,7 @@ abbrev mutual
   CasesOwned core.no_cases = Unit {0}
   CasesOwned (core.switch_case ks ss cs) = AreOwned ss × CasesOwned cs
 
--- each field in the method is one of what may stand before `.`
+-- each field in the method is one of what may stand before `.`, and so is each method that is looked up
 abbrev pub FieldsHaveOwners : core.Method → Type 0
 FieldsHaveOwners m = AreOwned m.body
 
@@ -84,6 +93,7 @@ abbrev mutual
   OnObjects (match_on p e cs d t) = OnObjects e × CasesOnObjects cs × OnObjects d
   OnObjects (new_object p c m ts) = AllOnObjects ts
   OnObjects (select p e c f t) = (is_sure_type (type_of_term e) ≡ false) × OnObjects e
+  OnObjects (apply p e m ts t) = OnObjects e × AllOnObjects ts
   OnObjects (apply_statically p e c n m ts t) = OnObjects e × AllOnObjects ts
   OnObjects (apply_static p c n m ts t) = AllOnObjects ts
   OnObjects (unary_op p o e) = OnObjects e

@@ -1,6 +1,8 @@
 -- What the types of the parts of a method say: names are texts of bytes, numbers have 32 bits, longs 64 and units 16.
 use Rattle.std.specs.Prelude.{◌<◌, ◌^◌, ℕ, List, All, IfSome}
 use Rattle.js_tree.specs.Rules.{IsNumber, IsBig, IsUnit}
+use Rattle.sj_core.specs.declared.callees.Callee.{Callee}
+use Rattle.sj_core.specs.declared.callees.Callee.TheVariants as callees
 use Rattle.sj_core.specs.Terms.{Variable, named, numbered, receiver, Expression, number_value, long_value, text_value, variable_use, boxed_char, char_text, value_text, choice_of, static_call, field_of, static_of, checked_value, made_of, receiver_call, test_of, cast_of, unary_of, binary_of, Expressions, no_expressions, expression, Statement, constant_of, define_of, declare_of, assign_to, evaluate_of, return_of, log_of, assign_field, assign_static, throw_of, leave_label, break_nearest, if_of, while_of, loop_of, labeled_of, switch_of, Statements, no_statements, statement, Cases, no_cases, switch_case, Method}
 use Rattle.sj_names.specs.declared.method_names.Member.{Member}
 use Rattle.sj_names.specs.declared.method_names.MethodName.{MethodName}
@@ -34,6 +36,12 @@ FitsMethodName m = AreBytes m.simple × All FitsReference m.params × IfSome m.r
 abbrev pub FitsMember : Member → Type 0
 FitsMember m = AreBytes m.class × FitsMethodName m.method
 
+abbrev pub FitsCallee : Callee → Type 0
+FitsCallee (callees.Member m) = FitsMember m
+FitsCallee (callees.LookedUp c m) = AreBytes c × FitsMethodName m
+FitsCallee (callees.OfArray m) = FitsMethodName m
+FitsCallee (callees.Reflective m) = FitsMethodName m
+
 abbrev pub FitsVariable : Variable → Type 0
 FitsVariable (named x) = AreBytes x
 FitsVariable (numbered n) = Unit {0}
@@ -54,7 +62,7 @@ abbrev mutual
   FitsExpression (static_of c f) = AreBytes c × AreBytes f
   FitsExpression (checked_value e) = FitsExpression e
   FitsExpression (made_of m es) = FitsMember m × FitExpressions es
-  FitsExpression (receiver_call m e es) = FitsMember m × FitsExpression e × FitExpressions es
+  FitsExpression (receiver_call k e es) = FitsCallee k × FitsExpression e × FitExpressions es
   FitsExpression (test_of t e) = FitsType t × FitsExpression e
   FitsExpression (cast_of t e) = FitsType t × FitsExpression e
   FitsExpression (unary_of o e) = FitsExpression e

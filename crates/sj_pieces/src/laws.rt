@@ -16,7 +16,7 @@ pub fn desugared_members_have_keys()
 {}
 
 /// Where no field in a body is one of a tree of a primitive type other than null, what desugaring gives for it has fields of what may stand before `.`
-/// alone.
+/// alone, and looks methods up on the same: what is called on a tree of a primitive type is a function of its class.
 pub fn desugared_fields_have_owners()
     ensures methods { (d : MethodDef) (e : Term) → OnObjects e → FieldsHaveOwners (desugared d e) }
     ensures members { (d : MethodDef) (e : Term) → OnObjects e → FieldsHaveOwners (desugared_member d e) }

@@ -1,8 +1,8 @@
 //! Pieces: the emitted function of a method, with a receiver or without one, as the class of the method owns it. It keeps the rules of printing.
 //!
 //! `specs/` has the piece of a method, what the types of a method's parts say of their values, and when each case of a switch has a key, as
-//! each has in what desugaring gives. It has too of which expressions fields are read and set, which bodies are desugared to such alone, and when what
-//! the calls of a method run has names of bytes.
+//! each has in what desugaring gives. It has too of which expressions fields are read and set and methods looked up, which bodies are desugared to such
+//! alone, and when what the calls of a method run has names of bytes.
 #![tactic(auto)]
 
 mod laws;

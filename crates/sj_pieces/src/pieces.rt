@@ -4,8 +4,8 @@ ghost use Rattle.emit_questions.specs.Task as task;
 ghost use Rattle.emit_questions.specs.Task.{emitted_view};
 ghost use Rattle.js_tree.specs.Rules.{IsPiece};
 ghost use Rattle.js_tree.specs.Views.{body_view, piece_view};
+ghost use Rattle.sj_core.specs.Lookup.{Lookup};
 ghost use Rattle.sj_core.specs.Views.{method_view};
-ghost use Rattle.sj_names.specs.declared.method_names.Member.{Member};
 ghost use Rattle.sj_pieces.specs.Fits.{TargetsFit};
 ghost use Rattle.sj_pieces.specs.Keys.{HasKeys};
 ghost use Rattle.sj_pieces.specs.Owners.{FieldsHaveOwners};
@@ -20,17 +20,17 @@ use sj_names::{Member, NoMemory};
 use std::alloc::Global;
 use std::rc::Rc;
 
-/// The piece of a method, with a receiver or without one, of which this is the emitted function by some targets of public members: the function, under the
-/// name of the member, which the member's class owns. Where each case of a switch has a key, each field is one of what may stand before `.`, and the targets
-/// have names of bytes, the piece keeps the rules of printing. Want of memory is the only error.
+/// The piece of a method, with a receiver or without one, of which this is the emitted function by what is known of the classes: the function, under the
+/// name of the member, which the member's class owns. Where each case of a switch has a key, each field and each method that is looked up is one of what may
+/// stand before `.`, and the targets have names of bytes, the piece keeps the rules of printing. Want of memory is the only error.
 pub fn member_piece(
     alloc: Global,
     member: &Member,
     m: &CoreMethod,
     emitted: JsMember,
 ) -> Result<JsPiece, NoMemory>
-    ensures piece { (target : Member → Member) → emitted_view emitted ≡ task.emitted target (method_view m.now) → IfOk result (λ p. piece_view p ≡ members.member_piece target member.now (method_view m.now)) }
-    ensures rules { (target : Member → Member) → emitted_view emitted ≡ task.emitted target (method_view m.now) → HasKeys (method_view m.now) → FieldsHaveOwners (method_view m.now) → TargetsFit target (method_view m.now) → IfOk result (λ p. IsPiece (piece_view p)) }
+    ensures piece { (known : Lookup) → emitted_view emitted ≡ task.emitted known (method_view m.now) → IfOk result (λ p. piece_view p ≡ members.member_piece known member.now (method_view m.now)) }
+    ensures rules { (known : Lookup) → emitted_view emitted ≡ task.emitted known (method_view m.now) → HasKeys (method_view m.now) → FieldsHaveOwners (method_view m.now) → TargetsFit known (method_view m.now) → IfOk result (λ p. IsPiece (piece_view p)) }
 {
     member_fits(member);
     method_fits(m);

@@ -2,9 +2,9 @@
 ghost use Rattle.std.specs.Prelude.{All, IfSome};
 ghost use Rattle.js_tree.specs.Rules.{IsNumber, IsBig};
 ghost use Rattle.sj_core.specs.Views as core;
-ghost use Rattle.sj_pieces.specs.Ranges.{AreBytes, FitsBase, FitsReference, FitsType, FitsMethodName, FitsMember, FitsVariable, FitsExpression, FitExpressions, FitsStatement, FitStatements, FitCases, FitsMethod};
+ghost use Rattle.sj_pieces.specs.Ranges.{AreBytes, FitsBase, FitsReference, FitsType, FitsMethodName, FitsMember, FitsCallee, FitsVariable, FitsExpression, FitExpressions, FitsStatement, FitStatements, FitCases, FitsMethod};
 
-use sj_core::{CoreCase, CoreExpression, CoreMethod, CoreStatement, CoreVariable};
+use sj_core::{Callee, CoreCase, CoreExpression, CoreMethod, CoreStatement, CoreVariable};
 use sj_names::{BaseRef, LocalName, Member, MethodName, TypeRef};
 use sj_trees::IrType;
 
@@ -73,6 +73,19 @@ pub fn member_fits(member: &Member)
     method_name_fits(&member.method);
 }
 
+fn callee_fits(callee: &Callee)
+    ensures { FitsCallee callee.now }
+{
+    match callee {
+        Callee::Member(member) => member_fits(member),
+        Callee::LookedUp(class, method) => {
+            text_fits(class.text());
+            method_name_fits(method);
+        }
+        Callee::OfArray(method) | Callee::Reflective(method) => method_name_fits(method),
+    }
+}
+
 fn variable_fits(variable: &CoreVariable)
     ensures { FitsVariable (core.variable_view variable.now) }
 {
@@ -123,8 +136,8 @@ fn expression_fits(expression: &CoreExpression)
             text_fits(class.text());
             text_fits(name.text());
         }
-        CoreExpression::ReceiverCall(member, object, arguments) => {
-            member_fits(member);
+        CoreExpression::ReceiverCall(callee, object, arguments) => {
+            callee_fits(callee);
             expression_fits(object);
             expressions_fit(arguments);
         }

@@ -168,7 +168,7 @@ module _ (z : Setting) (lawful : Lawful z) where
   divided_operands o h left right r q e d f k w env s sc u inside operands same = by (is_nonzero_literal d) refl
     where
       text : core.Expression → tree.Expression
-      text = expression_template z.place.name z.place.label (usable z).target
+      text = expression_template z.place.name z.place.label (usable z).lookup
 
       Alike : Out js.ExpressionEnd → Type 0
       Alike = Sim z.direction (Valued z.place w env (binary_result o)) (ir_meaning.in_order (r ∷ q ∷ []) (ir_meaning.binary z.place.classes z.low o) env s)

@@ -140,12 +140,12 @@ module _ (z : Setting) where
 
   -- a division, by its dividend
   pub division_alike : (o : BinaryOp) (d : Term) → DividesBy o d → (own : IrType) → Fits (left_operand o) own → (r : ir.Run) (e : core.Expression) (w : World) (env : ir.Env) (s : ir.State) (sc : js.Scope) (u : js.State) → OperandsAlike z w env sc (own ∷ []) (r ∷ []) (e ∷ []) → SameState z.place w s u → Sim z.direction (Valued z.place w env (binary_result o)) (ir_meaning.in_order (r ∷ []) (division_act o (divisor_of d)) env s) (shown z (core.binary_of o e (expression_of z.code.sure d)) sc u)
-  division_alike _ _ (by_int o d p n f ne) own k r e w env s sc u operand same = subst (λ q. Sim z.direction (Valued z.place w env (binary_result o)) (ir_meaning.in_order (r ∷ []) (division_act o (ir.number n)) env s) q) (sym (division_shown o d n f ne (expression_template z.place.name z.place.label (usable z).target e) sc u)) (in_order_alike z w w env sc w (own ∷ []) (binary_result o) (r ∷ []) (e ∷ []) (division_act o (ir.number n)) (by_one_value (over_int o n)) operand (int_acts o d own (int_operand o d own k) n f ne w env sc) w s u (grows-refl w) (grows-refl w) (grows-refl w) same)
+  division_alike _ _ (by_int o d p n f ne) own k r e w env s sc u operand same = subst (λ q. Sim z.direction (Valued z.place w env (binary_result o)) (ir_meaning.in_order (r ∷ []) (division_act o (ir.number n)) env s) q) (sym (division_shown o d n f ne (expression_template z.place.name z.place.label (usable z).lookup e) sc u)) (in_order_alike z w w env sc w (own ∷ []) (binary_result o) (r ∷ []) (e ∷ []) (division_act o (ir.number n)) (by_one_value (over_int o n)) operand (int_acts o d own (int_operand o d own k) n f ne w env sc) w s u (grows-refl w) (grows-refl w) (grows-refl w) same)
     where
       int_operand : (o : BinaryOp) → IsDivision o → (own : IrType) → Fits (left_operand o) own → Fits Int own
       int_operand _ a_quotient own k = k
       int_operand _ a_remainder own k = k
-  division_alike _ _ (by_long o d p n f ne) own k r e w env s sc u operand same = subst (λ q. Sim z.direction (Valued z.place w env (binary_result o)) (ir_meaning.in_order (r ∷ []) (division_act o (ir.long n)) env s) q) (sym (long_division_shown o d n f ne (expression_template z.place.name z.place.label (usable z).target e) sc u)) (in_order_alike z w w env sc w (own ∷ []) (binary_result o) (r ∷ []) (e ∷ []) (division_act o (ir.long n)) (by_one_value (over_long o n)) operand (long_acts o d own (long_operand o d own k) n ne w env sc) w s u (grows-refl w) (grows-refl w) (grows-refl w) same)
+  division_alike _ _ (by_long o d p n f ne) own k r e w env s sc u operand same = subst (λ q. Sim z.direction (Valued z.place w env (binary_result o)) (ir_meaning.in_order (r ∷ []) (division_act o (ir.long n)) env s) q) (sym (long_division_shown o d n f ne (expression_template z.place.name z.place.label (usable z).lookup e) sc u)) (in_order_alike z w w env sc w (own ∷ []) (binary_result o) (r ∷ []) (e ∷ []) (division_act o (ir.long n)) (by_one_value (over_long o n)) operand (long_acts o d own (long_operand o d own k) n ne w env sc) w s u (grows-refl w) (grows-refl w) (grows-refl w) same)
     where
       long_operand : (o : BinaryOp) → IsLongDivision o → (own : IrType) → Fits (left_operand o) own → Fits Long own
       long_operand _ a_long_quotient own k = k

@@ -14,6 +14,7 @@ use Rattle.js_mean.specs.Objects as js_objects
 use Rattle.js_mean.specs.States as js
 use Rattle.js_tree.specs.Terms.{Name}
 use Rattle.js_tree.specs.Terms as tree
+use Rattle.sj_core.specs.declared.callees.Callee.TheVariants as callees
 use Rattle.sj_core.specs.Terms as core
 use Rattle.sj_core.specs.Views.{expressions_of}
 use Rattle.sj_desugar.specs.Desugar.{member}
@@ -81,7 +82,7 @@ module _ (z : Setting) (law : Based z) where
 
   -- the call of that function with an expression
   abbrev pub setter_text : List ℕ → List ℕ → core.Expression → js.Evaluation
-  setter_text c f e = js_meaning.evaluate z.place.program z.js_low (tree.call_of (setter_name c f) (tree.expression (expression_template z.place.name z.place.label (usable z).target e) tree.no_expressions))
+  setter_text c f e = js_meaning.evaluate z.place.program z.js_low (tree.call_of (setter_name c f) (tree.expression (expression_template z.place.name z.place.label (usable z).lookup e) tree.no_expressions))
 
   pub static_set_alike : (c f : List ℕ) (t own : IrType) (r : ir.Run) (e : core.Expression) → (usable z).static_setter c f t ≡ true → Fits t own → (w : World) (env : ir.Env) (s : ir.State) (sc : js.Scope) (u : js.State) → Inside z.place z.code sc → OperandsAlike z w env sc (own ∷ []) (r ∷ []) (e ∷ []) → SameState z.place w s u → Sim z.direction (Valued z.place w env NoType) (ir_meaning.in_order (r ∷ []) (ir_meaning.assign_static c f) env s) (setter_text c f e sc u)
   static_set_alike c f t own r e has fit w env s sc u inside operand same = subst (λ o. Sim z.direction (Valued z.place w env NoType) (ir_meaning.in_order (r ∷ []) (ir_meaning.assign_static c f) env s) o) (sym js_is) (in_order_alike z w w env sc w (own ∷ []) NoType (r ∷ []) (e ∷ []) (ir_meaning.assign_static c f) (js_meaning.call z.place.program z.js_low fun) operand (set_acts c f t own fit w env sc has) w s u (grows-refl w) (grows-refl w) (grows-refl w) same)
@@ -183,7 +184,7 @@ module _ (z : Setting) (law : Based z) where
       rest x = js_meaning.in_order (all_shown z es') (λ xs. js_meaning.call z.place.program z.js_low fun (x ∷ xs)) sc
 
       js_is : shown z (core.made_of (member c Constructor m) (expressions_of es)) sc u ≡ then_do (js_make u) (js.with_value rest)
-      js_is = ap (λ o. then_do o (js.with_value (λ f. js_meaning.in_order (js_meaning.evaluate z.place.program z.js_low (tree.new_of (class_name c) tree.no_expressions) ∷ js_meaning.arguments z.place.program z.js_low (expression_templates z.place.name z.place.label (usable z).target (expressions_of es))) (js_meaning.call z.place.program z.js_low f) sc))) (top_seen z law (a_constructor (member c Constructor m)) fun sc u linked inside (same.tops z.code.file (a_constructor (member c Constructor m)) linked)) ∙ ap (λ args. js_meaning.in_order (js_meaning.evaluate z.place.program z.js_low (tree.new_of (class_name c) tree.no_expressions) ∷ args) (js_meaning.call z.place.program z.js_low fun) sc u) (row_shown z es ∙ ap (all_shown z) are) ∙ ap (λ o. then_do o (js.with_value rest)) (new_shown c w s sc u made inside same)
+      js_is = ap (λ o. then_do o (js.with_value (λ f. js_meaning.in_order (js_meaning.evaluate z.place.program z.js_low (tree.new_of (class_name c) tree.no_expressions) ∷ js_meaning.arguments z.place.program z.js_low (expression_templates z.place.name z.place.label (usable z).lookup (expressions_of es))) (js_meaning.call z.place.program z.js_low f) sc))) (top_seen z law (a_constructor (member c Constructor m)) fun sc u linked inside (same.tops z.code.file (a_constructor (member c Constructor m)) linked)) ∙ ap (λ args. js_meaning.in_order (js_meaning.evaluate z.place.program z.js_low (tree.new_of (class_name c) tree.no_expressions) ∷ args) (js_meaning.call z.place.program z.js_low fun) sc u) (row_shown z es ∙ ap (all_shown z) are) ∙ ap (λ o. then_do o (js.with_value rest)) (new_shown c w s sc u made inside same)
 
       each : (e : ir.Ended) (b : js.ExpressionEnd) → Makes z.place w c env s e b → Sim z.direction (Valued z.place w env (class_type c)) (ir.onward (λ v. ir_meaning.in_order rs act) e) (js.with_value rest b)
       each _ _ (makes a o u2 fresh shape states) = in_order_alike z w w env sc (with_pending a o w) ts (class_type c) rs es' act (λ xs. js_meaning.call z.place.program z.js_low fun (js.object a ∷ xs)) operands (construct_acts c m ts w env sc a o linked free fit fresh shape) (with_pending a o w) s u2 (grown a o fresh) (grown a o fresh) (grows-refl (with_pending a o w)) states
@@ -192,13 +193,13 @@ module _ (z : Setting) (law : Based z) where
           grown a o fresh = record { places = λ j b e. e; owns = λ b d e. e; boxes = refl; pends = λ b d e. pending-kept w a b o d fresh e (b == a) refl }
 
   -- a member runs on a receiver
-  receive_acts : (m : Member) (own : IrType) (ts : List IrType) (w : World) (env : ir.Env) (sc : js.Scope) → (usable z).received (called_member (usable z).target m.namespace m) ≡ true → Fits (class_type m.class) own → FitAll (types_referred m.method.params) ts → ActsAlike z w w env (own ∷ ts) (call_type m.method.result) (ir_meaning.call_on z.place.classes z.low (ir_meaning.static_target z.place.classes m.class m.namespace m.method)) (js_meaning.call z.place.program z.js_low (top_function z.place (a_method (called_member (usable z).target m.namespace m)))) sc
+  receive_acts : (m : Member) (own : IrType) (ts : List IrType) (w : World) (env : ir.Env) (sc : js.Scope) → (usable z).received (called_member (usable z).lookup m.namespace m) ≡ true → Fits (class_type m.class) own → FitAll (types_referred m.method.params) ts → ActsAlike z w w env (own ∷ ts) (call_type m.method.result) (ir_meaning.call_on z.place.classes z.low (ir_meaning.static_target z.place.classes m.class m.namespace m.method)) (js_meaning.call z.place.program z.js_low (top_function z.place (a_method (called_member (usable z).lookup m.namespace m)))) sc
   receive_acts m own ts w env sc there f fit y _ _ s u g (one_more _ v x _ vs xs a others) same = by v x a.stands (value-fits y (class_type m.class) own v x f a)
     where
-      goes : (v : ir.Value) (x : js.Value) → IsReceiver y m.class v x → Sim z.direction (Valued z.place w env (call_type m.method.result)) (ir_meaning.call z.low (ir_meaning.static_target z.place.classes m.class m.namespace m.method) (Some v) vs env s) (top_call z.place z.js_low (a_method (called_member (usable z).target m.namespace m)) (x ∷ xs) u)
+      goes : (v : ir.Value) (x : js.Value) → IsReceiver y m.class v x → Sim z.direction (Valued z.place w env (call_type m.method.result)) (ir_meaning.call z.low (ir_meaning.static_target z.place.classes m.class m.namespace m.method) (Some v) vs env s) (top_call z.place z.js_low (a_method (called_member (usable z).lookup m.namespace m)) (x ∷ xs) u)
       goes v x r = sim_weaken z.direction (Valued z.place y env (call_type m.method.result)) (Valued z.place w env (call_type m.method.result)) _ _ (λ a b. valued-weaken z w y env (call_type m.method.result) a b g) (law.receives m there y v x vs xs env s u r (values-fit y (types_referred m.method.params) ts vs xs fit others) same)
 
-      by : (v : ir.Value) (x : js.Value) → Stands y (is_char own) v x → SameValue y (class_type m.class) v x → Sim z.direction (Valued z.place w env (call_type m.method.result)) (ir_meaning.call_on z.place.classes z.low (ir_meaning.static_target z.place.classes m.class m.namespace m.method) (v ∷ vs) env s) (top_call z.place z.js_low (a_method (called_member (usable z).target m.namespace m)) (x ∷ xs) u)
+      by : (v : ir.Value) (x : js.Value) → Stands y (is_char own) v x → SameValue y (class_type m.class) v x → Sim z.direction (Valued z.place w env (call_type m.method.result)) (ir_meaning.call_on z.place.classes z.low (ir_meaning.static_target z.place.classes m.class m.namespace m.method) (v ∷ vs) env s) (top_call z.place z.js_low (a_method (called_member (usable z).lookup m.namespace m)) (x ∷ xs) u)
       by _ _ same_null k = sim_wrong z.direction (Valued z.place w env (call_type m.method.result)) _
       by _ _ same_undefined k = goes _ _ (record { stands = k; there = λ e. cc })
       by _ _ (same_boolean b) k = goes _ _ (record { stands = k; there = λ e. cc })
@@ -209,14 +210,14 @@ module _ (z : Setting) (law : Based z) where
       by _ _ (same_text us) k = goes _ _ (record { stands = k; there = λ e. cc })
       by _ _ (same_reference i a e) k = goes _ _ (record { stands = k; there = λ e. cc })
 
-  pub received_call_alike : (m : Member) (own : IrType) (ts : List IrType) (r : ir.Run) (rs : List ir.Run) (e : core.Expression) (es : List core.Expression) → (usable z).received (called_member (usable z).target m.namespace m) ≡ true → Fits (class_type m.class) own → FitAll (types_referred m.method.params) ts → (w : World) (env : ir.Env) (s : ir.State) (sc : js.Scope) (u : js.State) → Inside z.place z.code sc → OperandsAlike z w env sc (own ∷ ts) (r ∷ rs) (e ∷ es) → SameState z.place w s u → Sim z.direction (Valued z.place w env (call_type m.method.result)) (ir_meaning.in_order (r ∷ rs) (ir_meaning.call_on z.place.classes z.low (ir_meaning.static_target z.place.classes m.class m.namespace m.method)) env s) (shown z (core.receiver_call m e (expressions_of es)) sc u)
+  pub received_call_alike : (m : Member) (own : IrType) (ts : List IrType) (r : ir.Run) (rs : List ir.Run) (e : core.Expression) (es : List core.Expression) → (usable z).received (called_member (usable z).lookup m.namespace m) ≡ true → Fits (class_type m.class) own → FitAll (types_referred m.method.params) ts → (w : World) (env : ir.Env) (s : ir.State) (sc : js.Scope) (u : js.State) → Inside z.place z.code sc → OperandsAlike z w env sc (own ∷ ts) (r ∷ rs) (e ∷ es) → SameState z.place w s u → Sim z.direction (Valued z.place w env (call_type m.method.result)) (ir_meaning.in_order (r ∷ rs) (ir_meaning.call_on z.place.classes z.low (ir_meaning.static_target z.place.classes m.class m.namespace m.method)) env s) (shown z (core.receiver_call (callees.Member m) e (expressions_of es)) sc u)
   received_call_alike m own ts r rs e es there f fit w env s sc u inside operands same = subst (λ q. Sim z.direction (Valued z.place w env (call_type m.method.result)) (ir_meaning.in_order (r ∷ rs) (ir_meaning.call_on z.place.classes z.low (ir_meaning.static_target z.place.classes m.class m.namespace m.method)) env s) q) (sym js_is) (in_order_alike z w w env sc w (own ∷ ts) (call_type m.method.result) (r ∷ rs) (e ∷ es) (ir_meaning.call_on z.place.classes z.low (ir_meaning.static_target z.place.classes m.class m.namespace m.method)) (js_meaning.call z.place.program z.js_low fun) operands (receive_acts m own ts w env sc there f fit) w s u (grows-refl w) (grows-refl w) (grows-refl w) same)
     where
       fun : js.Value
-      fun = top_function z.place (a_method (called_member (usable z).target m.namespace m))
+      fun = top_function z.place (a_method (called_member (usable z).lookup m.namespace m))
 
-      js_is : shown z (core.receiver_call m e (expressions_of es)) sc u ≡ js_meaning.in_order (all_shown z (e ∷ es)) (js_meaning.call z.place.program z.js_low fun) sc u
-      js_is = ap (λ o. then_do o (js.with_value (λ g. js_meaning.in_order (shown z e ∷ js_meaning.arguments z.place.program z.js_low (expression_templates z.place.name z.place.label (usable z).target (expressions_of es))) (js_meaning.call z.place.program z.js_low g) sc))) (top_seen z law (a_method (called_member (usable z).target m.namespace m)) fun sc u there inside (same.tops z.code.file (a_method (called_member (usable z).target m.namespace m)) there)) ∙ ap (λ args. js_meaning.in_order (shown z e ∷ args) (js_meaning.call z.place.program z.js_low fun) sc u) (row_shown z es)
+      js_is : shown z (core.receiver_call (callees.Member m) e (expressions_of es)) sc u ≡ js_meaning.in_order (all_shown z (e ∷ es)) (js_meaning.call z.place.program z.js_low fun) sc u
+      js_is = ap (λ o. then_do o (js.with_value (λ g. js_meaning.in_order (shown z e ∷ js_meaning.arguments z.place.program z.js_low (expression_templates z.place.name z.place.label (usable z).lookup (expressions_of es))) (js_meaning.call z.place.program z.js_low g) sc))) (top_seen z law (a_method (called_member (usable z).lookup m.namespace m)) fun sc u there inside (same.tops z.code.file (a_method (called_member (usable z).lookup m.namespace m)) there)) ∙ ap (λ args. js_meaning.in_order (shown z e ∷ args) (js_meaning.call z.place.program z.js_low fun) sc u) (row_shown z es)
 
 -- the null check of a value, as an act on it
 abbrev pub null_act : Setting → List ir.Value → ir.Run

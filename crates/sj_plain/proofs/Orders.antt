@@ -29,7 +29,7 @@ OperandAlike z from env sc t r e = (w : World) (s : ir.State) (u : js.State) →
 
 -- the text of an expression
 abbrev pub text_of : Setting → core.Expression → tree.Expression
-text_of z e = expression_template z.place.name z.place.label (usable z).target e
+text_of z e = expression_template z.place.name z.place.label (usable z).lookup e
 
 abbrev pub all_shown : Setting → List core.Expression → List js.Evaluation
 all_shown z [] = []

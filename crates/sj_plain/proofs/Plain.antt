@@ -2,6 +2,8 @@
 use Rattle.std.proofs.Common.{◌≡◌, zero, suc, Bool, true, false, List, [], ◌∷◌, None, Option, refl, sym, ap, ◌∙◌, subst, inl, inr, if◌then◌else◌, ⊎_elim}
 use Rattle.std.specs.Prelude.{ℤ, pos, negsuc, FitsSigned, ℕ, ◌&&◌, ◌||◌, ◌⊎◌, not}
 use Rattle.std.proofs.lemmas.Bool.{and_parts}
+use Rattle.body_rules.proofs.Direct.{Direct, direct}
+use Rattle.ir_mean.proofs.HijackedCalls.{hijacked_call}
 use Rattle.body_rules.proofs.Fitting.{fits-unary, fits-dividend, operates, not_no_type, unary-operand-value, left-operand-value, right-operand-value}
 use Rattle.body_rules.proofs.Locals.{there}
 use Rattle.body_rules.proofs.RulesGive.{when_not, ArgumentsFit, Takes, its_types, texts, of_division, of_identity, each_made, arguments_there, operation}
@@ -25,16 +27,17 @@ use Rattle.js_mean.specs.Files.{owner}
 use Rattle.js_mean.specs.Meaning as js_meaning
 use Rattle.js_mean.specs.States as js
 use Rattle.js_tree.specs.Terms as tree
+use Rattle.sj_core.specs.declared.callees.Callee.TheVariants as callees
 use Rattle.sj_core.specs.Terms as core
 use Rattle.sj_core.specs.Views.{expressions_of}
-use Rattle.sj_desugar.specs.Coercions.{is_char, coerced, coerced_arguments}
+use Rattle.sj_desugar.specs.Coercions.{is_char, coerced, coerced_arguments, coerced_receiver}
 use Rattle.sj_names.specs.declared.references.TypeRef.{TypeRef}
 use Rattle.sj_desugar.specs.Desugar.{member, types_of, received_text, expression_of, all_expressions}
 use Rattle.sj_desugar.specs.Texts.{operand_of}
 use Rattle.sj_emit_expr.specs.Templates.{check_name, member_name, expression_template, expression_templates, binary_template, unary_template, is_nonzero_literal}
 use Rattle.sj_names.proofs.Same.{impossible}
 use Rattle.sj_names.specs.declared.method_names.Member.{Member}
-use Rattle.sj_trees.specs.Term.{Term, Terms, no_terms, more_terms, var_def, skip, block_of, labeled, assign, return_to, if_then, while_loop, do_while, throw, match_on, new_object, select, select_static, apply_statically, this_ref, apply_static, unary_op, binary_op, is_instance_of, as_instance_of, log_line, undefined_literal, null_literal, boolean_literal, char_literal, byte_literal, short_literal, int_literal, long_literal, string_literal, var_ref}
+use Rattle.sj_trees.specs.Term.{Term, Terms, no_terms, more_terms, var_def, skip, block_of, labeled, assign, return_to, if_then, while_loop, do_while, throw, match_on, new_object, select, select_static, apply, apply_statically, this_ref, apply_static, unary_op, binary_op, is_instance_of, as_instance_of, log_line, undefined_literal, null_literal, boolean_literal, char_literal, byte_literal, short_literal, int_literal, long_literal, string_literal, var_ref}
 use Rattle.sj_trees.specs.TypeOf.{type_of_term, unary_result, binary_result}
 use Rattle.sj_trees.specs.declared.operators.BinaryOp.{BinaryOp}
 use Rattle.sj_trees.specs.declared.operators.BinaryOp.TheVariants.{StrictEqual, StrictNotEqual, StringConcatenate, IntDivide, IntRemainder, LongDivide, LongRemainder, LongShiftLeft, LongShiftRightLogical, LongShiftRightArithmetic}
@@ -130,7 +133,7 @@ module _ (z : Setting) (lawful : Lawful z) (scope : Scope) where
       by _ _ (same_boolean false) = weaker w y env t (second env s) (other sc u) h (g y s u h same)
       by _ _ _ = sim_wrong z.direction (Valued z.place w env t) _
 
-  arguments_shown : (es : List core.Expression) → js_meaning.arguments z.place.program z.js_low (expression_templates z.place.name z.place.label (usable z).target (expressions_of es)) ≡ all_shown z es
+  arguments_shown : (es : List core.Expression) → js_meaning.arguments z.place.program z.js_low (expression_templates z.place.name z.place.label (usable z).lookup (expressions_of es)) ≡ all_shown z es
   arguments_shown [] = refl
   arguments_shown (e ∷ es) = ap (λ rest. shown z e ∷ rest) (arguments_shown es)
 
@@ -147,21 +150,21 @@ module _ (z : Setting) (lawful : Lawful z) (scope : Scope) where
   standing_operand : (t : Term) (expected : IrType) → StandsFor z expected (type_of_term t) → PlainAlike t → (w : World) (env : ir.Env) (sc : js.Scope) → Sees z.place z.code scope w env sc → OperandAlike z w env sc expected (ir_meaning.step z.place.classes z.low t) (shown z (coerced expected (type_of_term t) (expression_of z.code.sure t)))
   standing_operand t expected f h w env sc sees = operand_coerced z lawful.base expected (type_of_term t) f.0 f.1 w env sc sees.inside (ir_meaning.step z.place.classes z.low t) (expression_of z.code.sure t) (as_operand t h w env sc sees)
 
-  if_alike : (c a b : Term) (t : IrType) → PlainAlike c → PlainAlike a → PlainAlike b → StandsFor z t (type_of_term a) → StandsFor z t (type_of_term b) → tells (type_of_term c) (expression_template z.place.name z.place.label (usable z).target (expression_of z.code.sure c)) ≡ true → (w : World) (env : ir.Env) (s : ir.State) (sc : js.Scope) (u : js.State) → Sees z.place z.code scope w env sc → SameState z.place w s u → Sim z.direction (Valued z.place w env t) (ir_meaning.in_order (ir_meaning.step z.place.classes z.low c ∷ []) (ir_meaning.branch (ir_meaning.step z.place.classes z.low a) (ir_meaning.step z.place.classes z.low b)) env s) (shown z (core.choice_of (expression_of z.code.sure c) (coerced t (type_of_term a) (expression_of z.code.sure a)) (coerced t (type_of_term b) (expression_of z.code.sure b))) sc u)
+  if_alike : (c a b : Term) (t : IrType) → PlainAlike c → PlainAlike a → PlainAlike b → StandsFor z t (type_of_term a) → StandsFor z t (type_of_term b) → tells (type_of_term c) (expression_template z.place.name z.place.label (usable z).lookup (expression_of z.code.sure c)) ≡ true → (w : World) (env : ir.Env) (s : ir.State) (sc : js.Scope) (u : js.State) → Sees z.place z.code scope w env sc → SameState z.place w s u → Sim z.direction (Valued z.place w env t) (ir_meaning.in_order (ir_meaning.step z.place.classes z.low c ∷ []) (ir_meaning.branch (ir_meaning.step z.place.classes z.low a) (ir_meaning.step z.place.classes z.low b)) env s) (shown z (core.choice_of (expression_of z.code.sure c) (coerced t (type_of_term a) (expression_of z.code.sure a)) (coerced t (type_of_term b) (expression_of z.code.sure b))) sc u)
   if_alike c a b t hc ha hb fa fb told w env s sc u sees same = in_order_alike z w w env sc w (type_of_term c ∷ []) t (ir_meaning.step z.place.classes z.low c ∷ []) (expression_of z.code.sure c ∷ []) (ir_meaning.branch (ir_meaning.step z.place.classes z.low a) (ir_meaning.step z.place.classes z.low b)) (js_meaning.chosen (shown z (coerced t (type_of_term a) (expression_of z.code.sure a))) (shown z (coerced t (type_of_term b) (expression_of z.code.sure b)))) (more_operands _ _ _ _ _ _ told (as_operand c hc w env sc sees) no_operands) (branch_acts w env sc (type_of_term c) t (ir_meaning.step z.place.classes z.low a) (ir_meaning.step z.place.classes z.low b) (shown z (coerced t (type_of_term a) (expression_of z.code.sure a))) (shown z (coerced t (type_of_term b) (expression_of z.code.sure b))) (standing_operand a t fa ha w env sc sees) (standing_operand b t fb hb w env sc sees)) w s u (grows-refl w) (grows-refl w) (grows-refl w) same
 
   pub call_alike : (m : Member) (ts : List IrType) (rs : List ir.Run) (es es' : List core.Expression) → es ≡ es' → (usable z).linked m ≡ true → FitAll (types_referred m.method.params) ts → (w : World) (env : ir.Env) (s : ir.State) (sc : js.Scope) (u : js.State) → Inside z.place z.code sc → OperandsAlike z w env sc ts rs es' → SameState z.place w s u → Sim z.direction (Valued z.place w env (call_type m.method.result)) (ir_meaning.in_order rs (ir_meaning.call z.low (ir_world.member_of z.place.classes m.class m.namespace m.method) None) env s) (shown z (core.static_call m (expressions_of es)) sc u)
-  call_alike m ts rs es es' e linked fit w env s sc u inside operands same = by_equal w env (call_type m.method.result) _ _ _ _ refl (ap (λ o. then_do o (js.with_value (λ f. js_meaning.in_order (js_meaning.arguments z.place.program z.js_low (expression_templates z.place.name z.place.label (usable z).target (expressions_of es))) (js_meaning.call z.place.program z.js_low f) sc))) (name_shown m w s sc u linked inside same) ∙ ap (λ args. js_meaning.in_order args (js_meaning.call z.place.program z.js_low (function_of_member z.place m)) sc u) (arguments_shown es ∙ ap (all_shown z) e)) (in_order_alike z w w env sc w ts (call_type m.method.result) rs es' (ir_meaning.call z.low (ir_world.member_of z.place.classes m.class m.namespace m.method) None) (js_meaning.call z.place.program z.js_low (function_of_member z.place m)) operands (call_acts m ts w env sc linked fit) w s u (grows-refl w) (grows-refl w) (grows-refl w) same)
+  call_alike m ts rs es es' e linked fit w env s sc u inside operands same = by_equal w env (call_type m.method.result) _ _ _ _ refl (ap (λ o. then_do o (js.with_value (λ f. js_meaning.in_order (js_meaning.arguments z.place.program z.js_low (expression_templates z.place.name z.place.label (usable z).lookup (expressions_of es))) (js_meaning.call z.place.program z.js_low f) sc))) (name_shown m w s sc u linked inside same) ∙ ap (λ args. js_meaning.in_order args (js_meaning.call z.place.program z.js_low (function_of_member z.place m)) sc u) (arguments_shown es ∙ ap (all_shown z) e)) (in_order_alike z w w env sc w ts (call_type m.method.result) rs es' (ir_meaning.call z.low (ir_world.member_of z.place.classes m.class m.namespace m.method) None) (js_meaning.call z.place.program z.js_low (function_of_member z.place m)) operands (call_acts m ts w env sc linked fit) w s u (grows-refl w) (grows-refl w) (grows-refl w) same)
 
   pub unary_alike : (o : UnaryOp) (own : IrType) (r : ir.Run) (e : core.Expression) → Fits (unary_operand o) own → (w : World) (env : ir.Env) (s : ir.State) (sc : js.Scope) (u : js.State) → OperandsAlike z w env sc (own ∷ []) (r ∷ []) (e ∷ []) → SameState z.place w s u → Sim z.direction (Valued z.place w env (unary_result o)) (ir_meaning.in_order (r ∷ []) (ir_meaning.unary z.place.classes z.low o) env s) (shown z (core.unary_of o e) sc u)
-  unary_alike o own r e fit w env s sc u operand same = by_equal w env (unary_result o) _ _ _ _ refl (unary_shown z.place.program z.js_low (expression_template z.place.name z.place.label (usable z).target e) sc u o) (in_order_alike z w w env sc w (own ∷ []) (unary_result o) (r ∷ []) (e ∷ []) (ir_meaning.unary z.place.classes z.low o) (by_one_value (one_template_value o)) operand (unary_acts z w env sc o own fit) w s u (grows-refl w) (grows-refl w) (grows-refl w) same)
+  unary_alike o own r e fit w env s sc u operand same = by_equal w env (unary_result o) _ _ _ _ refl (unary_shown z.place.program z.js_low (expression_template z.place.name z.place.label (usable z).lookup e) sc u o) (in_order_alike z w w env sc w (own ∷ []) (unary_result o) (r ∷ []) (e ∷ []) (ir_meaning.unary z.place.classes z.low o) (by_one_value (one_template_value o)) operand (unary_acts z w env sc o own fit) w s u (grows-refl w) (grows-refl w) (grows-refl w) same)
 
   -- an operator whose template takes the operands' values as they are
   direct_alike : (o : BinaryOp) (left right : IrType) (r q : ir.Run) (e d : core.Expression) → is_direct o ≡ true → Fits (left_operand o) left → Fits (right_operand o) right → (w : World) (env : ir.Env) (s : ir.State) (sc : js.Scope) (u : js.State) → OperandsAlike z w env sc (left ∷ right ∷ []) (r ∷ q ∷ []) (e ∷ d ∷ []) → SameState z.place w s u → Sim z.direction (Valued z.place w env (binary_result o)) (ir_meaning.in_order (r ∷ q ∷ []) (ir_meaning.binary z.place.classes z.low o) env s) (shown z (core.binary_of o e d) sc u)
-  direct_alike o left right r q e d direct f g w env s sc u operands same = by_equal w env (binary_result o) _ _ _ _ refl (binary_shown z.place.program z.js_low (is_nonzero_literal d) (expression_template z.place.name z.place.label (usable z).target e) (expression_template z.place.name z.place.label (usable z).target d) (not_ratio operands) sc u o direct) (in_order_alike z w w env sc w (left ∷ right ∷ []) (binary_result o) (r ∷ q ∷ []) (e ∷ d ∷ []) (ir_meaning.binary z.place.classes z.low o) (by_value (template_value o)) operands (binary_acts z w env sc o left right direct) w s u (grows-refl w) (grows-refl w) (grows-refl w) same)
+  direct_alike o left right r q e d direct f g w env s sc u operands same = by_equal w env (binary_result o) _ _ _ _ refl (binary_shown z.place.program z.js_low (is_nonzero_literal d) (expression_template z.place.name z.place.label (usable z).lookup e) (expression_template z.place.name z.place.label (usable z).lookup d) (not_ratio operands) sc u o direct) (in_order_alike z w w env sc w (left ∷ right ∷ []) (binary_result o) (r ∷ q ∷ []) (e ∷ d ∷ []) (ir_meaning.binary z.place.classes z.low o) (by_value (template_value o)) operands (binary_acts z w env sc o left right direct) w s u (grows-refl w) (grows-refl w) (grows-refl w) same)
     where
-      not_ratio : OperandsAlike z w env sc (left ∷ right ∷ []) (r ∷ q ∷ []) (e ∷ d ∷ []) → js_meaning.over_zero (expression_template z.place.name z.place.label (usable z).target d) (js_meaning.ratio_of z.place.program z.js_low (expression_template z.place.name z.place.label (usable z).target e)) ≡ None
-      not_ratio (more_operands _ _ _ _ _ _ h one (more_operands _ _ _ _ _ _ k other no_operands)) = no_ratio z.place.program z.js_low o direct left right (expression_template z.place.name z.place.label (usable z).target e) (expression_template z.place.name z.place.label (usable z).target d) f g h k
+      not_ratio : OperandsAlike z w env sc (left ∷ right ∷ []) (r ∷ q ∷ []) (e ∷ d ∷ []) → js_meaning.over_zero (expression_template z.place.name z.place.label (usable z).lookup d) (js_meaning.ratio_of z.place.program z.js_low (expression_template z.place.name z.place.label (usable z).lookup e)) ≡ None
+      not_ratio (more_operands _ _ _ _ _ _ h one (more_operands _ _ _ _ _ _ k other no_operands)) = no_ratio z.place.program z.js_low o direct left right (expression_template z.place.name z.place.label (usable z).lookup e) (expression_template z.place.name z.place.label (usable z).lookup d) f g h k
 
   abbrev TwoAlike : BinaryOp → IrType → IrType → core.Expression → core.Expression → ir.Run → ir.Run → core.Expression → World → ir.Env → ir.State → js.Scope → js.State → Type 0
   TwoAlike o left right e d r q made w env s sc u = OperandsAlike z w env sc (left ∷ right ∷ []) (r ∷ q ∷ []) (e ∷ d ∷ []) → SameState z.place w s u → Sim z.direction (Valued z.place w env (binary_result o)) (ir_meaning.in_order (r ∷ q ∷ []) (ir_meaning.binary z.place.classes z.low o) env s) (shown z made sc u)
@@ -183,7 +186,7 @@ module _ (z : Setting) (lawful : Lawful z) (scope : Scope) where
   binary_alike _ _ _ r q e d (compared o left right i has f g) w env s sc u inside operands same = compared_alike z lawful o i has left right f g r q e d w env s sc u inside operands same
 
   abbrev text_of_tree : Term → tree.Expression
-  text_of_tree t = expression_template z.place.name z.place.label (usable z).target (expression_of z.code.sure t)
+  text_of_tree t = expression_template z.place.name z.place.label (usable z).lookup (expression_of z.code.sure t)
 
   -- what the text of a plain tree tells of its type
   not_long : (o : UnaryOp) (own : IrType) → is_widening o ≡ true → Fits (unary_operand o) own → may_be_long own ≡ false
@@ -276,7 +279,7 @@ module _ (z : Setting) (lawful : Lawful z) (scope : Scope) where
   division_tree : (p : Position) (o : BinaryOp) (e d : Term) → DividesBy o d → Fits (left_operand o) (type_of_term e) → TreeAlike e → TreeAlike (binary_op p o e d)
   division_tree p o e d by fit h = record {
     alike = λ w env s sc u sees same. by_equal w env (binary_result o) _ _ _ _ (dividend_alone z o d by (ir_meaning.step z.place.classes z.low e) env s) (λ i. shown z (division_same o d by (type_of_term e) (type_of_term d) (expression_of z.code.sure e) (expression_of z.code.sure d) i) sc u) (division_alike z o d by (type_of_term e) fit (ir_meaning.step z.place.classes z.low e) (expression_of z.code.sure e) w env s sc u (with_tree e h w env sc sees [] [] [] no_operands) same);
-    told = subst (λ x. tells (binary_result o) (expression_template z.place.name z.place.label (usable z).target x) ≡ true) (sym (division_same o d by (type_of_term e) (type_of_term d) (expression_of z.code.sure e) (expression_of z.code.sure d))) (division_tells o d by (text_of_tree e));
+    told = subst (λ x. tells (binary_result o) (expression_template z.place.name z.place.label (usable z).lookup x) ≡ true) (sym (division_same o d by (type_of_term e) (type_of_term d) (expression_of z.code.sure e) (expression_of z.code.sure d))) (division_tells o d by (text_of_tree e));
   }
 
   -- arguments as they are coerced
@@ -361,7 +364,7 @@ module _ (z : Setting) (lawful : Lawful z) (scope : Scope) where
 
     receive_tree : (p : Position) (e : Term) (c : List ℕ) (n : Namespace) (m : MethodName) (ts : Terms) (t : IrType) → Received z.place.classes (usable z) (may_check (usable z) scene.sure) e c n m ts → Kept (apply_statically p e c n m ts t) → TreeAlike e → RowAlike ts → TreeAlike (apply_statically p e c n m ts t)
     receive_tree p e c n m ts t its h one operands = record {
-      alike = λ w env s sc u sees same. by_equal w env t _ _ _ _ refl (λ i. shown z (core.receiver_call (member c n m) (receiver-coerced c (type_of_term e) (received_text (is_sure z.code.sure e) (expression_of z.code.sure e)) i) (expressions_of (coerced_arguments m.params (types_of ts) (all_expressions z.code.sure ts)))) sc u) (subst (λ k. Sim z.direction (Valued z.place w env k) (ir_meaning.step z.place.classes z.low (apply_statically p e c n m ts t) env s) (shown z (core.receiver_call (member c n m) (coerced (class_type c) (type_of_term e) (received_text (is_sure z.code.sure e) (expression_of z.code.sure e))) (expressions_of (coerced_arguments m.params (types_of ts) (all_expressions z.code.sure ts)))) sc u)) (sym h.0.meets.1) (received_call_alike z lawful.base (member c n m) (stood (class_type c) (type_of_term e) on.0) (all_stood (types_referred m.params) (types_of ts) fit.0) (ir_meaning.receiving z.place.classes (is_sure env.sure e) z.low (ir_meaning.step z.place.classes z.low e)) (ir_meaning.operands z.place.classes z.low ts) (coerced (class_type c) (type_of_term e) (received_text (is_sure z.code.sure e) (expression_of z.code.sure e))) (coerced_arguments m.params (types_of ts) (all_expressions z.code.sure ts)) its.there (stood-fits (class_type c) (type_of_term e) on.0) (all-stood-fit (types_referred m.params) (types_of ts) fit.0) w env s sc u sees.inside (in_front _ _ _ w env sc _ _ _ (receiver_stood c (type_of_term e) on _ _ w env sc sees.inside (receiver_alike e one its.may_be w env sc sees)) (passed m.params ts fit w env sc sees.inside (operands w env sc sees))) same));
+      alike = λ w env s sc u sees same. by_equal w env t _ _ _ _ refl (λ i. shown z (core.receiver_call (callees.Member (member c n m)) (receiver-coerced c (type_of_term e) (received_text (is_sure z.code.sure e) (expression_of z.code.sure e)) i) (expressions_of (coerced_arguments m.params (types_of ts) (all_expressions z.code.sure ts)))) sc u) (subst (λ k. Sim z.direction (Valued z.place w env k) (ir_meaning.step z.place.classes z.low (apply_statically p e c n m ts t) env s) (shown z (core.receiver_call (callees.Member (member c n m)) (coerced (class_type c) (type_of_term e) (received_text (is_sure z.code.sure e) (expression_of z.code.sure e))) (expressions_of (coerced_arguments m.params (types_of ts) (all_expressions z.code.sure ts)))) sc u)) (sym h.0.meets.1) (received_call_alike z lawful.base (member c n m) (stood (class_type c) (type_of_term e) on.0) (all_stood (types_referred m.params) (types_of ts) fit.0) (ir_meaning.receiving z.place.classes (is_sure env.sure e) z.low (ir_meaning.step z.place.classes z.low e)) (ir_meaning.operands z.place.classes z.low ts) (coerced (class_type c) (type_of_term e) (received_text (is_sure z.code.sure e) (expression_of z.code.sure e))) (coerced_arguments m.params (types_of ts) (all_expressions z.code.sure ts)) its.there (stood-fits (class_type c) (type_of_term e) on.0) (all-stood-fit (types_referred m.params) (types_of ts) fit.0) w env s sc u sees.inside (in_front _ _ _ w env sc _ _ _ (receiver_stood c (type_of_term e) on _ _ w env sc sees.inside (receiver_alike e one its.may_be w env sc sees)) (passed m.params ts fit w env sc sees.inside (operands w env sc sees))) same));
       told = refl;
     }
       where
@@ -419,6 +422,19 @@ module _ (z : Setting) (lawful : Lawful z) (scope : Scope) where
     receiving_tree p e c Constructor m ts t h may v one others = absurd v
     receiving_tree p e c n m ts t h may v one others = impossible h.0.built
 
+    -- a call that is looked up, on a receiver of a hijacked class: what the member does that this class runs, and its text
+    applied_tree : (p : Position) (e : Term) (m : MethodName) (ts : Terms) (t : IrType) → (d : Direct z.place.classes (usable z) scene p e m ts t) → TreeAlike (apply_statically p e d.is.direct.class Public m ts t) → TreeAlike (apply p e m ts t)
+    applied_tree p e m ts t d one = record {
+      alike = λ w env s sc u sees same. by_equal w env t _ _ _ _ (λ i. ir_meaning.in_order (ir_meaning.receiving z.place.classes (is_sure env.sure e) z.low (ir_meaning.step z.place.classes z.low e) ∷ ir_meaning.operands z.place.classes z.low ts) (runs i) env s) (λ i. shown z (written i) sc u) (one.alike w env s sc u sees same);
+      told = subst (λ x. tells t (expression_template z.place.name z.place.label (usable z).lookup x) ≡ true) (sym written) one.told;
+    }
+      where
+        runs : ir_meaning.call_method z.place.classes z.low (type_of_term e) m m.result ≡ ir_meaning.call_on z.place.classes z.low (ir_meaning.static_target z.place.classes d.is.direct.class Public m)
+        runs = hijacked_call z.place.classes z.low (type_of_term e) m d.is.direct.class d.is.direct.receiver d.is.direct.hijacked d.is.result d.is.named
+
+        written : expression_of z.code.sure (apply p e m ts t) ≡ expression_of z.code.sure (apply_statically p e d.is.direct.class Public m ts t)
+        written = ap (λ k. core.receiver_call k (coerced_receiver (type_of_term e) (received_text (is_sure z.code.sure e) (expression_of z.code.sure e))) (expressions_of (coerced_arguments m.params (types_of ts) (all_expressions z.code.sure ts)))) d.is.callee
+
     mutual
       -- both directions at once: what a plain tree comes to, its expression comes to
       tree_alike : (t : Term) → Kept t → Makes (boxes_as_text t) → is_plain t ≡ true → IsNoConstruction t → TreeAlike t
@@ -438,6 +454,12 @@ module _ (z : Setting) (lawful : Lawful z) (scope : Scope) where
           let parts = each_made (usable z) (is_boxed Any e || any_is_boxed m.params ts) (boxes_as_text e || any_boxes_as_text ts) boxed in
           let operands = each_made (usable z) (boxes_as_text e) (any_boxes_as_text ts) parts.1 in
           receiving_tree p e c n m ts t h parts.0 v (tree_alike e h.1 operands.0 x.0 (value_apart z.place.classes (usable z) scene e h.1 (value_below z.place.classes law (type_of_term e) (class_type c) h.0.meets.2 (class_value c)))) (trees_alike ts m.params h.2 operands.1 x.1)
+      tree_alike (apply p e m ts t) h boxed k v =
+          let d = direct z.place.classes (usable z) scene p e m ts t h.0 in
+          let x = and_parts (is_plain e) (are_plain ts) k in
+          let parts = each_made (usable z) (is_boxed Any e || any_is_boxed m.params ts) (boxes_as_text e || any_boxes_as_text ts) boxed in
+          let operands = each_made (usable z) (boxes_as_text e) (any_boxes_as_text ts) parts.1 in
+          applied_tree p e m ts t d (receiving_tree p e d.is.direct.class Public m ts t (d.here, h.1, h.2) parts.0 tt (tree_alike e h.1 operands.0 x.0 (value_apart z.place.classes (usable z) scene e h.1 (value_below z.place.classes law (type_of_term e) (class_type d.is.direct.class) (d.is.direct.below z.place.classes) (class_value d.is.direct.class)))) (trees_alike ts m.params h.2 operands.1 x.1))
       tree_alike (select_static p c f t) h boxed k v = record { alike = λ w env s sc u sees same. static_alike z lawful.base c f t h.built w env s sc u sees.inside same; told = refl }
       tree_alike (this_ref p t) h boxed k v = this_tree p t h
       tree_alike (apply_static p c n m ts t) h boxed k v = let parts = each_made (usable z) (any_is_boxed m.params ts) (any_boxes_as_text ts) boxed in call_tree p c n m ts t h parts.0 (trees_alike ts m.params h.1 parts.1 k (arguments_there z.place.classes (usable z) ts m.params parts.0 h.0.finds h.0.meets.2))

@@ -54,13 +54,13 @@ value_apart w has s (apply_statically p e c n m ts t) h v = by n h
 value_apart w has s _ h v = tt
 
 pub record Received (w : Classes) (has : Usable) (checked : Term → Bool) (e : Term) (c : List ℕ) (n : Namespace) (m : MethodName) (ts : Terms) : Type 0 where
-  pub there : has.received (called_member has.target n (member c n m)) ≡ true
+  pub there : has.received (called_member has.lookup n (member c n m)) ≡ true
   pub may_be : checked e ≡ true
   pub below : IsSub w (type_of_term e) (class_type c)
   pub stands : MayStand has (class_type c) (type_of_term e)
   pub arguments : ArgumentsFit w has ts m.params
 
-pub received : (w : Classes) (has : Usable) (checked : Term → Bool) (e : Term) (c : List ℕ) (n : Namespace) (m : MethodName) (ts : Terms) → (has.received (called_member has.target n (member c n m)) && checked e) ≡ true → may_make has (is_boxed Any e || any_is_boxed m.params ts) ≡ true → AllHaveValues m.params → rules.Fits w e (class_type c) → rules.ArgumentsFit w ts m.params → Received w has checked e c n m ts
+pub received : (w : Classes) (has : Usable) (checked : Term → Bool) (e : Term) (c : List ℕ) (n : Namespace) (m : MethodName) (ts : Terms) → (has.received (called_member has.lookup n (member c n m)) && checked e) ≡ true → may_make has (is_boxed Any e || any_is_boxed m.params ts) ≡ true → AllHaveValues m.params → rules.Fits w e (class_type c) → rules.ArgumentsFit w ts m.params → Received w has checked e c n m ts
 received w has checked e c n m ts built boxed values on fits = record {
   there = its.0;
   may_be = its.1;
@@ -69,8 +69,8 @@ received w has checked e c n m ts built boxed values on fits = record {
   arguments = arguments_there w has ts m.params may.1 values fits;
 }
   where
-    its : (has.received (called_member has.target n (member c n m)) ≡ true) × (checked e ≡ true)
-    its = and_parts (has.received (called_member has.target n (member c n m))) (checked e) built
+    its : (has.received (called_member has.lookup n (member c n m)) ≡ true) × (checked e ≡ true)
+    its = and_parts (has.received (called_member has.lookup n (member c n m))) (checked e) built
 
     may : (may_make has (is_boxed Any e) ≡ true) × (may_make has (any_is_boxed m.params ts) ≡ true)
     may = each_made has (is_boxed Any e) (any_is_boxed m.params ts) boxed

@@ -8,6 +8,7 @@ use Rattle.ir_mean.specs.States as ir
 use Rattle.ir_mean.specs.World as ir_world
 use Rattle.js_mean.specs.Meaning as js_meaning
 use Rattle.js_mean.specs.States as js
+use Rattle.sj_core.specs.declared.callees.Callee.TheVariants as callees
 use Rattle.sj_core.specs.Terms as core
 use Rattle.sj_core.specs.Views.{expressions_of}
 use Rattle.sj_desugar.specs.Coercions.{is_char}
@@ -62,11 +63,11 @@ module _ (z : Setting) (law : Based z) where
       by _ _ (same_reference i a e) k = goes _ _ (record { stands = k; there = λ e. cc })
 
   -- a call of a constructor on a receiver
-  pub constructor_runs : (d : List ℕ) (name : MethodName) (own : IrType) (ts : List IrType) (r : ir.Run) (rs : List ir.Run) (e : core.Expression) (es : List core.Expression) → (usable z).built (member d Constructor name) ≡ true → Fits (class_type (member d Constructor name).class) own → FitAll (types_referred (member d Constructor name).method.params) ts → (w : World) (env : ir.Env) (s : ir.State) (sc : js.Scope) (u : js.State) → Inside z.place z.code sc → OperandsAlike z w env sc (own ∷ ts) (r ∷ rs) (e ∷ es) → SameState z.place w s u → Sim z.direction (Ran z.place w env) (ir_meaning.in_order (r ∷ rs) (ir_meaning.call_on z.place.classes z.low (ir_world.member_of z.place.classes (member d Constructor name).class (member d Constructor name).namespace (member d Constructor name).method)) env s) (shown z (core.receiver_call (member d Constructor name) e (expressions_of es)) sc u)
+  pub constructor_runs : (d : List ℕ) (name : MethodName) (own : IrType) (ts : List IrType) (r : ir.Run) (rs : List ir.Run) (e : core.Expression) (es : List core.Expression) → (usable z).built (member d Constructor name) ≡ true → Fits (class_type (member d Constructor name).class) own → FitAll (types_referred (member d Constructor name).method.params) ts → (w : World) (env : ir.Env) (s : ir.State) (sc : js.Scope) (u : js.State) → Inside z.place z.code sc → OperandsAlike z w env sc (own ∷ ts) (r ∷ rs) (e ∷ es) → SameState z.place w s u → Sim z.direction (Ran z.place w env) (ir_meaning.in_order (r ∷ rs) (ir_meaning.call_on z.place.classes z.low (ir_world.member_of z.place.classes (member d Constructor name).class (member d Constructor name).namespace (member d Constructor name).method)) env s) (shown z (core.receiver_call (callees.Member (member d Constructor name)) e (expressions_of es)) sc u)
   constructor_runs d name own ts r rs e es there f fit w env s sc u inside operands same = subst (λ q. Sim z.direction (Ran z.place w env) (ir_meaning.in_order (r ∷ rs) (ir_meaning.call_on z.place.classes z.low (ir_world.member_of z.place.classes (member d Constructor name).class (member d Constructor name).namespace (member d Constructor name).method)) env s) q) (sym js_is) (in_order_runs z w w env sc w (own ∷ ts) (r ∷ rs) (e ∷ es) (ir_meaning.call_on z.place.classes z.low (ir_world.member_of z.place.classes (member d Constructor name).class (member d Constructor name).namespace (member d Constructor name).method)) (js_meaning.call z.place.program z.js_low fun) operands (construct_acts (member d Constructor name) own ts w env sc there f fit) w s u (grows-refl w) (grows-refl w) (grows-refl w) same)
     where
       fun : js.Value
       fun = top_function z.place (a_constructor (member d Constructor name))
 
-      js_is : shown z (core.receiver_call (member d Constructor name) e (expressions_of es)) sc u ≡ js_meaning.in_order (all_shown z (e ∷ es)) (js_meaning.call z.place.program z.js_low fun) sc u
-      js_is = ap (λ o. then_do o (js.with_value (λ g. js_meaning.in_order (shown z e ∷ js_meaning.arguments z.place.program z.js_low (expression_templates z.place.name z.place.label (usable z).target (expressions_of es))) (js_meaning.call z.place.program z.js_low g) sc))) (top_seen z law (a_constructor (member d Constructor name)) fun sc u there inside (same.tops z.code.file (a_constructor (member d Constructor name)) there)) ∙ ap (λ args. js_meaning.in_order (shown z e ∷ args) (js_meaning.call z.place.program z.js_low fun) sc u) (row_shown z es)
+      js_is : shown z (core.receiver_call (callees.Member (member d Constructor name)) e (expressions_of es)) sc u ≡ js_meaning.in_order (all_shown z (e ∷ es)) (js_meaning.call z.place.program z.js_low fun) sc u
+      js_is = ap (λ o. then_do o (js.with_value (λ g. js_meaning.in_order (shown z e ∷ js_meaning.arguments z.place.program z.js_low (expression_templates z.place.name z.place.label (usable z).lookup (expressions_of es))) (js_meaning.call z.place.program z.js_low g) sc))) (top_seen z law (a_constructor (member d Constructor name)) fun sc u there inside (same.tops z.code.file (a_constructor (member d Constructor name)) there)) ∙ ap (λ args. js_meaning.in_order (shown z e ∷ args) (js_meaning.call z.place.program z.js_low fun) sc u) (row_shown z es)

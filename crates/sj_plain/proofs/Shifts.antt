@@ -201,7 +201,7 @@ module _ (z : Setting) where
         by v v' = wrapped_value (js_operators.binary_value Op.ShiftLeft v v')
 
         shape : shown z (core.binary_of LongShiftLeft e d) sc u ≡ js_meaning.in_order (converted Some (shown z e) ∷ converted count_value (shown z d) ∷ []) (by_value by) sc u
-        shape = wrapped_shown z.place.program z.js_low (tree.binary_of (expression_template z.place.name z.place.label (usable z).target e) Op.ShiftLeft (places (expression_template z.place.name z.place.label (usable z).target d))) (converted Some (shown z e) ∷ converted count_value (shown z d) ∷ []) (js_operators.binary_value Op.ShiftLeft) sc u (in_order-converted Some count_value (shown z e) (shown z d) (shown z e) (js_meaning.evaluate z.place.program z.js_low (places (expression_template z.place.name z.place.label (usable z).target d))) (js_meaning.binary Op.ShiftLeft) (by_value (js_operators.binary_value Op.ShiftLeft)) (itself_shown (shown z e)) (count_shown (expression_template z.place.name z.place.label (usable z).target d)) (binary-act Op.ShiftLeft) sc u)
+        shape = wrapped_shown z.place.program z.js_low (tree.binary_of (expression_template z.place.name z.place.label (usable z).lookup e) Op.ShiftLeft (places (expression_template z.place.name z.place.label (usable z).lookup d))) (converted Some (shown z e) ∷ converted count_value (shown z d) ∷ []) (js_operators.binary_value Op.ShiftLeft) sc u (in_order-converted Some count_value (shown z e) (shown z d) (shown z e) (js_meaning.evaluate z.place.program z.js_low (places (expression_template z.place.name z.place.label (usable z).lookup d))) (js_meaning.binary Op.ShiftLeft) (by_value (js_operators.binary_value Op.ShiftLeft)) (itself_shown (shown z e)) (count_shown (expression_template z.place.name z.place.label (usable z).lookup d)) (binary-act Op.ShiftLeft) sc u)
 
         given : (y : World) (v v' : ir.Value) (x x' : js.Value) → IsLong y v x → IsInt y v' x' → GivenIf y Long (ir_operators.binary_value LongShiftLeft v v') (by (itself_of v) (count_of v'))
         given y _ _ _ _ (a_long a f) (an_int b g) = long_given y (longs.shifted_left a b) _ (ap (λ o. wrapped_value (js_operators.big o)) (on_longs.left_shift-is a b f) ∙ ap (λ n. Some (js.big_int n)) (on_longs.cut-is (a *ℤ pos (2 ^ longs.places b)))) (on_longs.wrapped-fits (a *ℤ pos (2 ^ longs.places b)))
@@ -210,7 +210,7 @@ module _ (z : Setting) where
     right_shift_alike l i = subst (λ o. Sim z.direction (Valued z.place w env Long) (ir_meaning.in_order (r ∷ q ∷ []) (ir_meaning.binary z.place.classes z.low LongShiftRightArithmetic) env s) o) (sym shape) (shift_by LongShiftRightArithmetic Some itself_of (js_operators.binary_value Op.ShiftRight) l i itself_here given)
       where
         shape : shown z (core.binary_of LongShiftRightArithmetic e d) sc u ≡ js_meaning.in_order (converted Some (shown z e) ∷ converted count_value (shown z d) ∷ []) (by_value (js_operators.binary_value Op.ShiftRight)) sc u
-        shape = in_order-converted Some count_value (shown z e) (shown z d) (shown z e) (js_meaning.evaluate z.place.program z.js_low (places (expression_template z.place.name z.place.label (usable z).target d))) (js_meaning.binary Op.ShiftRight) (by_value (js_operators.binary_value Op.ShiftRight)) (itself_shown (shown z e)) (count_shown (expression_template z.place.name z.place.label (usable z).target d)) (binary-act Op.ShiftRight) sc u
+        shape = in_order-converted Some count_value (shown z e) (shown z d) (shown z e) (js_meaning.evaluate z.place.program z.js_low (places (expression_template z.place.name z.place.label (usable z).lookup d))) (js_meaning.binary Op.ShiftRight) (by_value (js_operators.binary_value Op.ShiftRight)) (itself_shown (shown z e)) (count_shown (expression_template z.place.name z.place.label (usable z).lookup d)) (binary-act Op.ShiftRight) sc u
 
         given : (y : World) (v v' : ir.Value) (x x' : js.Value) → IsLong y v x → IsInt y v' x' → GivenIf y Long (ir_operators.binary_value LongShiftRightArithmetic v v') (js_operators.binary_value Op.ShiftRight (itself_of v) (count_of v'))
         given y _ _ _ _ (a_long a f) (an_int b g) = long_given y (longs.shifted_right a b) _ (ap js_operators.big (on_longs.right_shift-is a b)) (on_longs.shifted_right-fits a b f)
@@ -225,7 +225,7 @@ module _ (z : Setting) where
         by v v' = wrapped_value (js_operators.binary_value Op.ShiftRight v v')
 
         shape : shown z (core.binary_of LongShiftRightLogical e d) sc u ≡ js_meaning.in_order (converted unsigned (shown z e) ∷ converted count_value (shown z d) ∷ []) (by_value by) sc u
-        shape = wrapped_shown z.place.program z.js_low (tree.binary_of (tree.host_call_of_two BigIntAsUintN (tree.number_literal (pos 64)) (expression_template z.place.name z.place.label (usable z).target e)) Op.ShiftRight (places (expression_template z.place.name z.place.label (usable z).target d))) (converted unsigned (shown z e) ∷ converted count_value (shown z d) ∷ []) (js_operators.binary_value Op.ShiftRight) sc u (in_order-converted unsigned count_value (shown z e) (shown z d) (js_meaning.evaluate z.place.program z.js_low (tree.host_call_of_two BigIntAsUintN (tree.number_literal (pos 64)) (expression_template z.place.name z.place.label (usable z).target e))) (js_meaning.evaluate z.place.program z.js_low (places (expression_template z.place.name z.place.label (usable z).target d))) (js_meaning.binary Op.ShiftRight) (by_value (js_operators.binary_value Op.ShiftRight)) (λ sc u. refl) (count_shown (expression_template z.place.name z.place.label (usable z).target d)) (binary-act Op.ShiftRight) sc u)
+        shape = wrapped_shown z.place.program z.js_low (tree.binary_of (tree.host_call_of_two BigIntAsUintN (tree.number_literal (pos 64)) (expression_template z.place.name z.place.label (usable z).lookup e)) Op.ShiftRight (places (expression_template z.place.name z.place.label (usable z).lookup d))) (converted unsigned (shown z e) ∷ converted count_value (shown z d) ∷ []) (js_operators.binary_value Op.ShiftRight) sc u (in_order-converted unsigned count_value (shown z e) (shown z d) (js_meaning.evaluate z.place.program z.js_low (tree.host_call_of_two BigIntAsUintN (tree.number_literal (pos 64)) (expression_template z.place.name z.place.label (usable z).lookup e))) (js_meaning.evaluate z.place.program z.js_low (places (expression_template z.place.name z.place.label (usable z).lookup d))) (js_meaning.binary Op.ShiftRight) (by_value (js_operators.binary_value Op.ShiftRight)) (λ sc u. refl) (count_shown (expression_template z.place.name z.place.label (usable z).lookup d)) (binary-act Op.ShiftRight) sc u)
 
         given : (y : World) (v v' : ir.Value) (x x' : js.Value) → IsLong y v x → IsInt y v' x' → GivenIf y Long (ir_operators.binary_value LongShiftRightLogical v v') (by (unsigned_of v) (count_of v'))
         given y _ _ _ _ (a_long a f) (an_int b g) = long_given y (longs.shifted_right_with_zeros a b) _ (ap (λ o. wrapped_value (js_operators.big o)) (on_longs.right_shift-is (pos (cast_unsigned w64 a)) b) ∙ ap (λ n. Some (js.big_int n)) (on_longs.zero_shift-is a b f)) (on_longs.zero_shift-fits a b f)

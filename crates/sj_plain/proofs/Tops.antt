@@ -10,7 +10,7 @@ use Rattle.sj_emit_expr.specs.Templates.{expression_templates}
 use Rattle.sj_plain.specs.Settings.{Setting, shown, Based, Inside, Top, top_name, is_named, usable}
 use Rattle.sj_plain.proofs.Orders.{all_shown}
 
-pub row_shown : (z : Setting) (es : List core.Expression) → js_meaning.arguments z.place.program z.js_low (expression_templates z.place.name z.place.label (usable z).target (expressions_of es)) ≡ all_shown z es
+pub row_shown : (z : Setting) (es : List core.Expression) → js_meaning.arguments z.place.program z.js_low (expression_templates z.place.name z.place.label (usable z).lookup (expressions_of es)) ≡ all_shown z es
 row_shown z [] = refl
 row_shown z (e ∷ es) = ap (λ rest. shown z e ∷ rest) (row_shown z es)
 

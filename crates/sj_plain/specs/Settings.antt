@@ -139,10 +139,10 @@ usable z = z.place.has z.code.file
 
 -- the statements and expressions of this setting
 abbrev pub shown : Setting → core.Expression → js.Evaluation
-shown z e = js_meaning.evaluate z.place.program z.js_low (expression_template z.place.name z.place.label (usable z).target e)
+shown z e = js_meaning.evaluate z.place.program z.js_low (expression_template z.place.name z.place.label (usable z).lookup e)
 
 abbrev pub run : Setting → core.Statements → js.Execution
-run z ss = js_meaning.execute_all z.place.program z.js_low (statement_templates z.place.name z.place.label (usable z).target ss)
+run z ss = js_meaning.execute_all z.place.program z.js_low (statement_templates z.place.name z.place.label (usable z).lookup ss)
 
 -- the class has an instance field of this name and type
 pub record IsField (classes : ir_world.World) (c f : List ℕ) (t : IrType) : Type 0 where
@@ -315,7 +315,7 @@ BuildsAlike z m = (w : World) (v : ir.Value) (x : js.Value) (vs : List ir.Value)
 
 -- a member on a receiver, as a call in its class finds it, and the function of its target
 abbrev pub ReceivesAlike : Setting → Member → Type 0
-ReceivesAlike z m = (w : World) (v : ir.Value) (x : js.Value) (vs : List ir.Value) (xs : List js.Value) (env : ir.Env) (s : ir.State) (u : js.State) → IsReceiver w m.class v x → SameValues w (types_referred m.method.params) vs xs → SameState z.place w s u → Sim z.direction (Valued z.place w env (call_type m.method.result)) (ir_meaning.call z.low (ir_meaning.static_target z.place.classes m.class m.namespace m.method) (Some v) vs env s) (top_call z.place z.js_low (a_method (called_member (usable z).target m.namespace m)) (x ∷ xs) u)
+ReceivesAlike z m = (w : World) (v : ir.Value) (x : js.Value) (vs : List ir.Value) (xs : List js.Value) (env : ir.Env) (s : ir.State) (u : js.State) → IsReceiver w m.class v x → SameValues w (types_referred m.method.params) vs xs → SameState z.place w s u → Sim z.direction (Valued z.place w env (call_type m.method.result)) (ir_meaning.call z.low (ir_meaning.static_target z.place.classes m.class m.namespace m.method) (Some v) vs env s) (top_call z.place z.js_low (a_method (called_member (usable z).lookup m.namespace m)) (x ∷ xs) u)
 
 -- an assignment to a static field of this type, and a call of the function that sets its variable
 abbrev pub SetsAlike : Setting → List ℕ → List ℕ → IrType → Type 0
@@ -352,7 +352,7 @@ pub record Based (z : Setting) : Type 0 where
   pub statics : (c f : List ℕ) (t : IrType) → has_static (usable z) c f t ≡ true → HasStatic z.place c f t
   pub sets : (c f : List ℕ) (t : IrType) → (usable z).static_setter c f t ≡ true → SetsAlike z c f t
   pub calls : (m : Member) → (usable z).linked m ≡ true → CallsAlike z m
-  pub receives : (m : Member) → (usable z).received (called_member (usable z).target m.namespace m) ≡ true → ReceivesAlike z m
+  pub receives : (m : Member) → (usable z).received (called_member (usable z).lookup m.namespace m) ≡ true → ReceivesAlike z m
   pub builds : (m : Member) → (usable z).built m ≡ true → BuildsAlike z m
   pub makes : (c : List ℕ) → (usable z).made c ≡ true → MakesAlike z c
   pub objects : (c : List ℕ) → (usable z).made c ≡ true → is_hijacked c ≡ false

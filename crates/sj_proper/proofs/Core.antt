@@ -1,5 +1,6 @@
 -- Statements of the core that have no early error, and their templates.
 use Rattle.std.proofs.Common.{◌≡◌, ℕ, Bool, true, false, ◌&&◌, ◌||◌, not, List, [], ◌∷◌, map, refl, sym, ap, ◌∙◌, subst, inl, inr, ⊎_elim}
+use Rattle.sj_core.specs.Lookup.{Lookup}
 use Rattle.std.specs.Prelude.{nat_eq}
 use Rattle.std.specs.Cmp.Lexicographic.{pointwise}
 use Rattle.js_mean.specs.Proper.{Place, is_among, are_distinct, declared, is_proper, are_proper, are_proper_cases}
@@ -55,16 +56,16 @@ not_is : (b : Bool) → b ≡ false → not b ≡ true
 not_is true h = impossible (sym h)
 not_is false h = refl
 
-module _ (name_of : core.Variable → Name) (label_of : List ℕ → Name) (target : Member → Member) (variables : (x y : core.Variable) → name_of x ≡ name_of y → x ≡ y) (labels : (l m : List ℕ) → label_of l ≡ label_of m → l ≡ m) where
+module _ (name_of : core.Variable → Name) (label_of : List ℕ → Name) (lookup : Lookup) (variables : (x y : core.Variable) → name_of x ≡ name_of y → x ≡ y) (labels : (l m : List ℕ) → label_of l ≡ label_of m → l ≡ m) where
   abbrev templates : core.Statements → tree.Statements
-  templates = statement_templates name_of label_of target
+  templates = statement_templates name_of label_of lookup
 
   pub not_again : (x : core.Variable) (ss : core.Statements) → (Declares ss x → ⊥) → is_among (declared (templates ss)) (name_of x) ≡ false
   not_again x ss h = go (is_among (declared (templates ss)) (name_of x)) refl
     where
       go : (b : Bool) → is_among (declared (templates ss)) (name_of x) ≡ b → is_among (declared (templates ss)) (name_of x) ≡ false
       go false e = e
-      go true e = let n = declared-named name_of label_of target ss (name_of x) e in absurd (h (subst (Declares ss) (variables n.variable x n.name) n.declares))
+      go true e = let n = declared-named name_of label_of lookup ss (name_of x) e in absurd (h (subst (Declares ss) (variables n.variable x n.name) n.declares))
 
   declaring : (x : core.Variable) (ss : core.Statements) → (Declares ss x → ⊥) → are_distinct (declared (templates ss)) ≡ true → (not (is_among (declared (templates ss)) (name_of x)) && are_distinct (declared (templates ss))) ≡ true
   declaring x ss h k = both (not (is_among (declared (templates ss)) (name_of x))) (are_distinct (declared (templates ss))) (not_is (is_among (declared (templates ss)) (name_of x)) (not_again x ss h)) k
@@ -104,7 +105,7 @@ module _ (name_of : core.Variable → Name) (label_of : List ℕ → Name) (targ
       go false e k = k
 
   mutual
-    proper-template : (ls : List (List ℕ)) (b : Bool) (s : core.Statement) → ProperOne ls b s → is_proper (at ls b) (statement_template name_of label_of target s) ≡ true
+    proper-template : (ls : List (List ℕ)) (b : Bool) (s : core.Statement) → ProperOne ls b s → is_proper (at ls b) (statement_template name_of label_of lookup s) ≡ true
     proper-template ls b (core.leave_label p l) h = label_among ls l h
     proper-template ls b (core.break_nearest p) h = h
     proper-template ls b (core.if_of p c ss core.no_statements) h = both (are_distinct (declared (templates ss))) (are_proper (at ls b) (templates ss)) (distinct-templates ss h.0) (proper-templates ls b ss h.1)
@@ -112,13 +113,13 @@ module _ (name_of : core.Variable → Name) (label_of : List ℕ → Name) (targ
     proper-template ls b (core.while_of p c ss) h = both (are_distinct (declared (templates ss))) (are_proper (at ls true) (templates ss)) (distinct-templates ss h.0) (proper-templates ls true ss h.1)
     proper-template ls b (core.loop_of p ss) h = both (are_distinct (declared (templates ss))) (are_proper (at ls true) (templates ss)) (distinct-templates ss h.0) (proper-templates ls true ss h.1)
     proper-template ls b (core.labeled_of p l ss) h = both (not (is_among (map label_of ls) (label_of l)) && are_distinct (declared (templates ss))) (are_proper (at (l ∷ ls) b) (templates ss)) (both (not (is_among (map label_of ls) (label_of l))) (are_distinct (declared (templates ss))) (not_is (is_among (map label_of ls) (label_of l)) (label_new ls l h.0)) (distinct-templates ss h.1)) (proper-templates (l ∷ ls) b ss h.2)
-    proper-template ls b (core.switch_of p e cs ss) h = both (are_proper_cases (at ls true) (case_templates name_of label_of target cs) && are_distinct (declared (templates ss))) (are_proper (at ls true) (templates ss)) (both (are_proper_cases (at ls true) (case_templates name_of label_of target cs)) (are_distinct (declared (templates ss))) (proper-cases ls cs h.0) (distinct-templates ss h.1)) (proper-templates ls true ss h.2)
+    proper-template ls b (core.switch_of p e cs ss) h = both (are_proper_cases (at ls true) (case_templates name_of label_of lookup cs) && are_distinct (declared (templates ss))) (are_proper (at ls true) (templates ss)) (both (are_proper_cases (at ls true) (case_templates name_of label_of lookup cs)) (are_distinct (declared (templates ss))) (proper-cases ls cs h.0) (distinct-templates ss h.1)) (proper-templates ls true ss h.2)
     proper-template ls b _ h = refl
 
     pub proper-templates : (ls : List (List ℕ)) (b : Bool) (ss : core.Statements) → Proper ls b ss → are_proper (at ls b) (templates ss) ≡ true
     proper-templates ls b core.no_statements h = refl
-    proper-templates ls b (core.statement s ss) h = both (is_proper (at ls b) (statement_template name_of label_of target s)) (are_proper (at ls b) (templates ss)) (proper-template ls b s h.0) (proper-templates ls b ss h.1)
+    proper-templates ls b (core.statement s ss) h = both (is_proper (at ls b) (statement_template name_of label_of lookup s)) (are_proper (at ls b) (templates ss)) (proper-template ls b s h.0) (proper-templates ls b ss h.1)
 
-    proper-cases : (ls : List (List ℕ)) (cs : core.Cases) → ProperCases ls cs → are_proper_cases (at ls true) (case_templates name_of label_of target cs) ≡ true
+    proper-cases : (ls : List (List ℕ)) (cs : core.Cases) → ProperCases ls cs → are_proper_cases (at ls true) (case_templates name_of label_of lookup cs) ≡ true
     proper-cases ls core.no_cases h = refl
-    proper-cases ls (core.switch_case ks ss cs) h = both (are_distinct (declared (templates ss)) && are_proper (at ls true) (templates ss)) (are_proper_cases (at ls true) (case_templates name_of label_of target cs)) (both (are_distinct (declared (templates ss))) (are_proper (at ls true) (templates ss)) (distinct-templates ss h.0) (proper-templates ls true ss h.1)) (proper-cases ls cs h.2)
+    proper-cases ls (core.switch_case ks ss cs) h = both (are_distinct (declared (templates ss)) && are_proper (at ls true) (templates ss)) (are_proper_cases (at ls true) (case_templates name_of label_of lookup cs)) (both (are_distinct (declared (templates ss))) (are_proper (at ls true) (templates ss)) (distinct-templates ss h.0) (proper-templates ls true ss h.1)) (proper-cases ls cs h.2)

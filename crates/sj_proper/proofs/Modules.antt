@@ -1,5 +1,6 @@
 -- A module of the functions of methods has no early error.
 use Rattle.std.proofs.Common.{◌≡◌, ℕ, Bool, true, false, ◌&&◌, ◌||◌, not, List, [], ◌∷◌, ◌++◌, None, map, refl, sym, ap, ◌∙◌, inl, inr, ⊎_elim, Contains}
+use Rattle.sj_core.specs.Lookup.{Lookup, own_targets}
 use Rattle.std.specs.Prelude.{nat_eq}
 use Rattle.std.specs.Cmp.Lexicographic.{pointwise}
 use Rattle.std.specs.List.{list_all}
@@ -51,21 +52,21 @@ named-same : (x y : List ℕ) → core.named x ≡ core.named y → x ≡ y
 named-same x y e = cc
 
 -- whatever calls of members on receivers run
-module _ (target : Member → Member) where
+module _ (lookup : Lookup) where
   abbrev declares_names : core.Statements → List Name
-  declares_names ss = declared (statement_templates variable_name label_name target ss)
+  declares_names ss = declared (statement_templates variable_name label_name lookup ss)
 
   no_parameter : (x : List ℕ) (ns : List (List ℕ)) (ss : core.Statements) → (IsAmong ns x → ⊥) → (Declares ss (core.named x) → ⊥) → is_among (parameter_names ns ++ declares_names ss) (variable_name (core.named x)) ≡ false
-  no_parameter x [] ss h k = not_again variable_name label_name target variables-differ labels-differ (core.named x) ss k
+  no_parameter x [] ss h k = not_again variable_name label_name lookup variables-differ labels-differ (core.named x) ss k
   no_parameter x (n ∷ ns) ss h k = neither (pointwise nat_eq (variable_name (core.named x)) (variable_name (core.named n))) (is_among (parameter_names ns ++ declares_names ss) (variable_name (core.named x))) (differs (variable_name (core.named x)) (variable_name (core.named n)) (λ e. h (inl (named-same x n (variables-differ (core.named x) (core.named n) e))))) (no_parameter x ns ss (λ i. h (inr i)) k)
 
   distinct_names : (ns : List (List ℕ)) (ss : core.Statements) → AreDistinct ns → ((x : List ℕ) → IsAmong ns x → Declares ss (core.named x) → ⊥) → Distinct ss → are_distinct (parameter_names ns ++ declares_names ss) ≡ true
-  distinct_names [] ss h k d = distinct-templates variable_name label_name target variables-differ labels-differ ss d
+  distinct_names [] ss h k d = distinct-templates variable_name label_name lookup variables-differ labels-differ ss d
   distinct_names (n ∷ ns) ss h k d = both (not (is_among (parameter_names ns ++ declares_names ss) (variable_name (core.named n)))) (are_distinct (parameter_names ns ++ declares_names ss)) (not_is (is_among (parameter_names ns ++ declares_names ss) (variable_name (core.named n))) (no_parameter n ns ss h.0 (k n (inl refl)))) (distinct_names ns ss h.1 (λ x i. k x (inr i)) d)
 
   -- the function of a method
-  function_proper : (e : EmittedMethod) → DefinesOnce e.definition e.its_body → is_proper_item (piece_of target e.member (desugared e.definition e.its_body)).item ≡ true
-  function_proper e h = both (are_distinct (parameter_names (names_of e.definition.params) ++ declares_names body)) (are_proper (record { labels = []; breakable = false; super_allowed = false }) (statement_templates variable_name label_name target body)) (distinct_names (names_of e.definition.params) body h.parameters (λ x i k. h.fresh x (g.fresh (core.named x) k) (parameter-among e.definition.params x i)) g.distinct) (proper-templates variable_name label_name target variables-differ labels-differ [] false body g.proper)
+  function_proper : (e : EmittedMethod) → DefinesOnce e.definition e.its_body → is_proper_item (piece_of lookup e.member (desugared e.definition e.its_body)).item ≡ true
+  function_proper e h = both (are_distinct (parameter_names (names_of e.definition.params) ++ declares_names body)) (are_proper (record { labels = []; breakable = false; super_allowed = false }) (statement_templates variable_name label_name lookup body)) (distinct_names (names_of e.definition.params) body h.parameters (λ x i k. h.fresh x (g.fresh (core.named x) k) (parameter-among e.definition.params x i)) g.distinct) (proper-templates variable_name label_name lookup variables-differ labels-differ [] false body g.proper)
     where
       body : core.Statements
       body = (desugared e.definition e.its_body).body
@@ -75,7 +76,7 @@ module _ (target : Member → Member) where
 
   -- a name that no local has, in front of the parameters
   no_receiver : (ns : List (List ℕ)) (ss : core.Statements) → (Declares ss core.receiver → ⊥) → is_among (parameter_names ns ++ declares_names ss) (variable_name core.receiver) ≡ false
-  no_receiver [] ss k = not_again variable_name label_name target variables-differ labels-differ core.receiver ss k
+  no_receiver [] ss k = not_again variable_name label_name lookup variables-differ labels-differ core.receiver ss k
   no_receiver (n ∷ ns) ss k = neither (pointwise nat_eq (variable_name core.receiver) (variable_name (core.named n))) (is_among (parameter_names ns ++ declares_names ss) (variable_name core.receiver)) (differs (variable_name core.receiver) (variable_name (core.named n)) (λ e. let no : core.receiver ≡ core.named n = variables-differ core.receiver (core.named n) e in absurd (cc))) (no_receiver ns ss k)
 
   received : (n : Namespace) (ns : List (List ℕ)) (ss : core.Statements) → (Declares ss core.receiver → ⊥) → are_distinct (parameter_names ns ++ declares_names ss) ≡ true → are_distinct (with_receiver n (parameter_names ns) ++ declares_names ss) ≡ true
@@ -108,8 +109,8 @@ module _ (target : Member → Member) where
       last = core.statement (core.return_of None (core.variable_use core.receiver)) core.no_statements
 
   -- the function of any method
-  pub member_proper : (e : EmittedMethod) → DefinesOnce e.definition e.its_body → is_proper_item (member_piece target e.member (desugared_member e.definition e.its_body)).item ≡ true
-  member_proper e h = both (are_distinct (with_receiver e.definition.namespace (parameter_names (names_of e.definition.params)) ++ declares_names body)) (are_proper (record { labels = []; breakable = false; super_allowed = false }) (statement_templates variable_name label_name target body)) (received e.definition.namespace (names_of e.definition.params) body k.unreceived (distinct_names (names_of e.definition.params) body h.parameters (λ x i d. h.fresh x (k.fresh x d) (parameter-among e.definition.params x i)) k.distinct)) (proper-templates variable_name label_name target variables-differ labels-differ [] false body k.proper)
+  pub member_proper : (e : EmittedMethod) → DefinesOnce e.definition e.its_body → is_proper_item (member_piece lookup e.member (desugared_member e.definition e.its_body)).item ≡ true
+  member_proper e h = both (are_distinct (with_receiver e.definition.namespace (parameter_names (names_of e.definition.params)) ++ declares_names body)) (are_proper (record { labels = []; breakable = false; super_allowed = false }) (statement_templates variable_name label_name lookup body)) (received e.definition.namespace (names_of e.definition.params) body k.unreceived (distinct_names (names_of e.definition.params) body h.parameters (λ x i d. h.fresh x (k.fresh x d) (parameter-among e.definition.params x i)) k.distinct)) (proper-templates variable_name label_name lookup variables-differ labels-differ [] false body k.proper)
     where
       body : core.Statements
       body = (desugared_member e.definition e.its_body).body
@@ -121,7 +122,7 @@ module _ (target : Member → Member) where
       k = ended (Own e.its_body) e.definition.namespace (body_code (is_mutable_in e.definition e.its_body) e.definition.result e.its_body) (record { fresh = λ x d. g.fresh (core.named x) d; unreceived = λ d. g.fresh core.receiver d; distinct = g.distinct; proper = g.proper })
 
 pub item_proper : (e : EmittedMethod) → DefinesOnce e.definition e.its_body → is_proper_item (function_item_of e) ≡ true
-item_proper = function_proper (λ m. m)
+item_proper = function_proper own_targets
 
 -- items, and the names that they declare
 pub calls_proper : (is : List EntryPoint) → list_all is_proper_item (map call_item_of is) ≡ true

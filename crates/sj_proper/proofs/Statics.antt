@@ -1,5 +1,6 @@
 -- The function of a static method is that of any method, without a receiver.
 use Rattle.std.proofs.Common.{◌≡◌, true, ◌∙◌, List, refl, ap}
+use Rattle.sj_core.specs.Lookup.{Lookup}
 use Rattle.js_tree.specs.Terms.{Name}
 use Rattle.body_rules.specs.Built.{is_static}
 use Rattle.sj_core.specs.Terms.{Method, Statements}
@@ -32,8 +33,8 @@ static_parameters Constructor xs h = impossible h
 pub desugared_static : (d : MethodDef) (e : Term) → is_static d.namespace ≡ true → desugared_member d e ≡ desugared d e
 desugared_static d e h = ap (λ (ss : Statements). record { namespace = d.namespace; params = names_of d.params; body = ss }) (static_completed d.namespace (body_code (is_mutable_in d e) d.result e) h)
 
-pub piece_static : (target : Member → Member) (m : Member) (c : Method) → is_static c.namespace ≡ true → member_piece target m c ≡ piece_of target m c
-piece_static target m c h = ap (λ (xs : List Name). function_piece m xs (body_template target c) (uses target c.body)) (static_parameters c.namespace (parameter_names c.params) h)
+pub piece_static : (lookup : Lookup) (m : Member) (c : Method) → is_static c.namespace ≡ true → member_piece lookup m c ≡ piece_of lookup m c
+piece_static lookup m c h = ap (λ (xs : List Name). function_piece m xs (body_template lookup c) (uses lookup c.body)) (static_parameters c.namespace (parameter_names c.params) h)
 
-pub static_piece : (target : Member → Member) (m : Member) (d : MethodDef) (e : Term) → is_static d.namespace ≡ true → member_piece target m (desugared_member d e) ≡ piece_of target m (desugared d e)
-static_piece target m d e h = ap (member_piece target m) (desugared_static d e h) ∙ piece_static target m (desugared d e) h
+pub static_piece : (lookup : Lookup) (m : Member) (d : MethodDef) (e : Term) → is_static d.namespace ≡ true → member_piece lookup m (desugared_member d e) ≡ piece_of lookup m (desugared d e)
+static_piece lookup m d e h = ap (member_piece lookup m) (desugared_static d e h) ∙ piece_static lookup m (desugared d e) h

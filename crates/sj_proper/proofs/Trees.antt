@@ -4,12 +4,13 @@ use Rattle.std.specs.Prelude.{nat_eq, pos}
 use Rattle.std.specs.Cmp.Lexicographic.{pointwise}
 use Rattle.sj_core.specs.Terms as core
 use Rattle.sj_core.specs.Views.{expressions_of}
+use Rattle.sj_core.specs.declared.callees.Callee.TheVariants as callees
 use Rattle.sj_desugar.specs.Coercions.{coerced, coerced_arguments, coerced_receiver}
-use Rattle.sj_desugar.specs.Desugar.{receiver, received, rest_of, operand, into, block, operands, cases, finish, target_of, Target, Targets, expression_of, labeled_code, leaving_code, wrapped, branches, break_unless, switch_code, first_of, second_of, member, types_of}
+use Rattle.sj_desugar.specs.Desugar.{callee_of, receiver, received, rest_of, operand, into, block, operands, cases, finish, target_of, Target, Targets, expression_of, labeled_code, leaving_code, wrapped, branches, break_unless, switch_code, first_of, second_of, member, types_of}
 use Rattle.sj_desugar.specs.Plain.{is_plain}
 use Rattle.sj_desugar.specs.Texts.{operand_of}
 use Rattle.sj_desugar.specs.Spill.{Destination, discard, to_variable, to_result, Code, Operand, no_code, one, put_first, then_code, spill, then_use}
-use Rattle.sj_trees.specs.Term.{Term, Terms, no_terms, more_terms, Cases, no_cases, more_cases, var_def, block_of, labeled, assign, return_to, if_then, while_loop, do_while, throw, match_on, new_object, select, select_static, apply_statically, apply_static, unary_op, binary_op, is_instance_of, as_instance_of, undefined_literal, null_literal, boolean_literal, char_literal, byte_literal, short_literal, int_literal, long_literal, string_literal, var_ref, this_ref, log_line}
+use Rattle.sj_trees.specs.Term.{Term, Terms, no_terms, more_terms, Cases, no_cases, more_cases, var_def, block_of, labeled, assign, return_to, if_then, while_loop, do_while, throw, match_on, new_object, select, select_static, apply, apply_statically, apply_static, unary_op, binary_op, is_instance_of, as_instance_of, undefined_literal, null_literal, boolean_literal, char_literal, byte_literal, short_literal, int_literal, long_literal, string_literal, var_ref, this_ref, log_line}
 use Rattle.sj_names.specs.declared.method_names.Namespace.TheVariants.{Constructor}
 use Rattle.sj_trees.specs.Types.{class_type}
 use Rattle.sure_receivers.specs.Sure.{is_sure}
@@ -145,7 +146,8 @@ module _ (is_mutable sure : List ℕ → Bool) where
     good (do_while p d c) = λ around ts ls b k j h em. let g = do_good p d c (good d) (good c) around ts ls j h em in good-one (Own (do_while p d c)) ls b j (do_code d c ts j).next (core.loop_of (Some p) (do_code d c ts j).statements) g.onward (λ y i. i) (g.distinct, g.proper)
     good (match_on p e cs d t) = λ around ts ls b k j h em. act_good e (good e) (Own (match_on p e cs d t)) (λ x o. inl o) around ts ls b j (λ es j. switch_code p (first_of es) (cases is_mutable sure ts k j cs) (λ j. into is_mutable sure ts k j d)) h.0 em (λ es i. switch-good no_name (Own d) ls b p (first_of es) (cases is_mutable sure ts k i cs) (λ j. into is_mutable sure ts k j d) i (good_cases cs around ts ls k i h.1 em) (good d around ts ls true k (cases is_mutable sure ts k i cs).next h.2 em))
     good (apply_static p c n m es t) = λ around ts ls b k j h em. good-use (OwnAll es) no_name (OwnAll es) ls b (operands is_mutable sure ts es) (λ xs. finish k p t false (core.static_call (member c n m) (expressions_of (coerced_arguments m.params (types_of es) xs)))) j (good_operands es around ts ls b h em j) (λ xs i. finish-good no_name ls b k p t false (core.static_call (member c n m) (expressions_of (coerced_arguments m.params (types_of es) xs))) i) (nothing_apart (OwnAll es)) (all_part (OwnAll es)) (no_part (OwnAll es))
-    good (apply_statically p e c n m es t) = λ around ts ls b k j h em. good-use (Own (apply_statically p e c n m es t)) no_name (Own (apply_statically p e c n m es t)) ls b (receiver_in e ts ∷ operands is_mutable sure ts es) (λ xs. finish k p t false (core.receiver_call (member c n m) (coerced_receiver (type_of_term e) (first_of xs)) (expressions_of (coerced_arguments m.params (types_of es) (rest_of xs))))) j (receiver_first e (good e) (OwnAll es) (Own (apply_statically p e c n m es t)) (operands is_mutable sure ts es) h.2 (λ x o. inl o) (λ x o. inr o) around ts ls b h.0 em (good_operands es around ts ls b h.1 em) j) (λ xs i. finish-good no_name ls b k p t false (core.receiver_call (member c n m) (coerced_receiver (type_of_term e) (first_of xs)) (expressions_of (coerced_arguments m.params (types_of es) (rest_of xs)))) i) (nothing_apart (Own (apply_statically p e c n m es t))) (all_part (Own (apply_statically p e c n m es t))) (no_part (Own (apply_statically p e c n m es t)))
+    good (apply p e m es t) = λ around ts ls b k j h em. good-use (Own (apply p e m es t)) no_name (Own (apply p e m es t)) ls b (receiver_in e ts ∷ operands is_mutable sure ts es) (λ xs. finish k p t false (core.receiver_call (callee_of (type_of_term e) m) (coerced_receiver (type_of_term e) (first_of xs)) (expressions_of (coerced_arguments m.params (types_of es) (rest_of xs))))) j (receiver_first e (good e) (OwnAll es) (Own (apply p e m es t)) (operands is_mutable sure ts es) h.2 (λ x o. inl o) (λ x o. inr o) around ts ls b h.0 em (good_operands es around ts ls b h.1 em) j) (λ xs i. finish-good no_name ls b k p t false (core.receiver_call (callee_of (type_of_term e) m) (coerced_receiver (type_of_term e) (first_of xs)) (expressions_of (coerced_arguments m.params (types_of es) (rest_of xs)))) i) (nothing_apart (Own (apply p e m es t))) (all_part (Own (apply p e m es t))) (no_part (Own (apply p e m es t)))
+    good (apply_statically p e c n m es t) = λ around ts ls b k j h em. good-use (Own (apply_statically p e c n m es t)) no_name (Own (apply_statically p e c n m es t)) ls b (receiver_in e ts ∷ operands is_mutable sure ts es) (λ xs. finish k p t false (core.receiver_call (callees.Member (member c n m)) (coerced_receiver (type_of_term e) (first_of xs)) (expressions_of (coerced_arguments m.params (types_of es) (rest_of xs))))) j (receiver_first e (good e) (OwnAll es) (Own (apply_statically p e c n m es t)) (operands is_mutable sure ts es) h.2 (λ x o. inl o) (λ x o. inr o) around ts ls b h.0 em (good_operands es around ts ls b h.1 em) j) (λ xs i. finish-good no_name ls b k p t false (core.receiver_call (callees.Member (member c n m)) (coerced_receiver (type_of_term e) (first_of xs)) (expressions_of (coerced_arguments m.params (types_of es) (rest_of xs)))) i) (nothing_apart (Own (apply_statically p e c n m es t))) (all_part (Own (apply_statically p e c n m es t))) (no_part (Own (apply_statically p e c n m es t)))
     good (new_object p c m es) = λ around ts ls b k j h em. good-use (OwnAll es) no_name (OwnAll es) ls b (operands is_mutable sure ts es) (λ xs. finish k p (class_type c) false (core.made_of (member c Constructor m) (expressions_of (coerced_arguments m.params (types_of es) xs)))) j (good_operands es around ts ls b h em j) (λ xs i. finish-good no_name ls b k p (class_type c) false (core.made_of (member c Constructor m) (expressions_of (coerced_arguments m.params (types_of es) xs))) i) (nothing_apart (OwnAll es)) (all_part (OwnAll es)) (no_part (OwnAll es))
     good (select p e c f t) = λ around ts ls b k j h em. good-use (Own e) no_name (Own e) ls b (receiver_in e ts ∷ []) (λ es. finish k p t false (core.field_of (first_of es) c f)) j (receiver_first e (good e) no_name (Own e) [] (nothing_apart (Own e)) (all_part (Own e)) (no_part (Own e)) around ts ls b h em (λ j. good-none no_name ls b j) j) (λ es i. finish-good no_name ls b k p t false (core.field_of (first_of es) c f) i) (nothing_apart (Own e)) (all_part (Own e)) (no_part (Own e))
     good (select_static p c f t) = λ around ts ls b k j h em. finish-good no_name ls b k p t false (core.static_of c f) j

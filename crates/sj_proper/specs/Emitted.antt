@@ -3,6 +3,7 @@ use Rattle.std.specs.Prelude.{◌≡◌, List, [], ◌∷◌, ◌++◌, map, Som
 use Rattle.std.specs.List.{Contains}
 use Rattle.sj_proper.specs.Once.{DefinesOnce}
 use Rattle.js_tree.specs.Terms.{call_of, no_expressions, Item, expression_item, Piece, Module}
+use Rattle.sj_core.specs.Lookup.{own_targets}
 use Rattle.sj_desugar.specs.Desugar.{desugared}
 use Rattle.sj_emit_expr.specs.Pieces.{piece_of}
 use Rattle.sj_emit_expr.specs.Templates.{member_name}
@@ -23,7 +24,7 @@ pub record EmittedMethod : Type 0 where
 
 -- its piece, where each member that is called on a receiver is its own target, and the item in it
 abbrev pub piece_of_method : EmittedMethod → Piece
-piece_of_method e = piece_of (λ m. m) e.member (desugared e.definition e.its_body)
+piece_of_method e = piece_of own_targets e.member (desugared e.definition e.its_body)
 
 abbrev pub function_item_of : EmittedMethod → Item
 function_item_of e = (piece_of_method e).item

@@ -2,7 +2,7 @@
 use Rattle.std.specs.Prelude.{◌≡◌, ℕ, List, [], ◌∷◌, ◌⊎◌}
 use Rattle.sj_desugar.specs.Desugar.{names_of}
 use Rattle.sj_trees.specs.declared.classes.MethodDef.{MethodDef}
-use Rattle.sj_trees.specs.Term.{Term, Terms, no_terms, more_terms, Cases, no_cases, more_cases, var_def, block_of, labeled, assign, return_to, if_then, while_loop, do_while, throw, match_on, new_object, select, apply_statically, apply_static, unary_op, binary_op, is_instance_of, as_instance_of, log_line}
+use Rattle.sj_trees.specs.Term.{Term, Terms, no_terms, more_terms, Cases, no_cases, more_cases, var_def, block_of, labeled, assign, return_to, if_then, while_loop, do_while, throw, match_on, new_object, select, apply, apply_statically, apply_static, unary_op, binary_op, is_instance_of, as_instance_of, log_line}
 use Rattle.body_rules.specs.Locals.{Own, OwnAll, OwnCases, IsParameter}
 use Rattle.sure_receivers.specs.Sure.{Definition, definitions}
 
@@ -30,6 +30,7 @@ abbrev mutual
   Once ls (match_on p e cs d t) = Once ls e × OnceCases ls cs × Once ls d × Apart (Own e) (OwnCases cs) × Apart (Own e) (Own d) × Apart (OwnCases cs) (Own d)
   Once ls (new_object p c m ts) = OnceAll ls ts
   Once ls (select p e c f t) = Once ls e
+  Once ls (apply p e m ts t) = Once ls e × OnceAll ls ts × Apart (Own e) (OwnAll ts)
   Once ls (apply_statically p e c n m ts t) = Once ls e × OnceAll ls ts × Apart (Own e) (OwnAll ts)
   Once ls (apply_static p c n m ts t) = OnceAll ls ts
   Once ls (unary_op p o e) = Once ls e

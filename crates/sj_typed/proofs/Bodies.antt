@@ -22,7 +22,7 @@ use Rattle.body_rules.specs.Locals.{local_of, HasValue}
 use Rattle.body_rules.specs.Typing as scenes
 use Rattle.sj_proper.specs.Once.{Once, OnceAll, OnceCases}
 use Rattle.sj_proper.specs.Methods.{scene_of, KeepsRules}
-use Rattle.sj_trees.specs.Term.{Term, Terms, no_terms, more_terms, Cases, no_cases, more_cases, var_def, skip, block_of, labeled, assign, return_to, if_then, while_loop, do_while, throw, match_on, new_object, select, select_static, apply_statically, apply_static, unary_op, binary_op, is_instance_of, as_instance_of, undefined_literal, null_literal, boolean_literal, char_literal, byte_literal, short_literal, int_literal, long_literal, string_literal, var_ref, this_ref, log_line}
+use Rattle.sj_trees.specs.Term.{Term, Terms, no_terms, more_terms, Cases, no_cases, more_cases, var_def, skip, block_of, labeled, assign, return_to, if_then, while_loop, do_while, throw, match_on, new_object, select, select_static, apply, apply_statically, apply_static, unary_op, binary_op, is_instance_of, as_instance_of, undefined_literal, null_literal, boolean_literal, char_literal, byte_literal, short_literal, int_literal, long_literal, string_literal, var_ref, this_ref, log_line}
 use Rattle.sj_trees.specs.declared.classes.ClassDef.{ClassDef}
 use Rattle.sj_trees.specs.declared.classes.MethodDef.{MethodDef}
 use Rattle.sj_trees.specs.declared.classes.ParamDef.{ParamDef}
@@ -134,6 +134,11 @@ module _ (w : Classes) (has : Usable) where
     typed (select p e cn f t) x y s a n z c k h o built listed all =
         let q = and_parts (stands has (may_check has s.sure) (select p e cn f t)) (is_built has (may_check has s.sure) e) built in
         (record { meets = own s.space s.labels n (select p e cn f t) all; built = q.0; finds = tt }, typed e x x s a (n + 1) refl c h.0 h.1 o q.1 listed.0 (inner s.space s.labels n (select p e cn f t) all))
+    typed (apply p e m ts t) x y s a n z c k h o built listed all =
+        let met = inner s.space s.labels n (apply p e m ts t) all in
+        let q = and_parts (stands has (may_check has s.sure) (apply p e m ts t)) (is_built has (may_check has s.sure) e && are_built has (may_check has s.sure) ts) built in
+        let parts = and_parts (is_built has (may_check has s.sure) e) (are_built has (may_check has s.sure) ts) q.1 in
+        (record { meets = own s.space s.labels n (apply p e m ts t) all; built = q.0; finds = all_have_values m.params listed.1.0.params }, typed e x x s a (n + 1) refl c h.0 (keep-front s.owner s.space (below x e) (all_below x ts) h.1) o.0 parts.0 listed.0 (front s.space (nodes s.labels (n + 1) e) (nodes_of_all s.labels (n + 1 + size e) ts) met), typed_all ts x s a (n + 1 + size e) c (keep-behind s.owner s.space (At x e) (all_below x ts) h) o.1 parts.1 listed.2 (back s.space (nodes s.labels (n + 1) e) (nodes_of_all s.labels (n + 1 + size e) ts) met))
     typed (apply_statically p e cn ns m ts t) x y s a n z c k h o built listed all =
         let met = inner s.space s.labels n (apply_statically p e cn ns m ts t) all in
         let q = and_parts (stands has (may_check has s.sure) (apply_statically p e cn ns m ts t)) (is_built has (may_check has s.sure) e && are_built has (may_check has s.sure) ts) built in

@@ -5,14 +5,16 @@ use Rattle.std.proofs.lemmas.Bool.{and_parts}
 use Rattle.std.proofs.lemmas.List.Elements.{All-head, All-tail}
 use Rattle.emit_questions.specs.Calls.{calls_of_all}
 use Rattle.emit_questions.specs.Laws.{AsEmitted}
-use Rattle.emit_questions.specs.Task.{Targets, is_same_member, target_by, with_target, ask_targets, Emitted, emitted, emitted_view}
+use Rattle.emit_questions.specs.Task.{Targets, is_same_member, target_by, with_target, Found, nothing_found, lookup_by, asks_all, Emitted, emitted, emitted_view}
+use Rattle.emit_questions.specs.declared.Inquiry.{Inquiry}
+use Rattle.emit_questions.specs.declared.Inquiry.TheVariants as inquiries
 use Rattle.js_tree.specs.declared.items.JsMember.{JsMember}
 use Rattle.sj_ask.proofs.Running.{Parted, went, stopped, comes-parted}
 use Rattle.sj_ask.specs.Answers.{IsAnswer, IsTarget, GivesMember, target_member}
 use Rattle.sj_ask.specs.Apart.{Exchange}
 use Rattle.sj_ask.specs.Runs.{Comes}
 use Rattle.sj_ask.specs.Stands.{Stand}
-use Rattle.sj_ask.specs.Tasks.{done, found_member, asks_target, ◌>>=◌}
+use Rattle.sj_ask.specs.Tasks.{done, found_member, says_yes, asks_target, asks_hijacked, ◌>>=◌}
 use Rattle.sj_ask.specs.Told.{Told}
 use Rattle.sj_ask.specs.declared.questions.Answer.{Answer}
 use Rattle.sj_ask.specs.declared.questions.Answer.TheVariants as answer
@@ -85,23 +87,24 @@ stops : (f : Emitted) (e : NoMemory) → ◌≡◌ {A = Result Emitted NoMemory}
 stops f e is = cc
 
 module _ (s : Stand) (names : All IsNamed s.classes) where
-  all-fit : (ks : List Member) (before found : Targets) (log : List Exchange) → Comes {E = NoMemory} (IsAnswer s) (ask_targets ks before) (Ok found) log → Fit before → Fit found
-  unfolding asks_target ◌>>=◌
-  all-fit [] before found log h fit = let e : ◌≡◌ {A = Result Targets NoMemory} (Ok found) (Ok before) = h.0 in let same : found ≡ before = cc in subst Fit (sym same) fit
-  all-fit (k ∷ ks) before found log h fit = all-fit ks (with_target k (found_member h.given) before) found h.others h.rest (more-fit k (found_member h.given) before (member-found s.classes names k.class k.method h.given h.is_answer) fit)
+  all-fit : (qs : List Inquiry) (before found : Found) (log : List Exchange) → Comes {E = NoMemory} (IsAnswer s) (asks_all qs before) (Ok found) log → Fit before.targets → Fit found.targets
+  unfolding asks_target asks_hijacked ◌>>=◌
+  all-fit [] before found log h fit = let e : ◌≡◌ {A = Result Found NoMemory} (Ok found) (Ok before) = h.0 in let same : found ≡ before = cc in subst (λ (f : Found). Fit f.targets) (sym same) fit
+  all-fit (inquiries.Target k ∷ qs) before found log h fit = all-fit qs (record { targets = with_target k (found_member h.given) before.targets; mixed = before.mixed }) found h.others h.rest (more-fit k (found_member h.given) before.targets (member-found s.classes names k.class k.method h.given h.is_answer) fit)
+  all-fit (inquiries.Hijacked c ∷ qs) before found log h fit = all-fit qs (record { targets = before.targets; mixed = (c, says_yes h.given) ∷ before.mixed }) found h.others h.rest fit
 
   -- the function that is emitted there
   pub emitted_there : (m : Method) (r : Result JsMember NoMemory) (t u : Told) → AsEmitted (IsAnswer s) m r t u → IfOk r (IsEmitted m)
   emitted_there m (Err e) t u h = tt
-  emitted_there m (Ok f) t u h = go (comes-parted (IsAnswer s) (ask_targets (calls_of_all m.body) []) (λ found. done (emitted (target_by found) m)) (Ok (emitted_view f)) h.log h.comes)
+  emitted_there m (Ok f) t u h = go (comes-parted (IsAnswer s) (asks_all (calls_of_all m.body) nothing_found) (λ found. done (emitted (lookup_by found) m)) (Ok (emitted_view f)) h.log h.comes)
     where
-      go : Parted {E = NoMemory} (IsAnswer s) (ask_targets (calls_of_all m.body) []) (λ found. done (emitted (target_by found) m)) (Ok (emitted_view f)) h.log → IsEmitted m f
+      go : Parted {E = NoMemory} (IsAnswer s) (asks_all (calls_of_all m.body) nothing_found) (λ found. done (emitted (lookup_by found) m)) (Ok (emitted_view f)) h.log → IsEmitted m f
       go (went found one two first second _) =
-          let is : ◌≡◌ {A = Result Emitted NoMemory} (Ok (emitted_view f)) (Ok (emitted (target_by found) m)) = second.0 in
-          let same : emitted_view f ≡ emitted (target_by found) m = cc in
-          let fit = all-fit (calls_of_all m.body) [] found one first (λ k h. h) in
+          let is : ◌≡◌ {A = Result Emitted NoMemory} (Ok (emitted_view f)) (Ok (emitted (lookup_by found) m)) = second.0 in
+          let same : emitted_view f ≡ emitted (lookup_by found) m = cc in
+          let fit = all-fit (calls_of_all m.body) nothing_found found one first (λ k h. h) in
           record {
-            target = target_by found;
+            known = lookup_by found;
             is = same;
             fit = λ k called h. fit k h;
           }

@@ -50,3 +50,11 @@ returns-clause-called c = refl
 pub returns-clause-called_uses : goal.returns-clause-called_uses
 unfolding put digits
 returns-clause-called_uses c = refl
+
+pub returns-clause-looks_up : goal.returns-clause-looks_up
+unfolding put digits
+returns-clause-looks_up c = refl
+
+pub returns-clause-looks_up_uses : goal.returns-clause-looks_up_uses
+unfolding put digits
+returns-clause-looks_up_uses c = refl

@@ -5,8 +5,9 @@ use Rattle.sj_core.specs.Terms as core
 use Rattle.sj_core.specs.Terms.{named, assign_to, followed, statement, no_statements, break_nearest}
 use Rattle.sj_core.specs.Views.{expression_view, case_view}
 use Rattle.sj_core.specs.Views.{expressions_of}
+use Rattle.sj_core.specs.declared.callees.Callee.TheVariants as callees
 use Rattle.sj_desugar.specs.Coercions.{coerced, coerced_receiver}
-use Rattle.sj_desugar.specs.Desugar.{into, break_unless, cases, finish, member, operands, position_of, types_of}
+use Rattle.sj_desugar.specs.Desugar.{into, break_unless, callee_of, cases, finish, member, operands, position_of, types_of}
 use Rattle.sj_desugar.specs.Plain.{is_among, is_plain, are_plain}
 use Rattle.sj_desugar.specs.Spill.{Code, discard, one, put_first, spill, then_use, to_variable}
 use Rattle.sj_desugar.specs.Texts.{operand_of}
@@ -20,14 +21,14 @@ use Rattle.sj_desugaring.specs.Views.{destination_view, target_view, code_view, 
 use Rattle.sj_trees.proofs.trees.Tree.TheLaws.{the_size}
 use Rattle.sj_desugaring.specs.Placing.{brought}
 use Rattle.sj_trees.specs.declared.types.IrType.TheVariants.{Any, Boolean}
-use Rattle.sj_trees.specs.Term.{Term, select, select_static, apply_statically, throw, var_ref, assign, if_then, while_loop, do_while, match_on, unary_op, binary_op, is_instance_of, as_instance_of, log_line}
+use Rattle.sj_trees.specs.Term.{Term, select, select_static, apply, apply_statically, throw, var_ref, assign, if_then, while_loop, do_while, match_on, unary_op, binary_op, is_instance_of, as_instance_of, log_line}
 use Rattle.sj_trees.specs.TypeOf.{type_of_term, binary_result}
 use Rattle.sj_trees.specs.View.{view, terms_view, cases_view, view_case, view_step, case_step, Case}
 use Rattle.sj_trees.specs.declared.trees.Tree.{Tree}
 use Rattle.sj_trees.specs.declared.trees.Tree.TheFolds.{fold-roll-Tree, fold_out-MatchCase}
 use Rattle.sj_trees.specs.declared.trees.Tree.TheOpen.{Tree-F}
 use Rattle.sj_trees.specs.declared.trees.Tree.TheViews.{sized-Match}
-use Rattle.sj_trees.specs.declared.trees.Tree.TheVariants.{rolls-Assign, rolls-Select, rolls-SelectStatic, rolls-ApplyStatically, rolls-Throw, rolls-VarRef, rolls-If, rolls-While, rolls-DoWhile, rolls-Match, rolls-UnaryOp, rolls-BinaryOp, rolls-IsInstanceOf, rolls-AsInstanceOf, rolls-Log}
+use Rattle.sj_trees.specs.declared.trees.Tree.TheVariants.{rolls-Assign, rolls-Select, rolls-SelectStatic, rolls-Apply, rolls-ApplyStatically, rolls-Throw, rolls-VarRef, rolls-If, rolls-While, rolls-DoWhile, rolls-Match, rolls-UnaryOp, rolls-BinaryOp, rolls-IsInstanceOf, rolls-AsInstanceOf, rolls-Log}
 
 pub statements_of-returns-in-If : goal.statements_of-returns-in-If
 statements_of-returns-in-If t c =
@@ -198,6 +199,23 @@ receiver_of-returns-else-never_null t c =
     let v = view a.tree.now in
     subst (λ x. IfOk c.checked_receiver.result (λ p. placed_view p ≡ x)) (received-checked m s ls discard a.next (position_of v) a.rest_is_plain v (sym c.in_ok-never_null.ensures ∙ c.if-never_null.false)) c.checked_receiver.ensures
 
+pub statements_of-returns-in-Apply : goal.statements_of-returns-in-Apply
+statements_of-returns-in-Apply t c =
+    let n = c.in-Apply in
+    let a = c.args in
+    let m = is_among a.locals.now.mutable.now in
+    let s = is_among a.locals.now.sure.now in
+    let ls = map target_view a.targets.now in
+    let k = destination_view a.destination.now in
+    let ts = terms_view n.trees.items in
+    let v : view a.tree.now ≡ apply n.position (view n.object.value) n.method ts n.tpe = ap view (n.is ∙ sym (rolls-Apply n.position n.object n.method n.trees n.tpe)) ∙ fold-roll-Tree Term Case view_step case_step (Tree-F.Apply n.position n.object n.method n.trees n.tpe) in
+    let o = placed_view c.in_ok-owner-in-Apply.owner in
+    let w = all_view c.in_ok-arguments-in-Apply.arguments in
+    let plain : c.are_plain-trees_plain.result ≡ are_plain ts = subst (λ xs. c.are_plain-trees_plain.result ≡ are_plain (terms_view xs)) c.deref-in-Apply.ensures.value c.are_plain-trees_plain.ensures in
+    let e_owner : o ≡ comes_received m s ls c.are_plain-trees_plain.result a.next (view n.object.value) = subst (λ (x : Tree). o ≡ comes_received m s ls c.are_plain-trees_plain.result a.next (view x)) c.deref-in-Apply-2.ensures c.in_ok-owner-in-Apply.ensures in
+    let e_arguments : w ≡ with_arguments n.method.params (types_of ts) (spill (operands m s ls ts) c.in_ok-owner-in-Apply.owner.next) = c.in_ok-arguments-in-Apply.ensures ∙ (λ i. with_arguments (c.as_slice-params-in-Apply.ensures i) (types_of (terms_view (c.deref-in-Apply-3.ensures.value i))) (spill (operands m s ls (terms_view (c.deref-in-Apply-3.ensures.value i))) c.in_ok-owner-in-Apply.owner.next)) in
+    subst (λ x. IfOk c.looked_up_value.result (λ w. code_view w ≡ x)) (sym (ap (into m s ls k a.next) v ∙ receive-joins m s ls k a.next n.position o w (callee_of (type_of_term (view n.object.value)) n.method) (view n.object.value) n.method ts n.tpe c.are_plain-trees_plain.result plain e_owner e_arguments ∙ sym (ap (λ (x : Tree). behind o (λ g i. then_use w (λ es. finish k n.position n.tpe false (core.receiver_call (callee_of (type_of_term (view x)) n.method) (coerced_receiver (type_of_term (view x)) g) (expressions_of es))))) c.deref-in-Apply-4.ensures))) c.looked_up_value.ensures
+
 pub statements_of-returns-in-ApplyStatically : goal.statements_of-returns-in-ApplyStatically
 statements_of-returns-in-ApplyStatically t c =
     let n = c.in-ApplyStatically in
@@ -213,7 +231,7 @@ statements_of-returns-in-ApplyStatically t c =
     let plain : c.are_plain-all_plain.result ≡ are_plain ts = subst (λ xs. c.are_plain-all_plain.result ≡ are_plain (terms_view xs)) c.deref-in-ApplyStatically.ensures.value c.are_plain-all_plain.ensures in
     let e_owner : o ≡ comes_received m s ls c.are_plain-all_plain.result a.next (view n.object.value) = subst (λ (x : Tree). o ≡ comes_received m s ls c.are_plain-all_plain.result a.next (view x)) c.deref-in-ApplyStatically-2.ensures c.in_ok-owner-in-ApplyStatically.ensures in
     let e_arguments : w ≡ with_arguments n.method.params (types_of ts) (spill (operands m s ls ts) c.in_ok-owner-in-ApplyStatically.owner.next) = c.in_ok-arguments-in-ApplyStatically.ensures ∙ (λ i. with_arguments (c.as_slice-params-in-ApplyStatically.ensures i) (types_of (terms_view (c.deref-in-ApplyStatically-3.ensures.value i))) (spill (operands m s ls (terms_view (c.deref-in-ApplyStatically-3.ensures.value i))) c.in_ok-owner-in-ApplyStatically.owner.next)) in
-    subst (λ x. IfOk c.receiver_value.result (λ w. code_view w ≡ x)) (sym (ap (into m s ls k a.next) v ∙ receive-joins m s ls k a.next n.position o w (view n.object.value) n.class n.namespace n.method ts n.tpe c.are_plain-all_plain.result plain e_owner e_arguments ∙ sym (ap (λ (x : Tree). behind o (λ g i. then_use w (λ es. finish k n.position n.tpe false (core.receiver_call (member n.class n.namespace n.method) (coerced_receiver (type_of_term (view x)) g) (expressions_of es))))) c.deref-in-ApplyStatically-4.ensures))) c.receiver_value.ensures
+    subst (λ x. IfOk c.member_value.result (λ w. code_view w ≡ x)) (sym (ap (into m s ls k a.next) v ∙ receive-joins m s ls k a.next n.position o w (callees.Member (member n.class n.namespace n.method)) (view n.object.value) n.method ts n.tpe c.are_plain-all_plain.result plain e_owner e_arguments ∙ sym (ap (λ (x : Tree). behind o (λ g i. then_use w (λ es. finish k n.position n.tpe false (core.receiver_call (callees.Member (member n.class n.namespace n.method)) (coerced_receiver (type_of_term (view x)) g) (expressions_of es))))) c.deref-in-ApplyStatically-4.ensures))) c.member_value.ensures
 
 pub statements_of-returns-in-Select : goal.statements_of-returns-in-Select
 statements_of-returns-in-Select t c =

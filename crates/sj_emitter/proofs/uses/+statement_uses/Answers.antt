@@ -7,45 +7,45 @@ use Rattle.sj_core.specs.declared.statements.CoreStatement.TheVariants.{rolls-As
 use Rattle.sj_emit_expr.specs.Uses.{uses_in, uses_of, uses_of_all, uses_of_cases}
 use Rattle.sj_emitter.proofs.Collected.{more-uses, case-step}
 use Rattle.sj_emitter.proofs.uses.+statement_uses.Goals as goal
-use Rattle.sj_emitter.specs.Targets.{target_of}
+use Rattle.sj_emitter.specs.Known.{lookup_of}
 
 pub add_uses_of-returns-in_ok-add_uses_of_all-in-If : goal.add_uses_of-returns-in_ok-add_uses_of_all-in-If
 add_uses_of-returns-in_ok-add_uses_of_all-in-If t c =
     let n = c.in-If in
     let v : statement_view c.args.statement.now ≡ if_of n.field-0 (expression_view n.test) (statements_view n.yes.items) (statements_view n.no.items) = ap statement_view (n.is ∙ sym (rolls-If n.field-0 n.test n.yes n.no)) ∙ fold-roll-CoreStatement Statement Case statement_step case_step (CoreStatement-F.If n.field-0 n.test n.yes n.no) in
-    let first = uses_in (target_of c.args.targets.now) (expression_view n.test) in
-    let second = uses_of_all (target_of c.args.targets.now) (statements_view c.deref.result.now) in
-    let third = uses_of_all (target_of c.args.targets.now) (statements_view c.deref-in-If.result.now) in
-    let parts : first ++ second ++ third ≡ uses_of (target_of c.args.targets.now) (statement_view c.args.statement.now) = rw (v, c.deref.ensures.value, c.deref-in-If.ensures.value) refl in
+    let first = uses_in (lookup_of c.args.known.now) (expression_view n.test) in
+    let second = uses_of_all (lookup_of c.args.known.now) (statements_view c.deref.result.now) in
+    let third = uses_of_all (lookup_of c.args.known.now) (statements_view c.deref-in-If.result.now) in
+    let parts : first ++ second ++ third ≡ uses_of (lookup_of c.args.known.now) (statement_view c.args.statement.now) = rw (v, c.deref.ensures.value, c.deref-in-If.ensures.value) refl in
     rw (← more-uses _ _ (first ++ second) third _ (c.in_ok-add_uses_of_all-in-If.ensures ∙ more-uses _ _ first second (first ++ second) c.in_ok-add_uses_in-in-If.ensures refl) parts) c.add_uses_of_all-in-If.ensures
 
 pub add_uses_of-returns-in_ok-add_uses_in-in-While : goal.add_uses_of-returns-in_ok-add_uses_in-in-While
 add_uses_of-returns-in_ok-add_uses_in-in-While t c =
     let n = c.in-While in
     let v : statement_view c.args.statement.now ≡ while_of n.field-0 (expression_view n.test) (statements_view n.body.items) = ap statement_view (n.is ∙ sym (rolls-While n.field-0 n.test n.body)) ∙ fold-roll-CoreStatement Statement Case statement_step case_step (CoreStatement-F.While n.field-0 n.test n.body) in
-    let first = uses_in (target_of c.args.targets.now) (expression_view n.test) in
-    let second = uses_of_all (target_of c.args.targets.now) (statements_view c.deref-in-While.result.now) in
-    let parts : first ++ second ≡ uses_of (target_of c.args.targets.now) (statement_view c.args.statement.now) = rw (v, c.deref-in-While.ensures.value) refl in
+    let first = uses_in (lookup_of c.args.known.now) (expression_view n.test) in
+    let second = uses_of_all (lookup_of c.args.known.now) (statements_view c.deref-in-While.result.now) in
+    let parts : first ++ second ≡ uses_of (lookup_of c.args.known.now) (statement_view c.args.statement.now) = rw (v, c.deref-in-While.ensures.value) refl in
     rw (← more-uses _ _ first second _ c.in_ok-add_uses_in-in-While.ensures parts) c.add_uses_of_all-in-While.ensures
 
 pub add_uses_of-returns-in_ok-add_uses_of_cases-in-Switch : goal.add_uses_of-returns-in_ok-add_uses_of_cases-in-Switch
 add_uses_of-returns-in_ok-add_uses_of_cases-in-Switch t c =
     let n = c.in-Switch in
     let v : statement_view c.args.statement.now ≡ switch_of n.field-0 (expression_view n.selector) (cases_view n.cases.items) (statements_view n.default.items) = ap statement_view (n.is ∙ sym (rolls-Switch n.field-0 n.selector n.cases n.default)) ∙ fold-roll-CoreStatement Statement Case statement_step case_step (CoreStatement-F.Switch n.field-0 n.selector n.cases n.default) in
-    let first = uses_in (target_of c.args.targets.now) (expression_view n.selector) in
-    let second = uses_of_cases (target_of c.args.targets.now) (cases_view c.deref-in-Switch.result.now) in
-    let third = uses_of_all (target_of c.args.targets.now) (statements_view c.deref-in-Switch-2.result.now) in
-    let parts : first ++ second ++ third ≡ uses_of (target_of c.args.targets.now) (statement_view c.args.statement.now) = rw (v, c.deref-in-Switch.ensures.value, c.deref-in-Switch-2.ensures.value) refl in
+    let first = uses_in (lookup_of c.args.known.now) (expression_view n.selector) in
+    let second = uses_of_cases (lookup_of c.args.known.now) (cases_view c.deref-in-Switch.result.now) in
+    let third = uses_of_all (lookup_of c.args.known.now) (statements_view c.deref-in-Switch-2.result.now) in
+    let parts : first ++ second ++ third ≡ uses_of (lookup_of c.args.known.now) (statement_view c.args.statement.now) = rw (v, c.deref-in-Switch.ensures.value, c.deref-in-Switch-2.ensures.value) refl in
     rw (← more-uses _ _ (first ++ second) third _ (c.in_ok-add_uses_of_cases-in-Switch.ensures ∙ more-uses _ _ first second (first ++ second) c.in_ok-add_uses_in-in-Switch.ensures refl) parts) c.add_uses_of_all-in-Switch.ensures
 
 pub add_uses_of_cases-loop-each-preserved : goal.add_uses_of_cases-loop-each-preserved
-add_uses_of_cases-loop-each-preserved t c = case-step (target_of c.args.targets.now) c.args.cases.now c.loop-each.each-index c.each-item.result _ _ c.loop-each-test.true c.each-item.is c.in_ok-add_uses_of_case.ensures ∙ c.loop-each.invariant
+add_uses_of_cases-loop-each-preserved t c = case-step (lookup_of c.args.known.now) c.args.cases.now c.loop-each.each-index c.each-item.result _ _ c.loop-each-test.true c.each-item.is c.in_ok-add_uses_of_case.ensures ∙ c.loop-each.invariant
 
 pub add_uses_of-returns-in_ok-add_uses_in-in-AssignField : goal.add_uses_of-returns-in_ok-add_uses_in-in-AssignField
 add_uses_of-returns-in_ok-add_uses_in-in-AssignField t c =
     let n = c.in-AssignField in
     let v : statement_view c.args.statement.now ≡ assign_field n.field-0 (expression_view n.object) n.field-2 n.field-3 (expression_view n.value) = ap statement_view (n.is ∙ sym (rolls-AssignField n.field-0 n.object n.field-2 n.field-3 n.value)) ∙ fold-roll-CoreStatement Statement Case statement_step case_step (CoreStatement-F.AssignField n.field-0 n.object n.field-2 n.field-3 n.value) in
-    let first = uses_in (target_of c.args.targets.now) (expression_view n.object) in
-    let second = uses_in (target_of c.args.targets.now) (expression_view n.value) in
-    let parts : first ++ second ≡ uses_of (target_of c.args.targets.now) (statement_view c.args.statement.now) = rw (v) refl in
+    let first = uses_in (lookup_of c.args.known.now) (expression_view n.object) in
+    let second = uses_in (lookup_of c.args.known.now) (expression_view n.value) in
+    let parts : first ++ second ≡ uses_of (lookup_of c.args.known.now) (statement_view c.args.statement.now) = rw (v) refl in
     rw (← more-uses _ _ first second _ c.in_ok-add_uses_in-in-AssignField.ensures parts) c.add_uses_in-in-AssignField.ensures

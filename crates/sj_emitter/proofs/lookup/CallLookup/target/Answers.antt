@@ -1,7 +1,7 @@
 use Rattle.std.proofs.Common.{ap, sym, Some, None, ◌∙◌}
 use Rattle.std.specs.Prelude.{option_copied}
 use Rattle.sj_emitter.proofs.Asked.{looked-up}
-use Rattle.sj_emitter.proofs.targets.CallTargets.target.Goals as goal
+use Rattle.sj_emitter.proofs.lookup.CallLookup.target.Goals as goal
 
 pub returns-in-Some : goal.returns-in-Some
 returns-in-Some c = looked-up c.args.self.now c.args.member.now (Some c.in-Some.target.now) (sym (ap option_copied c.in-Some.is) ∙ c.get.ensures.value)

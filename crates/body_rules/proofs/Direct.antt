@@ -1,0 +1,38 @@
+-- A call that is looked up on a receiver whose class is hijacked keeps the rules of a call of the member that this class runs.
+use Rattle.std.proofs.Common.{◌≡◌, ◌∙◌, true, ◌&&◌, List, ap, sym}
+use Rattle.std.proofs.lemmas.Bool.{and_parts}
+use Rattle.body_rules.specs.Typing.{Scene, Here, may_check}
+use Rattle.built_forms.proofs.Direct.{IsCalled, is_called}
+use Rattle.built_forms.specs.Built.{Usable, can_call}
+use Rattle.sj_core.specs.declared.callees.Callee.{Callee}
+use Rattle.sj_desugar.specs.Desugar.{member, callee_of}
+use Rattle.sj_names.specs.declared.method_names.MethodName.{MethodName}
+use Rattle.sj_names.specs.declared.method_names.Namespace.TheVariants.{Public}
+use Rattle.sj_trees.specs.Term.{Term, Terms, apply, apply_statically}
+use Rattle.sj_trees.specs.TypeOf.{type_of_term}
+use Rattle.sj_trees.specs.declared.positions.Position.{Position}
+use Rattle.sj_trees.specs.declared.types.IrType.{IrType}
+use Rattle.sj_world.specs.Known.{Classes}
+
+pub record Direct (w : Classes) (has : Usable) (s : Scene) (p : Position) (e : Term) (m : MethodName) (ts : Terms) (t : IrType) : Type 0 where
+  pub is : IsCalled (type_of_term e) m
+  pub there : has.received (has.lookup.target (member is.direct.class Public m)) ≡ true
+  pub checked : may_check has s.sure e ≡ true
+  pub here : Here w has s (apply_statically p e is.direct.class Public m ts t)
+
+pub direct : (w : Classes) (has : Usable) (s : Scene) (p : Position) (e : Term) (m : MethodName) (ts : Terms) (t : IrType) → Here w has s (apply p e m ts t) → Direct w has s p e m ts t
+direct w has s p e m ts t h = record {
+  is = is;
+  there = sym same ∙ its.0;
+  checked = its.1;
+  here = record { meets = (tt, h.meets.1, is.direct.below w, h.meets.2); built = sym (ap (λ b. b && may_check has s.sure e) same) ∙ h.built; finds = h.finds };
+}
+  where
+    its : (can_call has (callee_of (type_of_term e) m) ≡ true) × (may_check has s.sure e ≡ true)
+    its = and_parts (can_call has (callee_of (type_of_term e) m)) (may_check has s.sure e) h.built
+
+    is : IsCalled (type_of_term e) m
+    is = is_called has (type_of_term e) m its.0
+
+    same : can_call has (callee_of (type_of_term e) m) ≡ has.received (has.lookup.target (member is.direct.class Public m))
+    same = ap (can_call has) is.callee

@@ -1,0 +1,67 @@
+-- What a call asks for that a hijacked class decides on.
+use Rattle.std.proofs.Common.{◌≡◌, ◌∙◌, ℕ, Bool, true, false, List, [], ◌∷◌, ◌++◌, Contains, Option, Some, None, codes, refl, sym, ap, subst, if◌then◌else◌}
+use Rattle.std.specs.Prelude.{is_none}
+use Rattle.accepted_folders.proofs.Found.{here}
+use Rattle.sj_core.specs.declared.callees.Callee.{Callee}
+use Rattle.sj_core.specs.declared.callees.Callee.TheVariants as callees
+use Rattle.sj_desugar.specs.Desugar.{member, called_on, named_by, callee_of}
+use Rattle.sj_infos.specs.Infos.{of_apply, of_call, of_receiver, no_such_method}
+use Rattle.sj_infos.specs.Receivers.{receiver_class}
+use Rattle.sj_infos.specs.declared.infos.Info.TheVariants.{Called, Reflective}
+use Rattle.sj_names.specs.declared.method_names.MethodName.{MethodName}
+use Rattle.sj_names.specs.declared.method_names.Namespace.TheVariants.{Public}
+use Rattle.sj_names.specs.declared.references.TypeRef.{TypeRef}
+use Rattle.sj_trees.specs.Term.{Term}
+use Rattle.sj_trees.specs.TypeOf.{type_of_term}
+use Rattle.sj_trees.specs.declared.types.IrType.{IrType}
+use Rattle.sj_world.specs.Known.{Name, is_hijacked}
+
+-- the class is that of a receiver of this type, and hijacked
+record IsItsClass (t : IrType) (c : Name) : Type 0 where
+  receiver : receiver_class t ≡ Some c
+  hijacked : is_hijacked c ≡ true
+
+abbrev class_in : Callee → Name
+class_in (callees.Member k) = k.class
+class_in _ = []
+
+module _ (m : MethodName) (c : Name) where
+  abbrev Calls : Callee → Type 0
+  Calls k = k ≡ callees.Member (member c Public m)
+
+  of_kind : (t : IrType) (k : Name) → receiver_class t ≡ Some k → is_hijacked k ≡ true → Calls (callees.Member (member k Public m)) → IsItsClass t c
+  of_kind t k is h e = let same : k ≡ c = ap class_in e in record { receiver = is ∙ ap Some same; hijacked = subst (λ (n : Name). is_hijacked n ≡ true) same h }
+
+  of_class : (k : Name) → Calls (called_on (IrType.Class k) m) → IsItsClass (IrType.Class k) c
+  of_class k e = go (is_hijacked k) refl e
+    where
+      go : (b : Bool) → is_hijacked k ≡ b → Calls (if b then callees.Member (member k Public m) else callees.LookedUp k m) → IsItsClass (IrType.Class k) c
+      go true h e = of_kind (IrType.Class k) k refl h e
+      go false h e = absurd (cc)
+
+  of_type : (t : IrType) → Calls (called_on t m) → IsItsClass t c
+  of_type IrType.Undefined e = of_kind IrType.Undefined (codes "java.lang.Void") refl refl e
+  of_type IrType.Boolean e = of_kind IrType.Boolean (codes "java.lang.Boolean") refl refl e
+  of_type IrType.Char e = of_kind IrType.Char (codes "java.lang.Character") refl refl e
+  of_type IrType.Byte e = of_kind IrType.Byte (codes "java.lang.Byte") refl refl e
+  of_type IrType.Short e = of_kind IrType.Short (codes "java.lang.Short") refl refl e
+  of_type IrType.Int e = of_kind IrType.Int (codes "java.lang.Integer") refl refl e
+  of_type IrType.Long e = of_kind IrType.Long (codes "java.lang.Long") refl refl e
+  of_type IrType.String e = of_kind IrType.String (codes "java.lang.String") refl refl e
+  of_type (IrType.Class k) e = of_class k e
+  of_type _ e = absurd (cc)
+
+-- the class is hijacked, and the method is asked for in it
+pub record OfHijacked (d : Term) (m : MethodName) (c : Name) : Type 0 where
+  pub hijacked : is_hijacked c ≡ true
+  pub asked : (names : List Name) → Contains (of_apply names d m) (Called c m)
+
+pub of_hijacked : (d : Term) (m : MethodName) (c : Name) → callee_of (type_of_term d) m ≡ callees.Member (member c Public m) → OfHijacked d m c
+of_hijacked d m c e = go m.result refl e
+  where
+    asked_by : (r : TypeRef) → m.result ≡ Some r → IsItsClass (type_of_term d) c → (names : List Name) → Contains (of_apply names d m) (Called c m)
+    asked_by r named its names = subst (λ (o : Option TypeRef). Contains (if is_none o then Reflective m ∷ of_receiver names d ++ no_such_method else of_call m (receiver_class (type_of_term d)) ++ of_receiver names d) (Called c m)) (sym named) (subst (λ (q : Option Name). Contains (of_call m q ++ of_receiver names d) (Called c m)) (sym its.receiver) (here (Called c m) (of_receiver names d)))
+
+    go : (o : Option TypeRef) → m.result ≡ o → named_by o (type_of_term d) m ≡ callees.Member (member c Public m) → OfHijacked d m c
+    go None named e = absurd (cc)
+    go (Some r) named e = let its = of_type m c (type_of_term d) e in record { hijacked = its.hijacked; asked = asked_by r named its }

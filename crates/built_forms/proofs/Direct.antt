@@ -1,0 +1,79 @@
+-- A call that is looked up on a receiver whose class is hijacked is one of the member that this class runs.
+use Rattle.std.proofs.Common.{◌≡◌, ◌∙◌, ℕ, Bool, true, false, List, Option, Some, None, codes, refl, ap, if◌then◌else◌}
+use Rattle.std.specs.Prelude.{nat_eq}
+use Rattle.std.specs.Cmp.Lexicographic.{pointwise}
+use Rattle.std.proofs.lemmas.Bool.{or_right}
+use Rattle.built_forms.specs.Built.{Usable, can_call}
+use Rattle.sj_core.specs.declared.callees.Callee.TheVariants as callees
+use Rattle.sj_desugar.specs.Desugar.{member, called_in, called_on, named_by, callee_of}
+use Rattle.sj_names.proofs.Same.{impossible}
+use Rattle.sj_names.specs.declared.method_names.MethodName.{MethodName}
+use Rattle.sj_names.specs.declared.method_names.Namespace.TheVariants.{Public}
+use Rattle.sj_names.specs.declared.references.TypeRef.{TypeRef}
+use Rattle.sj_trees.specs.Types.{class_type}
+use Rattle.sj_trees.specs.declared.types.IrType.{IrType}
+use Rattle.sj_world.specs.Ancestors.{IsAncestor, by_path}
+use Rattle.sj_world.specs.Calls.{receiver_class}
+use Rattle.sj_world.specs.Known.{Classes, class_of, is_hijacked}
+use Rattle.sj_world.specs.Paths.{stay}
+use Rattle.sj_world.specs.Subtypes.{IsSub, equal, to_any, primitive_to_class, hijacked_class}
+use Rattle.std.specs.Prelude.{is_some}
+
+-- the class of the receiver is hijacked, its values are of it, and it decides what is called
+pub record IsDirect (t : IrType) (m : MethodName) : Type 0 where
+  pub class : List ℕ
+  pub receiver : receiver_class t ≡ Some class
+  pub hijacked : is_hijacked class ≡ true
+  pub called : called_on t m ≡ callees.Member (member class Public m)
+  pub below : (w : Classes) → IsSub w t (class_type class)
+
+-- each hijacked class stands above itself
+itself : (w : Classes) (c : List ℕ) → is_hijacked c ≡ true → IsAncestor w c c
+itself w c h = record { known = or_right (is_some (class_of w c)) (is_hijacked c) h; way = by_path stay }
+
+of_class : (w : Classes) (c : List ℕ) → IsSub w (IrType.Class c) (class_type c)
+of_class w c = go (pointwise nat_eq c (codes "java.lang.Object"))
+  where
+    go : (b : Bool) → IsSub w (IrType.Class c) (if b then IrType.Any else IrType.Class c)
+    go true = to_any refl (λ e. impossible (cc))
+    go false = equal refl
+
+module _ (has : Usable) (m : MethodName) where
+  abbrev Can : IrType → Type 0
+  Can t = can_call has (called_on t m) ≡ true
+
+  of_kind : (t : IrType) (c : List ℕ) → hijacked_class t ≡ Some c → is_hijacked c ≡ true → receiver_class t ≡ Some c → called_on t m ≡ callees.Member (member c Public m) → class_type c ≡ IrType.Class c → IsDirect t m
+  of_kind t c is h r e is_class = record { class = c; receiver = r; hijacked = h; called = e; below = λ w. primitive_to_class c c is is_class (itself w c h) }
+
+  at_class : (c : List ℕ) → Can (IrType.Class c) → IsDirect (IrType.Class c) m
+  at_class c h = go (is_hijacked c) refl h
+    where
+      go : (b : Bool) → is_hijacked c ≡ b → can_call has (if b then callees.Member (member c Public m) else callees.LookedUp c m) ≡ true → IsDirect (IrType.Class c) m
+      go true is h = record { class = c; receiver = refl; hijacked = is; called = ap (λ (b : Bool). if b then callees.Member (member c Public m) else callees.LookedUp c m) is; below = λ w. of_class w c }
+      go false is h = impossible h
+
+  at_type : (t : IrType) → Can t → IsDirect t m
+  at_type IrType.Undefined h = of_kind IrType.Undefined (codes "java.lang.Void") refl refl refl refl refl
+  at_type IrType.Boolean h = of_kind IrType.Boolean (codes "java.lang.Boolean") refl refl refl refl refl
+  at_type IrType.Char h = of_kind IrType.Char (codes "java.lang.Character") refl refl refl refl refl
+  at_type IrType.Byte h = of_kind IrType.Byte (codes "java.lang.Byte") refl refl refl refl refl
+  at_type IrType.Short h = of_kind IrType.Short (codes "java.lang.Short") refl refl refl refl refl
+  at_type IrType.Int h = of_kind IrType.Int (codes "java.lang.Integer") refl refl refl refl refl
+  at_type IrType.Long h = of_kind IrType.Long (codes "java.lang.Long") refl refl refl refl refl
+  at_type IrType.String h = of_kind IrType.String (codes "java.lang.String") refl refl refl refl refl
+  at_type (IrType.Class c) h = at_class c h
+  at_type _ h = impossible h
+
+-- what is called under a name with a result is such a member, where it can be called
+pub record IsCalled (t : IrType) (m : MethodName) : Type 0 where
+  pub direct : IsDirect t m
+  pub result : TypeRef
+  pub named : m.result ≡ Some result
+  pub callee : callee_of t m ≡ callees.Member (member direct.class Public m)
+
+pub is_called : (has : Usable) (t : IrType) (m : MethodName) → can_call has (callee_of t m) ≡ true → IsCalled t m
+is_called has t m h = go m.result refl h
+  where
+    go : (o : Option TypeRef) → m.result ≡ o → can_call has (named_by o t m) ≡ true → IsCalled t m
+    go None e h = impossible h
+    go (Some r) e h = let d = at_type has m t h in record { direct = d; result = r; named = e; callee = ap (λ (o : Option TypeRef). named_by o t m) e ∙ d.called }

@@ -1,0 +1,22 @@
+-- A call that is looked up on a receiver whose class is hijacked runs what this class decides, whatever the value is.
+use Rattle.std.proofs.Common.{◌≡◌, ◌∙◌, Bool, true, List, [], ◌∷◌, Option, Some, refl, ap, if◌then◌else◌}
+use Rattle.ir_mean.specs.Meaning.{Low, call_method, call_virtual, call_on, target_in, is_fixed_class, static_target}
+use Rattle.ir_mean.specs.States.{Value, Env, State, Run}
+use Rattle.ir_mean.specs.World.{World, class_of_value}
+use Rattle.sj_names.specs.declared.method_names.MethodName.{MethodName}
+use Rattle.sj_names.specs.declared.method_names.Namespace.TheVariants.{Public}
+use Rattle.sj_names.specs.declared.references.TypeRef.{TypeRef}
+use Rattle.sj_trees.specs.declared.types.IrType.{IrType}
+use Rattle.sj_world.specs.Calls.{receiver_class}
+use Rattle.sj_world.specs.Known.{Name, is_hijacked}
+
+module _ (w : World) (low : Low) (t : IrType) (m : MethodName) (c : Name) (receiver : receiver_class t ≡ Some c) (hijacked : is_hijacked c ≡ true) where
+  looks : (other : Option Name) → (if is_fixed_class w (receiver_class t) then receiver_class t else other) ≡ Some c
+  looks other = ap (λ (o : Option Name). if is_fixed_class w o then o else other) receiver ∙ ap (λ (b : Bool). if b then Some c else other) hijacked
+
+  runs : (vs : List Value) (env : Env) (s : State) → call_virtual w low t m vs env s ≡ call_on w low (static_target w c Public m) vs env s
+  runs [] env s = refl
+  runs (v ∷ vs) env s = ap (λ (o : Option Name). call_on w low (target_in w o m) (v ∷ vs) env s) (looks (class_of_value s v))
+
+  pub hijacked_call : (r : TypeRef) → m.result ≡ Some r → call_method w low t m m.result ≡ call_on w low (static_target w c Public m)
+  hijacked_call r named = ap (call_method w low t m) named ∙ (λ i vs env s. runs vs env s i)
