@@ -7,8 +7,8 @@ use Rattle.std.proofs.lemmas.List.Elements.{All-nil, All-cons, All-head, All-tai
 use Rattle.ir_mean.specs.Shows.{initializers}
 use Rattle.sj_core.specs.declared.callees.Callee.{Callee}
 use Rattle.sj_core.specs.declared.callees.Callee.TheVariants as callees
-use Rattle.sj_proper.specs.Emitted.{EmittedMethod, initializer_member}
-use Rattle.sj_desugar.specs.Desugar.{member, callee_of}
+use Rattle.sj_judged.specs.Emitted.{EmittedMethod, initializer_member}
+use Rattle.sj_judged.specs.Desugar.{member, callee_of}
 use Rattle.sj_infos.specs.Infos.{asks, asked_by_body}
 use Rattle.sj_infos.specs.Sure.{sure_among}
 use Rattle.sj_infos.specs.Trees.{trees, below, all_below, cases_below}
@@ -18,14 +18,14 @@ use Rattle.sj_names.proofs.Same.{impossible}
 use Rattle.sj_names.specs.Same.{is_same_text}
 use Rattle.sj_names.specs.declared.entry_points.EntryPoint.{EntryPoint}
 use Rattle.sj_names.specs.declared.method_names.Member.{Member}
-use Rattle.built_forms.specs.Built.{Usable}
+use Rattle.sj_judged.specs.Built.{Usable}
 use Rattle.sj_judged.specs.Linked.{has_function, have_functions, functions_of}
 use Rattle.sj_trees.specs.Term.{Term, Terms, no_terms, more_terms, Cases, no_cases, more_cases, var_def, skip, block_of, labeled, assign, return_to, if_then, while_loop, do_while, match_on, apply_statically, apply_static, unary_op, binary_op, as_instance_of, undefined_literal, null_literal, boolean_literal, char_literal, byte_literal, short_literal, int_literal, long_literal, string_literal, var_ref, log_line, apply}
 use Rattle.sj_trees.specs.TypeOf.{type_of_term}
 use Rattle.sj_trees.specs.declared.types.IrType.{IrType}
-use Rattle.built_forms.specs.Built.{can_call, is_operation, can_cast, is_built, are_built, are_built_cases, anything, body_boxes, is_built_body}
-use Rattle.body_rules.proofs.RulesGive.{operation_kept, cast_kept}
-use Rattle.body_rules.specs.Typing.{may_check, is_built_with}
+use Rattle.sj_judged.specs.Built.{can_call, is_operation, can_cast, is_built, are_built, are_built_cases, anything, body_boxes, is_built_body}
+use Rattle.sj_judged.proofs.RulesGive.{operation_kept, cast_kept}
+use Rattle.sj_judged.specs.Typing.{may_check, is_built_with}
 use Rattle.sure_receivers.specs.Sure.{sure_locals}
 use Rattle.sj_names.specs.declared.method_names.MethodName.{MethodName}
 use Rattle.sj_names.specs.declared.method_names.Namespace.{Namespace}
@@ -33,9 +33,9 @@ use Rattle.sj_trees.specs.declared.positions.Position.{Position}
 use Rattle.sj_names.specs.declared.method_names.Namespace.TheVariants.{Public, Private, Constructor}
 use Rattle.sj_world.specs.Known.{Classes}
 use Rattle.sj_world.specs.declared.facts.Fact.TheVariants.{Body}
-use Rattle.reach_rules.proofs.Derivations.{closed}
-use Rattle.reach_rules.specs.Reachable.{Reachable}
-use Rattle.reach_rules.specs.Rules.{entry_member, of_call, of_entry, asked_body}
+use Rattle.folder_verdicts.proofs.Derivations.{closed}
+use Rattle.folder_verdicts.specs.Reachable.{Reachable}
+use Rattle.folder_verdicts.specs.Rules.{entry_member, of_call, of_entry, asked_body}
 use Rattle.folder_verdicts.proofs.EachTyped.{in_all}
 use Rattle.accepted_folders.specs.Bodies.{AreBodies}
 use Rattle.accepted_folders.specs.Laws.{CallsAreAmongBodies, InitializersAreAmongBodies}

@@ -2,14 +2,14 @@
 use Rattle.std.proofs.Common.{◌≡◌, Bool, true, false, List, [], ◌∷◌, Option, Some, None, refl, sym, ap, subst, ◌∙◌, ⊎_elim, Contains, inl, inr}
 use Rattle.std.specs.Prelude.{◌⊎◌}
 use Rattle.std.proofs.lemmas.List.Sorted.{Contains-permutation, IsPermutation-sym}
-use Rattle.sj_proper.specs.Emitted.{EmittedMethod}
+use Rattle.sj_judged.specs.Emitted.{EmittedMethod}
 use Rattle.sj_judged.specs.Files.{HasFunction}
 use Rattle.sj_judged.proofs.Found.{here, there}
 use Rattle.sj_local.specs.Broken.{FirstBroken}
 use Rattle.sj_names.proofs.Same.{impossible}
 use Rattle.sj_names.specs.declared.entry_points.EntryPoint.{EntryPoint}
 use Rattle.sj_names.specs.declared.method_names.Member.{Member}
-use Rattle.sj_proper.specs.Emitted.{HaveOwnMembers}
+use Rattle.sj_judged.specs.Emitted.{HaveOwnMembers}
 use Rattle.sj_judged.proofs.Same.{has_function-is}
 use Rattle.sj_judged.specs.Linked.{has_function}
 use Rattle.sj_trees.specs.Term.{Term}
@@ -19,8 +19,8 @@ use Rattle.sj_world.specs.Known.{Classes}
 use Rattle.sj_world.specs.Members.{IsMethodOf}
 use Rattle.sj_world.specs.declared.facts.Fact.{Fact}
 use Rattle.sj_world.specs.declared.facts.Fact.TheVariants.{Body}
-use Rattle.reach_rules.specs.Reachable.{Reachable, Unresolved}
-use Rattle.reach_rules.specs.Refusals.{Refusal}
+use Rattle.folder_verdicts.specs.Reachable.{Reachable, Unresolved}
+use Rattle.folder_verdicts.specs.Refusals.{Refusal}
 use Rattle.folder_verdicts.proofs.Defined.{reached_is_defined, has_body}
 use Rattle.folder_verdicts.proofs.EachTyped.{Candidate, candidates, listed}
 use Rattle.folder_verdicts.proofs.Undenied.{Undenied, granted, and_so, decided, first_or_later}

@@ -2,7 +2,7 @@
 use Rattle.std.proofs.Common.{◌≡◌, ℕ, List, Some, refl, sym, ap, ◌∙◌, Contains, slice_get}
 use Rattle.std.proofs.lemmas.List.Sorted.{Contains-permutation, IsPermutation-sym}
 use Rattle.std.proofs.lemmas.Option.{slice_get-get_or}
-use Rattle.file_listings.specs.Listed.{AreBytes}
+use Rattle.sj_judged.specs.Listed.{AreBytes}
 use Rattle.sj_names.specs.declared.entry_points.EntryPoint.{EntryPoint}
 use Rattle.sj_names.specs.declared.folders.SourceFile.{SourceFile}
 use Rattle.sj_trees.specs.declared.classes.ClassDef.{ClassDef}
@@ -10,8 +10,8 @@ use Rattle.sj_judged.specs.Judged.{IsJudgedClass}
 use Rattle.sj_world.proofs.Searches.{contains_at}
 use Rattle.sj_world.specs.Known.{Classes}
 use Rattle.sj_world.specs.Refusals.{IsWorldOf}
-use Rattle.reach_rules.specs.Reachable.{Unresolved}
-use Rattle.reach_rules.specs.Refusals.{Refusal}
+use Rattle.folder_verdicts.specs.Reachable.{Unresolved}
+use Rattle.folder_verdicts.specs.Refusals.{Refusal}
 use Rattle.folder_verdicts.specs.Stages.{AreTyped}
 use Rattle.folder_verdicts.specs.Verdicts as verdicts
 use Rattle.folder_verdicts.specs.Verdicts.{Verdict, accepted, refused, ByTypes, ByReferences, ByCycles, ByLocalRules, ByNames, ByFiles, IsVerdict}

@@ -5,8 +5,8 @@ use Rattle.sj_names.specs.declared.entry_points.EntryPoint.{EntryPoint}
 use Rattle.sj_names.specs.declared.folders.SourceFile.{SourceFile}
 use Rattle.sj_world.specs.Known.{Name, Classes}
 use Rattle.sj_world.specs.Refusals.{IsTwice, IsWorldOf}
-use Rattle.reach_rules.specs.Reachable.{Unresolved}
-use Rattle.reach_rules.specs.Refusals.{Refusal}
+use Rattle.folder_verdicts.specs.Reachable.{Unresolved}
+use Rattle.folder_verdicts.specs.Refusals.{Refusal}
 use Rattle.folder_sizes.specs.Files.{sizes}
 use Rattle.folder_verdicts.specs.Stages.{AreRead, KeepRules, AreTyped}
 

@@ -6,10 +6,10 @@ use Rattle.sj_names.specs.declared.entry_points.EntryPoint.{EntryPoint}
 use Rattle.sj_names.specs.declared.method_names.Member.{Member}
 use Rattle.sj_world.specs.Known.{Classes}
 use Rattle.sj_world.specs.declared.facts.Fact.TheVariants.{Body}
-use Rattle.reach_rules.specs.Reachable.{Reachable}
-use Rattle.sj_proper.specs.Emitted.{EmittedMethod}
+use Rattle.folder_verdicts.specs.Reachable.{Reachable}
+use Rattle.sj_judged.specs.Emitted.{EmittedMethod}
 use Rattle.sj_judged.specs.Files.{HasFunction}
-use Rattle.sj_proper.specs.Emitted.{HaveOwnMembers}
+use Rattle.sj_judged.specs.Emitted.{HaveOwnMembers}
 
 -- the definition is that of its member in the classes, and the body is its body
 pub record IsFound (w : Classes) (e : EmittedMethod) : Type 0 where

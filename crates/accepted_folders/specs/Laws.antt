@@ -1,17 +1,17 @@
 -- Laws of folders that are accepted.
 use Rattle.std.specs.Prelude.{◌≡◌, ◌↔◌, ℕ, true, List, [], ◌∷◌}
 use Rattle.std.specs.List.{Contains}
-use Rattle.file_listings.specs.Listed.{AreBytes}
+use Rattle.sj_judged.specs.Listed.{AreBytes}
 use Rattle.ir_mean.specs.Shows.{initializers}
 use Rattle.js_mean.specs.Shows.{file_of}
 use Rattle.js_tree.specs.Spelling.{Spells}
-use Rattle.sj_agree.specs.Agrees.{Agrees}
-use Rattle.sj_proper.specs.Emitted.{EmittedMethod, module_with}
+use Rattle.sj_judged.specs.Agrees.{Agrees}
+use Rattle.sj_judged.specs.Emitted.{EmittedMethod, module_with}
 use Rattle.sj_names.specs.declared.entry_points.EntryPoint.{EntryPoint}
 use Rattle.sj_names.specs.declared.folders.SourceFile.{SourceFile}
 use Rattle.sj_judged.specs.Linked.{functions_of, have_functions}
-use Rattle.built_forms.specs.Built.{is_built_body}
-use Rattle.body_rules.specs.Typing.{is_built_with}
+use Rattle.sj_judged.specs.Built.{is_built_body}
+use Rattle.sj_judged.specs.Typing.{is_built_with}
 use Rattle.sj_world.specs.Known.{Classes}
 use Rattle.folder_verdicts.specs.Verdicts.{IsVerdict, accepted}
 use Rattle.accepted_folders.specs.Accepted.{IsAccepted}

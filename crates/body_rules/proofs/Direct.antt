@@ -4,15 +4,15 @@ use Rattle.std.proofs.lemmas.Bool.{and_parts}
 use Rattle.body_rules.specs.Typing.{Scene, Here, may_check}
 use Rattle.built_forms.proofs.Direct.{IsCalled, is_called}
 use Rattle.built_forms.specs.Built.{Usable, can_call}
-use Rattle.sj_core.specs.declared.callees.Callee.{Callee}
-use Rattle.sj_desugar.specs.Desugar.{member, callee_of}
+use Rattle.sj_emit_expr.specs.Callee.{Callee}
+use Rattle.sj_emit_expr.specs.Desugar.{member, callee_of}
 use Rattle.sj_names.specs.declared.method_names.MethodName.{MethodName}
 use Rattle.sj_names.specs.declared.method_names.Namespace.TheVariants.{Public}
 use Rattle.sj_trees.specs.Term.{Term, Terms, apply, apply_statically}
 use Rattle.sj_trees.specs.TypeOf.{type_of_term}
 use Rattle.sj_trees.specs.declared.positions.Position.{Position}
 use Rattle.sj_trees.specs.declared.types.IrType.{IrType}
-use Rattle.sj_world.specs.Known.{Classes}
+use Rattle.sj_emit_expr.specs.Known.{Classes}
 
 pub record Direct (w : Classes) (has : Usable) (s : Scene) (p : Position) (e : Term) (m : MethodName) (ts : Terms) (t : IrType) : Type 0 where
   pub is : IsCalled (type_of_term e) m

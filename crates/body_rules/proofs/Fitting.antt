@@ -3,8 +3,8 @@ use Rattle.std.proofs.Common.{◌≡◌, ℕ, Bool, true, false, ◌&&◌, List,
 use Rattle.std.specs.Prelude.{not, ◌||◌}
 use Rattle.built_forms.specs.Boxes.{is_boxed, operands_are_boxed}
 use Rattle.built_forms.specs.Built.{Usable, may_make, divides}
-use Rattle.sj_desugar.specs.Coercions.{is_char}
-use Rattle.sj_desugar.specs.Desugar.{has_no_value}
+use Rattle.sj_emit_expr.specs.Coercions.{is_char}
+use Rattle.sj_emit_expr.specs.Desugar.{has_no_value}
 use Rattle.sj_trees.specs.Term.{Term, boolean_literal}
 use Rattle.sj_trees.specs.TypeOf.{type_of_term, loop_type, unary_result, binary_result}
 use Rattle.sj_trees.specs.declared.operators.BinaryOp.{BinaryOp}
@@ -23,8 +23,8 @@ use Rattle.sj_names.specs.Same.{is_same_text}
 use Rattle.body_rules.specs.Subtyping.{is_lowest, IsSubtyping}
 use Rattle.body_rules.specs.Locals.{HasValue}
 use Rattle.body_rules.proofs.RulesGive.{Takes, its_types, texts, of_division, of_identity, each_made}
-use Rattle.sj_world.specs.Known.{Classes}
-use Rattle.sj_world.specs.Subtypes.{IsSub}
+use Rattle.sj_emit_expr.specs.Known.{Classes}
+use Rattle.sj_emit_expr.specs.Subtypes.{IsSub}
 
 pub value-not : (t : IrType) → HasValue t → t ≡ NoType → ⊥
 value-not t h e = impossible (sym h ∙ ap has_no_value e)

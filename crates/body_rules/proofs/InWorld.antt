@@ -1,14 +1,14 @@
 -- The subtypes of a world have the properties that are asked of subtyping.
 use Rattle.std.proofs.Common.{◌≡◌, Bool, true, false, Option, Some, None, refl, sym, ap, ◌∙◌, subst, ◌⊎◌, inl, inr}
-use Rattle.sj_desugar.specs.Coercions.{is_char}
+use Rattle.sj_emit_expr.specs.Coercions.{is_char}
 use Rattle.sj_names.specs.Same.{is_same_text}
 use Rattle.sj_trees.specs.declared.types.IrType.{IrType}
 use Rattle.sj_trees.specs.declared.types.IrType.TheVariants.{Any, Nothing, Undefined, Boolean, Char, Byte, Short, Int, Long, String, Class, Null, Array, NoType}
-use Rattle.sj_world.proofs.LawsHold.{subtypes_transitive}
-use Rattle.sj_world.specs.Known.{Name, Classes}
-use Rattle.sj_world.specs.Ancestors.{IsAncestor}
-use Rattle.sj_world.specs.Laws.{IsPlain}
-use Rattle.sj_world.specs.Subtypes.{hijacked_class, IsSub, equal, from_nothing, to_any, null_to_class, null_to_array, class_to_class, primitive_to_class, arrays_alike, arrays_of_arrays}
+use Rattle.sj_emit_expr.proofs.LawsHold.{subtypes_transitive}
+use Rattle.sj_emit_expr.specs.Known.{Name, Classes}
+use Rattle.sj_emit_expr.specs.Ancestors.{IsAncestor}
+use Rattle.sj_emit_expr.specs.Laws.{IsPlain}
+use Rattle.sj_emit_expr.specs.Subtypes.{hijacked_class, IsSub, equal, from_nothing, to_any, null_to_class, null_to_array, class_to_class, primitive_to_class, arrays_alike, arrays_of_arrays}
 use Rattle.sj_names.proofs.Same.{impossible, text-same, text-refl}
 use Rattle.body_rules.proofs.Topped.{string_class, topped, string_alone}
 use Rattle.body_rules.specs.Standing.{is_bare}

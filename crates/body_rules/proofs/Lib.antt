@@ -9,3 +9,7 @@ pub mod Plain
 pub mod RulesGive
 pub mod Standing
 pub mod Topped
+pub use Rattle.built_forms.proofs.Around
+pub use Rattle.built_forms.proofs.Statics
+pub use Rattle.built_forms.proofs.Targets
+pub use Rattle.built_forms.proofs.Direct as BuiltFormsDirect

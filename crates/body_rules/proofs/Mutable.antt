@@ -2,8 +2,8 @@
 use Rattle.std.proofs.Common.{◌≡◌, ℕ, Bool, true, false, List, [], ◌∷◌, ◌++◌, ◌||◌, refl, sym, ap, ◌∙◌, subst, append_assoc}
 use Rattle.std.specs.Prelude.{Some, nat_eq, if◌then◌else◌}
 use Rattle.std.specs.Cmp.Lexicographic.{pointwise}
-use Rattle.sj_desugar.specs.Desugar.{is_mutable_in}
-use Rattle.sj_desugar.specs.Plain.{is_among, if_mutable, mutable_in, mutable_in_all, mutable_in_cases, mutable_params}
+use Rattle.sj_emit_expr.specs.Desugar.{is_mutable_in}
+use Rattle.sj_emit_expr.specs.Plain.{is_among, if_mutable, mutable_in, mutable_in_all, mutable_in_cases, mutable_params}
 use Rattle.sj_trees.specs.Term.{Term, Terms, no_terms, more_terms, Cases, no_cases, more_cases, var_def, block_of, labeled, assign, return_to, if_then, while_loop, do_while, try_catch, try_finally, throw, match_on, new_object, store_module, select, apply, apply_statically, apply_static, unary_op, binary_op, new_array, array_value, array_length, array_select, is_instance_of, as_instance_of, log_line}
 use Rattle.sj_trees.specs.declared.classes.MethodDef.{MethodDef}
 use Rattle.sj_trees.specs.declared.classes.ParamDef.{ParamDef}

@@ -11,9 +11,9 @@ use Rattle.sj_local.specs.Names.{is_some_name}
 use Rattle.sj_names.proofs.Same.{impossible, text-same}
 use Rattle.sj_names.specs.WellKnown.{is_object}
 use Rattle.sj_trees.specs.declared.classes.ClassDef.{ClassDef}
-use Rattle.sj_world.specs.Ancestors.{listed, written, written_in}
-use Rattle.sj_world.specs.Known.{Name, Classes, is_same, class_of, is_hijacked, object}
-use Rattle.sj_world.specs.Laws.{IsPlain}
+use Rattle.sj_emit_expr.specs.Ancestors.{listed, written, written_in}
+use Rattle.sj_emit_expr.specs.Known.{Name, Classes, is_same, class_of, is_hijacked, object}
+use Rattle.sj_emit_expr.specs.Laws.{IsPlain}
 
 -- the class that is found by a name has it
 pub class_found : (w : Classes) (n : Name) (c : ClassDef) → class_of w n ≡ Some c → Contains w c × (c.name ≡ n)

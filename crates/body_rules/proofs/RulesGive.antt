@@ -5,7 +5,7 @@ use Rattle.std.specs.Cmp.Lexicographic.{pointwise}
 use Rattle.std.specs.Ordering.{int_eq}
 use Rattle.built_forms.specs.Boxes.{is_boxed, any_is_boxed}
 use Rattle.built_forms.specs.Built.{Usable, can_box, may_make, is_nonzero_int, is_nonzero_long, divides, compares, can_cast, is_operation, members_alone}
-use Rattle.sj_desugar.specs.Desugar.{has_no_value}
+use Rattle.sj_emit_expr.specs.Desugar.{has_no_value}
 use Rattle.sj_names.proofs.Same.{impossible}
 use Rattle.sj_names.specs.declared.method_names.Member.{Member}
 use Rattle.sj_names.specs.declared.references.TypeRef.{TypeRef}
@@ -21,8 +21,8 @@ use Rattle.sj_trees.specs.declared.operators.BinaryOp.{BinaryOp}
 use Rattle.sj_trees.specs.declared.operators.BinaryOp.TheVariants.{StrictEqual, StrictNotEqual, StringConcatenate, IntDivide, IntRemainder, LongDivide, LongRemainder}
 use Rattle.sj_trees.specs.declared.types.IrType.{IrType}
 use Rattle.sj_trees.specs.declared.types.IrType.TheVariants.{Any}
-use Rattle.sj_world.specs.Known.{Classes}
-use Rattle.sj_world.specs.Subtypes.{IsSub}
+use Rattle.sj_emit_expr.specs.Known.{Classes}
+use Rattle.sj_emit_expr.specs.Subtypes.{IsSub}
 use Rattle.built_forms.specs.Rules as rules
 
 -- the operands of an operator: of its own types, texts that are joined, those of a division whose helper can be used, or of any type where identity can be asked

@@ -2,8 +2,8 @@
 use Rattle.std.proofs.Common.{◌≡◌, Bool, true, false, List, [], ◌∷◌, refl, ap}
 use Rattle.std.specs.Prelude.{if◌then◌else◌, not, ◌||◌, codes}
 use Rattle.body_rules.specs.Standing.{is_bare, Fits, FitAll, types_referred, NoBox}
-use Rattle.sj_core.specs.Terms as core
-use Rattle.sj_desugar.specs.Coercions.{coerced, coerced_arguments}
+use Rattle.sj_emit_expr.specs.Terms as core
+use Rattle.sj_emit_expr.specs.Coercions.{coerced, coerced_arguments}
 use Rattle.sj_names.proofs.Same.{impossible}
 use Rattle.sj_names.specs.declared.references.TypeRef.{TypeRef}
 use Rattle.sj_trees.specs.Types.{reference_type}

@@ -5,10 +5,10 @@ use Rattle.std.specs.Prelude.{if◌then◌else◌}
 use Rattle.body_rules.proofs.Lists.{nothing_in, in_front_or_behind, from_filter}
 use Rattle.sj_names.proofs.Same.{impossible}
 use Rattle.sj_trees.specs.declared.classes.ClassDef.{ClassDef}
-use Rattle.sj_world.specs.Ancestors.{listed, superclass_of_absent, above_in, written_in, directly_above, IsParent, Way, by_path, is_object, IsAncestor}
-use Rattle.sj_world.specs.Known.{Name, Classes, class_of, is_known, is_hijacked, stands_as, object}
-use Rattle.sj_world.specs.Laws.{IsTopped, IsPlain}
-use Rattle.sj_world.specs.Paths.{Path, stay, on}
+use Rattle.sj_emit_expr.specs.Ancestors.{listed, superclass_of_absent, above_in, written_in, directly_above, IsParent, Way, by_path, is_object, IsAncestor}
+use Rattle.sj_emit_expr.specs.Known.{Name, Classes, class_of, is_known, is_hijacked, stands_as, object}
+use Rattle.sj_emit_expr.specs.Laws.{IsTopped, IsPlain}
+use Rattle.sj_emit_expr.specs.Paths.{Path, stay, on}
 
 abbrev pub string_class : Name
 string_class = codes "java.lang.String"

@@ -3,7 +3,7 @@
 pub use Rattle.built_forms.specs.Rules.{call_type}
 use Rattle.std.specs.Prelude.{◌≡◌, Bool, true, false, ◌&&◌, ◌||◌, not, List, [], ◌∷◌, codes}
 use Rattle.built_forms.specs.Built.{Usable, may_make}
-use Rattle.sj_desugar.specs.Coercions.{is_char}
+use Rattle.sj_emit_expr.specs.Coercions.{is_char}
 use Rattle.sj_names.specs.Same.{is_same_text}
 use Rattle.sj_names.specs.declared.references.TypeRef.{TypeRef}
 use Rattle.sj_trees.specs.Types.{reference_type}

@@ -1,7 +1,7 @@
 -- What is asked of a relation of subtypes.
 use Rattle.std.specs.Prelude.{◌≡◌, Bool, true, false, ◌⊎◌}
 use Rattle.body_rules.specs.Standing.{is_bare}
-use Rattle.sj_desugar.specs.Coercions.{is_char}
+use Rattle.sj_emit_expr.specs.Coercions.{is_char}
 use Rattle.sj_trees.specs.declared.types.IrType.{IrType}
 use Rattle.sj_trees.specs.declared.types.IrType.TheVariants.{Nothing, Undefined, Boolean, Char, Byte, Short, Int, Long, String, NoType}
 

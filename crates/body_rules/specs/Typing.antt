@@ -5,7 +5,7 @@ use Rattle.built_forms.specs.Built.{Usable, stands, is_built_method}
 use Rattle.sj_emit_expr.specs.Templates.{check_name}
 use Rattle.sj_names.specs.declared.method_names.Namespace.{Namespace}
 use Rattle.sj_names.specs.declared.method_names.Namespace.TheVariants.{PublicStatic, PrivateStatic}
-use Rattle.sure_receivers.specs.Sure.{is_sure, sure_locals}
+use Rattle.sj_emit_expr.specs.Sure.{is_sure, sure_locals}
 use Rattle.sj_names.specs.declared.references.TypeRef.{TypeRef}
 use Rattle.body_rules.specs.Locals.{Own, OwnAll, local_of, HasValue}
 use Rattle.sj_trees.specs.Term.{Term, Terms, no_terms, more_terms, Cases, no_cases, more_cases, var_def, block_of, labeled, assign, return_to, if_then, while_loop, do_while, match_on, throw, new_object, select, select_static, apply, apply_statically, this_ref, apply_static, unary_op, binary_op, is_instance_of, as_instance_of, boolean_literal, char_literal, byte_literal, short_literal, int_literal, long_literal, var_ref, log_line}
@@ -15,7 +15,7 @@ use Rattle.sj_trees.specs.declared.classes.ParamDef.{ParamDef}
 use Rattle.sj_trees.specs.declared.positions.Position.{Position}
 use Rattle.sj_trees.specs.declared.types.IrType.{IrType}
 use Rattle.sj_trees.specs.declared.types.IrType.TheVariants.{NoType}
-use Rattle.sj_world.specs.Known.{Classes}
+use Rattle.sj_emit_expr.specs.Known.{Classes}
 use Rattle.built_forms.specs.Label.{Label}
 use Rattle.built_forms.specs.Nodes.{inside}
 use Rattle.built_forms.specs.Rules.{Meets, Yields}

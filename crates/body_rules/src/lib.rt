@@ -5,9 +5,9 @@
 #![tactic(auto)]
 
 ghost use Rattle.body_rules.specs.Subtyping.{IsSubtyping};
-ghost use Rattle.sj_world.specs.Known.{Classes};
-ghost use Rattle.sj_world.specs.Laws.{IsPlain};
-ghost use Rattle.sj_world.specs.Subtypes.{IsSub};
+ghost use Rattle.sj_emit_expr.specs.Known.{Classes};
+ghost use Rattle.sj_emit_expr.specs.Laws.{IsPlain};
+ghost use Rattle.sj_emit_expr.specs.Subtypes.{IsSub};
 
 /// Subtyping in a world where no class writes a hijacked class or stands above `java.lang.Object` has the properties that are asked of subtyping.
 pub fn subtypes_of_worlds_are_ordered()

@@ -3,8 +3,8 @@ use Rattle.body_soundness.proofs.Chains.{on_chain, no_primitive, class_hijacked}
 use Rattle.body_soundness.proofs.Lengths.{chain_of_has}
 use Rattle.body_soundness.specs.Laws.{ObjectLaws}
 use Rattle.body_soundness.specs.Worlds.{ObjectWorld}
-use Rattle.built_forms.specs.Built.{Usable}
-use Rattle.sj_world.specs.Known.{Classes}
+use Rattle.sj_proper.specs.Built.{Usable}
+use Rattle.dispatch_laws.specs.Known.{Classes}
 
 pub laws_of : (w : Classes) (has : Usable) → ObjectWorld w has → ObjectLaws w has
 laws_of w has h = record {

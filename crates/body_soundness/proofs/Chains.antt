@@ -4,9 +4,9 @@ use Rattle.std.specs.Prelude.{not, is_some}
 use Rattle.std.specs.List.{list_any}
 use Rattle.std.proofs.lemmas.Bool.{and_parts}
 use Rattle.std.proofs.lemmas.List.Elements.{Contains-append_cases}
-use Rattle.body_rules.proofs.Lists.{nothing_in, in_front_or_behind, from_filter}
-use Rattle.body_rules.proofs.Plain.{class_found, plain_world}
-use Rattle.body_rules.proofs.Topped.{absent_above}
+use Rattle.sj_proper.proofs.Lists.{nothing_in, in_front_or_behind, from_filter}
+use Rattle.sj_proper.proofs.Plain.{class_found, plain_world}
+use Rattle.sj_proper.proofs.Topped.{absent_above}
 use Rattle.body_soundness.specs.Worlds.{AreClassesKept, HasFields, WritesInterfaces}
 use Rattle.sj_local.specs.ClassRules.{is_empty, is_class, is_interface, is_hijacked_kind, is_rightly_hijacked, is_right_number, keeps_superclass, keeps_hijacked}
 use Rattle.sj_local.specs.MemberRules.{has_no_fields, breaks_field}
@@ -18,11 +18,11 @@ use Rattle.sj_trees.specs.declared.classes.ClassDef.{ClassDef}
 use Rattle.sj_trees.specs.declared.classes.FieldDef.{FieldDef}
 use Rattle.sj_trees.specs.declared.types.IrType.{IrType}
 use Rattle.sj_trees.specs.declared.types.IrType.TheVariants.{Any, Nothing, Null, Array, Class}
-use Rattle.sj_world.specs.Ancestors.{listed, superclass_in, above_in, written_in, directly_above, IsParent, Way, by_path, is_object as is_top, IsOnChain}
-use Rattle.sj_world.specs.Known.{Name, Classes, is_same, class_of, is_known, is_hijacked, stands_as, integer}
-use Rattle.sj_world.specs.Laws.{IsPlain}
-use Rattle.sj_world.specs.Paths.{Path, stay, on}
-use Rattle.sj_world.specs.Subtypes.{hijacked_class, IsSub, equal, from_nothing, to_any, null_to_class, null_to_array, class_to_class, primitive_to_class, arrays_alike, arrays_of_arrays}
+use Rattle.dispatch_laws.specs.Ancestors.{listed, superclass_in, above_in, written_in, directly_above, IsParent, Way, by_path, is_object as is_top, IsOnChain}
+use Rattle.dispatch_laws.specs.Known.{Name, Classes, is_same, class_of, is_known, is_hijacked, stands_as, integer}
+use Rattle.dispatch_laws.specs.SjWorldLaws.{IsPlain}
+use Rattle.dispatch_laws.specs.Paths.{Path, stay, on}
+use Rattle.dispatch_laws.specs.Subtypes.{hijacked_class, IsSub, equal, from_nothing, to_any, null_to_class, null_to_array, class_to_class, primitive_to_class, arrays_alike, arrays_of_arrays}
 
 either_false : (a b : Bool) → (a || b) ≡ true → a ≡ false → b ≡ true
 either_false true b h k = impossible (sym k)

@@ -2,22 +2,22 @@
 use Rattle.std.proofs.Common.{◌≡◌, Bool, true, false, ◌&&◌, ◌||◌, ℕ, List, Option, Some, codes, refl, sym, subst, ◌⊎◌, inl, inr}
 use Rattle.std.specs.Prelude.{ℤ, pos, negsuc, int_le, is_some, slice_get}
 use Rattle.std.proofs.lemmas.Bool.{and_parts, or_cases, or_right}
-use Rattle.body_rules.specs.Subtyping.{IsSubtyping}
+use Rattle.sj_proper.specs.Subtyping.{IsSubtyping}
 use Rattle.body_soundness.proofs.Values.{Classes, IsOf, HasType, has_type, of_undefined, of_null, of_boolean, of_char, of_long, of_byte, of_short, of_int, of_text, of_object}
-use Rattle.ir_mean.proofs.AncestorsFound.{ancestors_are_worked_out}
-use Rattle.ir_mean.specs.Dispatch.{is_ancestor, is_ancestor_of_any, is_small}
-use Rattle.ir_mean.specs.Meaning.{is_instance_value}
-use Rattle.ir_mean.specs.States as ir
-use Rattle.ir_mean.specs.World.{World, is_instance, is_array, is_array_value, stored_class, is_of_type}
+use Rattle.dispatch_laws.proofs.AncestorsFound.{ancestors_are_worked_out}
+use Rattle.dispatch_laws.specs.Dispatch.{is_ancestor, is_ancestor_of_any, is_small}
+use Rattle.dispatch_laws.specs.Meaning.{is_instance_value}
+use Rattle.dispatch_laws.specs.States as ir
+use Rattle.dispatch_laws.specs.World.{World, is_instance, is_array, is_array_value, stored_class, is_of_type}
 use Rattle.sj_names.proofs.Same.{impossible, text-same}
 use Rattle.sj_names.specs.Same.{is_same_text}
 use Rattle.sj_names.specs.declared.references.ArrayRef.{ArrayRef}
 use Rattle.sj_trees.specs.declared.types.IrType.{IrType}
 use Rattle.sj_trees.specs.declared.types.IrType.TheVariants.{Any, Undefined, Boolean, Char, Byte, Short, Int, Long, String, Class, Array}
-use Rattle.sj_world.specs.Ancestors.{IsAncestor, by_path}
-use Rattle.sj_world.specs.Known as known
-use Rattle.sj_world.specs.Paths.{stay}
-use Rattle.sj_world.specs.Subtypes.{hijacked_class, IsSub, class_to_class, primitive_to_class}
+use Rattle.dispatch_laws.specs.Ancestors.{IsAncestor, by_path}
+use Rattle.dispatch_laws.specs.Known as known
+use Rattle.dispatch_laws.specs.Paths.{stay}
+use Rattle.dispatch_laws.specs.Subtypes.{hijacked_class, IsSub, class_to_class, primitive_to_class}
 
 -- an object of the class stands there
 pub data IsObject (c : List ℕ) : Option ir.Stored → Type 0 where

@@ -2,20 +2,20 @@
 use Rattle.std.proofs.Common.{◌≡◌, ◌≤◌, ◌<◌, ℕ, zero, suc, length, Bool, true, false, ◌||◌, List, [], ◌∷◌, Contains, Option, Some, None, refl, sym, subst, arith, if◌then◌else◌}
 use Rattle.std.specs.List.{list_any}
 use Rattle.std.proofs.lemmas.List.Elements.{Contains-append_left}
-use Rattle.body_rules.proofs.Lists.{at_front}
-use Rattle.body_rules.proofs.Plain.{plain_world}
+use Rattle.sj_proper.proofs.Lists.{at_front}
+use Rattle.sj_proper.proofs.Plain.{plain_world}
 use Rattle.body_soundness.proofs.Chains.{stands_itself}
 use Rattle.body_soundness.specs.Worlds.{AreClassesKept}
-use Rattle.ir_mean.specs.Dispatch.{chain_from, chain_of, longest}
+use Rattle.dispatch_laws.specs.Dispatch.{chain_from, chain_of, longest}
 use Rattle.sj_names.proofs.Same.{impossible, text-same, text-refl}
 use Rattle.sj_names.specs.Same.{is_same_text}
 use Rattle.sj_trees.specs.declared.classes.ClassDef.{ClassDef}
-use Rattle.sj_world.proofs.LawsHold.{joined}
-use Rattle.sj_world.specs.Ancestors.{listed, written_in, superclass_in, next_on_chain, IsWritten, IsNext, IsOnChain}
-use Rattle.sj_world.specs.Known.{Name, Classes, is_same, class_of, is_hijacked, object}
-use Rattle.sj_world.specs.Laws.{IsPlain}
-use Rattle.sj_world.specs.Paths.{Path, stay, on}
-use Rattle.sj_world.specs.Refusals.{HasNoCycle}
+use Rattle.dispatch_laws.proofs.LawsHold.{joined}
+use Rattle.dispatch_laws.specs.Ancestors.{listed, written_in, superclass_in, next_on_chain, IsWritten, IsNext, IsOnChain}
+use Rattle.dispatch_laws.specs.Known.{Name, Classes, is_same, class_of, is_hijacked, object}
+use Rattle.dispatch_laws.specs.SjWorldLaws.{IsPlain}
+use Rattle.dispatch_laws.specs.Paths.{Path, stay, on}
+use Rattle.dispatch_laws.specs.Refusals.{HasNoCycle}
 
 -- the classes whose names aren't among these
 abbrev pub unseen : List Name → Classes → ℕ

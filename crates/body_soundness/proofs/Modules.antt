@@ -1,18 +1,18 @@
 -- What a public module shows is wrong at no bound, where its members keep the rules.
 use Rattle.std.proofs.Common.{◌≡◌, ℕ, Bool, true, false, List, [], ◌∷◌, Some, None, Option, slice_get, refl, sym, subst, Contains}
-use Rattle.body_rules.proofs.InWorld.{in_world}
-use Rattle.body_rules.proofs.Lists.{at_front, further_on}
-use Rattle.body_rules.proofs.RulesGive.{no_division}
+use Rattle.sj_proper.proofs.InWorld.{in_world}
+use Rattle.sj_proper.proofs.Lists.{at_front, further_on}
+use Rattle.sj_proper.proofs.RulesGive.{no_division}
 use Rattle.body_soundness.proofs.Right.{Comes, comes_then, CameRight, gave, left, threw, ObjectTyped, typed_object, HoldsType, holds_type, zero_type, HeapTyped, call_right, bodies_right, none_left, nothing_there, no_label, no_object, Ready}
 use Rattle.body_soundness.proofs.Values.{Classes, HasType, has_type, of_undefined, of_null, of_boolean, of_char, of_long, of_byte, of_short, of_int, of_text, of_object}
 use Rattle.body_soundness.specs.Laws.{ObjectLaws, HasReceivers, reads, calls}
 use Rattle.body_soundness.specs.Rules.{RightMember}
-use Rattle.body_rules.specs.Typing.{Scene}
-use Rattle.built_forms.specs.Built.{Usable, members_alone}
-use Rattle.ir_mean.specs.Meaning as ir_meaning
-use Rattle.ir_mean.specs.Shows as ir_showing
-use Rattle.ir_mean.specs.States as ir
-use Rattle.ir_mean.specs.World.{World, opening, zero_of}
+use Rattle.sj_proper.specs.Typing.{Scene}
+use Rattle.sj_proper.specs.Built.{Usable, members_alone}
+use Rattle.dispatch_laws.specs.Meaning as ir_meaning
+use Rattle.dispatch_laws.specs.Shows as ir_showing
+use Rattle.dispatch_laws.specs.States as ir
+use Rattle.dispatch_laws.specs.World.{World, opening, zero_of}
 use Rattle.outcomes.specs.Agreement.{IsNotWrong}
 use Rattle.outcomes.specs.Outcome.{End, Done, Going, Wrong}
 use Rattle.sj_names.proofs.Same.{impossible}
@@ -21,8 +21,8 @@ use Rattle.sj_names.specs.declared.method_names.Member.{Member}
 use Rattle.sj_names.specs.declared.method_names.Namespace.TheVariants.{PublicStatic}
 use Rattle.sj_proper.specs.Emitted.{initializer_member}
 use Rattle.sj_trees.specs.declared.types.IrType.TheVariants.{Any, NoType}
-use Rattle.sj_world.specs.Laws.{IsPlain}
-use Rattle.sj_world.specs.Subtypes.{IsSub}
+use Rattle.dispatch_laws.specs.SjWorldLaws.{IsPlain}
+use Rattle.dispatch_laws.specs.Subtypes.{IsSub}
 
 -- not wrong, whatever it comes to
 abbrev Fine : {A : Type 0} → End A → Type 0

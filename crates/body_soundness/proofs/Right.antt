@@ -8,22 +8,22 @@ use Rattle.std.specs.List.{list_any}
 use Rattle.std.specs.Ordering.{int_eq}
 use Rattle.outcomes.specs.Outcome.{Lines, End, Done, Going, Wrong, Out, then_do, after}
 use Rattle.dispatch_laws.proofs.OwnTargets.{own_target}
-use Rattle.ir_mean.specs.Dispatch.{chain_of}
-use Rattle.ir_mean.specs.Meaning as ir_meaning
-use Rattle.ir_mean.specs.Operators.{Answer, answers, unary_value, binary_value}
-use Rattle.ir_mean.specs.States as ir
+use Rattle.dispatch_laws.specs.Dispatch.{chain_of}
+use Rattle.dispatch_laws.specs.Meaning as ir_meaning
+use Rattle.dispatch_laws.specs.Operators.{Answer, answers, unary_value, binary_value}
+use Rattle.dispatch_laws.specs.States as ir
 use Rattle.sure_receivers.specs.Sure.{is_sure_type, is_sure, Definition, definitions, definitions_in, definitions_of_cases, sure_locals}
 use Rattle.body_soundness.proofs.Heaps.{get-end, get-front, not-past, get-set, get-set_other}
 use Rattle.body_soundness.proofs.Instances.{IsObject, an_object, tested_type, test_type}
 use Rattle.body_soundness.proofs.Sured.{Sured, sured-parts, sure-named, body-sured}
 use Rattle.dispatch_laws.specs.Targets.{IsTargetOf}
 use Rattle.body_soundness.specs.Laws.{HasReceivers, reads, calls, null_pointer, arithmetic, class_cast, ObjectLaws}
-use Rattle.ir_mean.specs.World.{World, class_of, method_among, method_in, member_of, is_of_type, type_text, zeros_in, zero_of, new_fields}
-use Rattle.sj_desugar.specs.Desugar.{member, has_no_value}
-use Rattle.body_rules.proofs.Direct.{direct}
-use Rattle.ir_mean.proofs.HijackedCalls.{hijacked_call}
-use Rattle.sj_emit_expr.specs.Templates.{check_name, called_member}
-use Rattle.sj_desugar.specs.Plain.{is_no_type}
+use Rattle.dispatch_laws.specs.World.{World, class_of, method_among, method_in, member_of, is_of_type, type_text, zeros_in, zero_of, new_fields}
+use Rattle.sj_proper.specs.Desugar.{member, has_no_value}
+use Rattle.sj_proper.proofs.Direct.{direct}
+use Rattle.dispatch_laws.proofs.HijackedCalls.{hijacked_call}
+use Rattle.dispatch_laws.specs.Templates.{check_name, called_member}
+use Rattle.sj_proper.specs.Plain.{is_no_type}
 use Rattle.sj_names.specs.Same.{is_same_text, is_same_namespace, is_same_method}
 use Rattle.sj_names.specs.declared.method_names.MethodName.{MethodName}
 use Rattle.sj_names.specs.declared.method_names.Namespace.{Namespace}
@@ -40,30 +40,30 @@ use Rattle.sj_trees.specs.declared.operators.BinaryOp.{BinaryOp}
 use Rattle.sj_trees.specs.declared.positions.Position.{Position}
 use Rattle.sj_trees.specs.declared.types.IrType.{IrType}
 use Rattle.sj_trees.specs.declared.types.IrType.TheVariants.{Any, Class, Array, Undefined, Null, Boolean, Byte, Short, Int, String, NoType, Nothing, Char, Long}
-use Rattle.typing_rules.specs.Rules.{IsStatic, IsReceiver, ArgumentsFit, Yields, nothing_wanted, fitting, unary_operand, left_operand, right_operand, IsText as IsJoined}
-use Rattle.body_rules.specs.Operators.{IsDivision, a_quotient, a_remainder, IsLongDivision, a_long_quotient, a_long_remainder, DividesBy, by_int, by_long}
-use Rattle.built_forms.proofs.Statics.{read_static, set_static}
-use Rattle.built_forms.specs.Built.{Usable, has_static, can_cast}
-use Rattle.body_rules.specs.Standing.{is_bare, call_type}
-use Rattle.body_rules.specs.Typing.{RunsOnObject, AllHaveValues, may_check, IsTrueLiteral, true_literal, Scene, behind, in_label, Typed, TypedBlock, TypedAll, TypedCases}
-use Rattle.body_rules.specs.Locals.{Own, OwnAll, OwnCases, IsParameter, local_of, HasValue, HaveValues}
-use Rattle.body_rules.proofs.Equal.{is-equal}
+use Rattle.sj_proper.specs.Rules.{IsStatic, IsReceiver, ArgumentsFit, Yields, nothing_wanted, fitting, unary_operand, left_operand, right_operand, IsText as IsJoined}
+use Rattle.sj_proper.specs.Operators.{IsDivision, a_quotient, a_remainder, IsLongDivision, a_long_quotient, a_long_remainder, DividesBy, by_int, by_long}
+use Rattle.sj_proper.proofs.BuiltFormsStatics.{read_static, set_static}
+use Rattle.sj_proper.specs.Built.{Usable, has_static, can_cast}
+use Rattle.sj_proper.specs.Standing.{is_bare, call_type}
+use Rattle.sj_proper.specs.Typing.{RunsOnObject, AllHaveValues, may_check, IsTrueLiteral, true_literal, Scene, behind, in_label, Typed, TypedBlock, TypedAll, TypedCases}
+use Rattle.sj_proper.specs.Locals.{Own, OwnAll, OwnCases, IsParameter, local_of, HasValue, HaveValues}
+use Rattle.sj_proper.proofs.Equal.{is-equal}
 use Rattle.sj_names.proofs.Same.{impossible, text-same, namespace-same}
 use Rattle.body_soundness.specs.Rules.{RightMember}
 use Rattle.sj_proper.specs.Methods.{HaveTypes, scene_of}
 use Rattle.sj_proper.specs.Once.{NamesOnce}
-use Rattle.body_rules.specs.Subtyping.{IsSubtyping}
-use Rattle.body_rules.proofs.RulesGive.{class_has_value, Takes, its_types, texts, of_division, of_identity, operation}
-use Rattle.built_forms.proofs.Around.{type_inside}
-use Rattle.sj_world.specs.Ancestors.{by_path}
-use Rattle.sj_world.specs.Known as known
-use Rattle.sj_world.specs.Known.{is_hijacked}
-use Rattle.sj_world.specs.Paths.{stay}
-use Rattle.sj_world.specs.Subtypes.{IsSub, to_any, null_to_class, null_to_array, primitive_to_class}
-use Rattle.body_rules.proofs.Topped.{string_class}
-use Rattle.typing_rules.specs.Labels.{type_of_label}
-use Rattle.body_rules.proofs.Locals.{local-there, values-behind}
-use Rattle.body_rules.proofs.Fitting.{value-not, true-or-none, unary-operand-value, left-operand-value, right-operand-value, not_no_type, cast-value}
+use Rattle.sj_proper.specs.Subtyping.{IsSubtyping}
+use Rattle.sj_proper.proofs.RulesGive.{class_has_value, Takes, its_types, texts, of_division, of_identity, operation}
+use Rattle.sj_proper.proofs.Around.{type_inside}
+use Rattle.dispatch_laws.specs.Ancestors.{by_path}
+use Rattle.dispatch_laws.specs.Known as known
+use Rattle.dispatch_laws.specs.Known.{is_hijacked}
+use Rattle.dispatch_laws.specs.Paths.{stay}
+use Rattle.dispatch_laws.specs.Subtypes.{IsSub, to_any, null_to_class, null_to_array, primitive_to_class}
+use Rattle.sj_proper.proofs.Topped.{string_class}
+use Rattle.sj_proper.specs.Labels.{type_of_label}
+use Rattle.sj_proper.proofs.Locals.{local-there, values-behind}
+use Rattle.sj_proper.proofs.Fitting.{value-not, true-or-none, unary-operand-value, left-operand-value, right-operand-value, not_no_type, cast-value}
 use Rattle.body_soundness.proofs.Values.{Classes, Adds, adds-refl, adds-trans, type-lift, HasType, has_type, of_undefined, of_null, of_boolean, of_byte, of_short, of_int, of_text, IsBoolean, a_boolean, IsNumber, a_number, IsText, a_text, wider, as_boolean, as_int, as_text, Gives, some_of, unary_gives, binary_gives, identity_gives, division_gives, divided_gives, of_char, of_long, as_long, join_gives, long_division_gives, of_object, primitive_full, Sort, is_null, is_object, is_primitive, sort_of}
 
 -- not wrong, and where it is done, with what P says

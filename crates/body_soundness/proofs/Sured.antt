@@ -2,8 +2,8 @@
 use Rattle.std.proofs.Common.{◌≡◌, ℕ, Bool, true, false, ◌&&◌, ◌||◌, List, [], ◌∷◌, ◌++◌, refl, sym, ◌∙◌, subst, ◌⊎◌, inl, inr, ⊎_elim}
 use Rattle.std.specs.Prelude.{not}
 use Rattle.std.proofs.lemmas.Bool.{and_parts}
-use Rattle.body_rules.proofs.Equal.{differs, is-equal}
-use Rattle.body_rules.proofs.RulesGive.{when_not}
+use Rattle.sj_proper.proofs.Equal.{differs, is-equal}
+use Rattle.sj_proper.proofs.RulesGive.{when_not}
 use Rattle.sj_names.proofs.Same.{impossible}
 use Rattle.sj_names.specs.Same.{is_same_text}
 use Rattle.sj_trees.specs.Term.{Term, new_object, new_array, array_value, load_module, var_ref, this_ref}

@@ -1,8 +1,8 @@
 -- Values of types, and what operators give on them.
 use Rattle.std.proofs.Common.{◌≡◌, ℕ, zero, suc, ◌++◌, Bool, true, false, List, Option, Some, codes, refl, sym, ap, ◌∙◌, subst, ◌⊎◌, inl, inr}
 use Rattle.std.specs.Prelude.{ℤ, pos, negsuc, ◌≢◌}
-use Rattle.ir_mean.specs.Operators.{Answer, answers, raises, unary_value, binary_value, boolean_value, number_value, long_value, shift_value, any_value, text_of, joined}
-use Rattle.ir_mean.specs.States as ir
+use Rattle.dispatch_laws.specs.Operators.{Answer, answers, raises, unary_value, binary_value, boolean_value, number_value, long_value, shift_value, any_value, text_of, joined}
+use Rattle.dispatch_laws.specs.States as ir
 use Rattle.sj_trees.specs.TypeOf.{unary_result, binary_result}
 use Rattle.sj_trees.specs.declared.operators.BinaryOp.{BinaryOp}
 use Rattle.sj_trees.specs.declared.operators.BinaryOp.TheVariants.{StrictEqual, StrictNotEqual, StringConcatenate, BooleanEqual, BooleanNotEqual, BooleanOr, BooleanAnd, IntAdd, IntSubtract, IntMultiply, IntDivide, IntRemainder, IntOr, IntAnd, IntXor, IntShiftLeft, IntShiftRightLogical, IntShiftRightArithmetic, IntEqual, IntNotEqual, IntLess, IntLessOrEqual, IntGreater, IntGreaterOrEqual, LongAdd, LongSubtract, LongMultiply, LongDivide, LongRemainder, LongOr, LongAnd, LongXor, LongShiftLeft, LongShiftRightLogical, LongShiftRightArithmetic, LongEqual, LongNotEqual, LongLess, LongLessOrEqual, LongGreater, LongGreaterOrEqual}
@@ -11,14 +11,14 @@ use Rattle.sj_trees.specs.declared.operators.UnaryOp.TheVariants.{BooleanNot, Ch
 use Rattle.sj_trees.specs.declared.types.IrType.{IrType}
 use Rattle.sj_trees.specs.declared.types.IrType.TheVariants.{Undefined, Null, Boolean, Char, Byte, Short, Int, Long, String, Class, Nothing}
 use Rattle.body_soundness.specs.Laws.{arithmetic}
-use Rattle.built_forms.specs.Built.{Usable, divides}
-use Rattle.body_rules.specs.Operators.{is_simple, IsDivision, a_quotient, a_remainder, IsLongDivision, a_long_quotient, a_long_remainder, IsIdentity, a_sameness, a_difference}
-use Rattle.typing_rules.specs.Rules.{unary_operand, left_operand, right_operand, IsText as IsJoined}
+use Rattle.sj_proper.specs.Built.{Usable, divides}
+use Rattle.sj_proper.specs.Operators.{is_simple, IsDivision, a_quotient, a_remainder, IsLongDivision, a_long_quotient, a_long_remainder, IsIdentity, a_sameness, a_difference}
+use Rattle.sj_proper.specs.Rules.{unary_operand, left_operand, right_operand, IsText as IsJoined}
 use Rattle.sj_names.proofs.Same.{impossible}
-use Rattle.body_rules.specs.Standing.{is_bare}
-use Rattle.body_rules.specs.Subtyping.{is_lowest, IsSubtyping}
-use Rattle.body_rules.proofs.Fitting.{text_bare}
-use Rattle.sj_world.specs.Subtypes.{hijacked_class}
+use Rattle.sj_proper.specs.Standing.{is_bare}
+use Rattle.sj_proper.specs.Subtyping.{is_lowest, IsSubtyping}
+use Rattle.sj_proper.proofs.Fitting.{text_bare}
+use Rattle.dispatch_laws.specs.Subtypes.{hijacked_class}
 use Rattle.sure_receivers.specs.Sure.{is_sure_type}
 
 -- the class of the object at each address

@@ -2,10 +2,10 @@
 use Rattle.std.proofs.Common.{◌≡◌, codes, ◌<◌, ℕ, Bool, true, false, ◌&&◌, List, [], ◌∷◌, Some, None, Option, Contains, refl, sym, ◌∙◌, ◌||◌, subst, ◌⊎◌, inl, inr, ⊎_elim, arith, if◌then◌else◌}
 use Rattle.std.specs.List.{list_any}
 use Rattle.std.proofs.lemmas.Bool.{and_parts}
-use Rattle.body_rules.proofs.Lists.{nothing_in, in_front_or_behind, at_front, further_on}
-use Rattle.body_rules.proofs.Plain.{class_found, plain_world}
-use Rattle.body_rules.specs.Locals.{HasValue}
-use Rattle.body_rules.proofs.RulesGive.{no_division}
+use Rattle.sj_proper.proofs.Lists.{nothing_in, in_front_or_behind, at_front, further_on}
+use Rattle.sj_proper.proofs.Plain.{class_found, plain_world}
+use Rattle.sj_proper.specs.Locals.{HasValue}
+use Rattle.sj_proper.proofs.RulesGive.{no_division}
 use Rattle.dispatch_laws.proofs.OwnTargets.{own_target}
 use Rattle.body_soundness.proofs.Modules.{never_wrong}
 use Rattle.body_soundness.proofs.Chains.{no_primitive, on_chain as below_on_chain}
@@ -13,13 +13,13 @@ use Rattle.body_soundness.specs.Laws.{ObjectLaws}
 use Rattle.body_soundness.specs.Rules.{RightMember}
 use Rattle.body_soundness.specs.Worked.{class_name, field_name, init_name, get_name, gets_field, gets, init_method, get_method, main_method, its_field, its_class, object_world, main_member, is_member, object_use}
 use Rattle.body_soundness.specs.Worlds.{AreClassesKept, HasFields, WritesInterfaces}
-use Rattle.ir_mean.specs.Dispatch.{chain_of}
-use Rattle.ir_mean.specs.Rows.{nowhere, object_name, object_with, main_entry, once}
-use Rattle.ir_mean.specs.Shows.{initializers, ir_shows}
-use Rattle.ir_mean.specs.World.{World, member_of, method_among, method_in, zeros_in, zero_of}
-use Rattle.ir_mean.specs.World as ir_world
+use Rattle.dispatch_laws.specs.Dispatch.{chain_of}
+use Rattle.dispatch_laws.specs.Rows.{nowhere, object_name, object_with, main_entry, once}
+use Rattle.dispatch_laws.specs.Shows.{initializers, ir_shows}
+use Rattle.dispatch_laws.specs.World.{World, member_of, method_among, method_in, zeros_in, zero_of}
+use Rattle.dispatch_laws.specs.World as ir_world
 use Rattle.outcomes.specs.Agreement.{IsNotWrong}
-use Rattle.sj_desugar.specs.Desugar.{member}
+use Rattle.sj_proper.specs.Desugar.{member}
 use Rattle.sj_local.specs.ClassRules.{keeps_superclass, keeps_hijacked}
 use Rattle.sj_names.proofs.Same.{impossible, text-same, method-same, namespace-same}
 use Rattle.sj_names.specs.Same.{is_same_text, is_same_namespace, is_same_method}
@@ -39,12 +39,12 @@ use Rattle.sj_trees.specs.declared.classes.ClassDef.{ClassDef}
 use Rattle.sj_trees.specs.declared.classes.MethodDef.{MethodDef}
 use Rattle.sj_trees.specs.declared.types.IrType.{IrType}
 use Rattle.sj_trees.specs.declared.types.IrType.TheVariants.{Class, Int}
-use Rattle.sj_world.specs.Ancestors.{next_on_chain, IsOnChain}
-use Rattle.sj_world.specs.Known.{Name, stands_as, is_hijacked}
-use Rattle.sj_world.specs.Laws.{IsPlain}
-use Rattle.sj_world.specs.Paths.{stay, on}
-use Rattle.sj_world.specs.Subtypes.{hijacked_class, IsSub, equal}
-use Rattle.typing_rules.specs.Rules.{nothing_wanted, fitting, HasFieldType}
+use Rattle.dispatch_laws.specs.Ancestors.{next_on_chain, IsOnChain}
+use Rattle.dispatch_laws.specs.Known.{Name, stands_as, is_hijacked}
+use Rattle.dispatch_laws.specs.SjWorldLaws.{IsPlain}
+use Rattle.dispatch_laws.specs.Paths.{stay, on}
+use Rattle.dispatch_laws.specs.Subtypes.{hijacked_class, IsSub, equal}
+use Rattle.sj_proper.specs.Rules.{nothing_wanted, fitting, HasFieldType}
 
 pub member-same : (m k : Member) → is_member k m ≡ true → m ≡ k
 member-same m k h =

@@ -1,18 +1,18 @@
 -- What a world has of the members, classes and fields that bodies use on objects.
 use Rattle.std.specs.Prelude.{◌≡◌, ℕ, true, false, List, Some, codes}
 use Rattle.std.specs.List.{list_any}
-use Rattle.body_rules.specs.Locals.{HasValue}
+use Rattle.sj_proper.specs.Locals.{HasValue}
 use Rattle.body_soundness.specs.Rules.{RightMember}
-use Rattle.built_forms.specs.Built.{Usable, has_static, divides}
+use Rattle.sj_proper.specs.Built.{Usable, has_static, divides}
 use Rattle.dispatch_laws.specs.Targets.{IsTargetOf}
-use Rattle.ir_mean.specs.Dispatch.{chain_of}
-use Rattle.ir_mean.specs.Meaning.{with_message}
-use Rattle.ir_mean.specs.World.{World, class_of, member_of, zeros_in, statics_in, zero_of}
+use Rattle.dispatch_laws.specs.Dispatch.{chain_of}
+use Rattle.dispatch_laws.specs.Meaning.{with_message}
+use Rattle.dispatch_laws.specs.World.{World, class_of, member_of, zeros_in, statics_in, zero_of}
 use Rattle.sj_trees.specs.Term.{Term}
 use Rattle.sj_trees.specs.declared.classes.MethodDef.{MethodDef}
 use Rattle.sj_proper.specs.Once.{NamesOnce}
-use Rattle.sj_desugar.specs.Desugar.{member}
-use Rattle.sj_emit_expr.specs.Templates.{check_name}
+use Rattle.sj_proper.specs.Desugar.{member}
+use Rattle.dispatch_laws.specs.Templates.{check_name}
 use Rattle.sj_names.specs.Same.{is_same_text}
 use Rattle.sj_names.specs.declared.method_names.Member.{Member}
 use Rattle.sj_names.specs.declared.method_names.Namespace.TheVariants.{Constructor}
@@ -20,8 +20,8 @@ use Rattle.sj_trees.specs.Types.{class_type}
 use Rattle.sj_trees.specs.declared.operators.BinaryOp.{BinaryOp}
 use Rattle.sj_trees.specs.declared.types.IrType.{IrType}
 use Rattle.sj_trees.specs.declared.types.IrType.TheVariants.{Class}
-use Rattle.sj_world.specs.Known.{is_hijacked}
-use Rattle.sj_world.specs.Subtypes.{hijacked_class, IsSub}
+use Rattle.dispatch_laws.specs.Known.{is_hijacked}
+use Rattle.dispatch_laws.specs.Subtypes.{hijacked_class, IsSub}
 
 -- there are receivers that have to be known or checked: those of fields that are read, and of calls
 pub data HasReceivers (has : Usable) : Type 0 where

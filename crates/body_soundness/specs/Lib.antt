@@ -2,3 +2,19 @@ pub mod Laws
 pub mod Rules
 pub mod Worked
 pub mod Worlds
+pub use Rattle.sj_proper.specs.Locals
+pub use Rattle.sj_proper.specs.Typing
+pub use Rattle.sj_proper.specs.Built
+pub use Rattle.dispatch_laws.specs.Rows
+pub use Rattle.dispatch_laws.specs.Shows
+pub use Rattle.dispatch_laws.specs.World
+pub use Rattle.sj_proper.specs.Emitted
+pub use Rattle.sj_proper.specs.Methods
+pub use Rattle.dispatch_laws.specs.SjWorldLaws
+pub use Rattle.dispatch_laws.specs.Subtypes
+pub use Rattle.sj_proper.specs.Rules as TypingRulesRules
+pub use Rattle.sj_proper.specs.Standing
+pub use Rattle.dispatch_laws.specs.Templates
+pub use Rattle.dispatch_laws.specs.Targets
+pub use Rattle.dispatch_laws.specs.Tests
+pub use Rattle.sj_proper.specs.Boxes

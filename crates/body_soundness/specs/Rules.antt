@@ -1,12 +1,12 @@
 -- A member of the classes whose body keeps the rules.
 use Rattle.std.specs.Prelude.{◌≡◌, Some}
-use Rattle.ir_mean.specs.World.{World, member_of}
+use Rattle.dispatch_laws.specs.World.{World, member_of}
 use Rattle.sj_names.specs.declared.method_names.Member.{Member}
 use Rattle.sj_trees.specs.Term.{Term}
 use Rattle.sj_trees.specs.declared.classes.MethodDef.{MethodDef}
 use Rattle.sj_proper.specs.Methods.{HaveTypes, KeepsRules}
-use Rattle.body_rules.specs.Standing.{call_type}
-use Rattle.built_forms.specs.Built.{Usable}
+use Rattle.sj_proper.specs.Standing.{call_type}
+use Rattle.sj_proper.specs.Built.{Usable}
 
 -- a member of the classes with a body that keeps the rules, and with the types that its name tells
 pub record RightMember (w : World) (has : Usable) (m : Member) : Type 0 where

@@ -1,10 +1,10 @@
 -- A worked world with objects: `new A().get()`, where `get` gives a field of its object.
 use Rattle.std.specs.Prelude.{ℕ, Bool, true, false, ◌&&◌, ◌||◌, List, [], ◌∷◌, Some, None, codes}
 use Rattle.sj_core.specs.Lookup.{own_targets}
-use Rattle.built_forms.specs.Built.{Usable}
-use Rattle.ir_mean.specs.Rows.{nowhere, object_name, object_with, static_method}
-use Rattle.ir_mean.specs.World.{World}
-use Rattle.sj_desugar.specs.Desugar.{member}
+use Rattle.sj_proper.specs.Built.{Usable}
+use Rattle.dispatch_laws.specs.Rows.{nowhere, object_name, object_with, static_method}
+use Rattle.dispatch_laws.specs.World.{World}
+use Rattle.sj_proper.specs.Desugar.{member}
 use Rattle.sj_names.specs.Same.{is_same_text, is_same_namespace, is_same_method}
 use Rattle.sj_names.specs.declared.method_names.Member.{Member}
 use Rattle.sj_names.specs.declared.method_names.MethodName.{MethodName}

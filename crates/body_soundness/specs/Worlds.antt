@@ -1,16 +1,16 @@
 -- Worlds in which what stands below a class with fields has it on its chain of superclasses.
 use Rattle.std.specs.Prelude.{◌≡◌, true, false, Some}
 use Rattle.std.specs.List.{Contains}
-use Rattle.body_rules.specs.Locals.{HasValue}
+use Rattle.sj_proper.specs.Locals.{HasValue}
 use Rattle.body_soundness.specs.Laws.{HasReceivers, null_pointer, arithmetic, class_cast}
 use Rattle.body_soundness.specs.Rules.{RightMember}
-use Rattle.built_forms.specs.Built.{Usable, has_static, divides}
+use Rattle.sj_proper.specs.Built.{Usable, has_static, divides}
 use Rattle.dispatch_laws.specs.Targets.{IsTargetOf}
-use Rattle.ir_mean.specs.Meaning.{with_message}
-use Rattle.ir_mean.specs.World.{member_of, zeros_in, statics_in, zero_of}
-use Rattle.ir_mean.specs.World as ir_world
-use Rattle.sj_desugar.specs.Desugar.{member}
-use Rattle.sj_emit_expr.specs.Templates.{check_name}
+use Rattle.dispatch_laws.specs.Meaning.{with_message}
+use Rattle.dispatch_laws.specs.World.{member_of, zeros_in, statics_in, zero_of}
+use Rattle.dispatch_laws.specs.World as ir_world
+use Rattle.sj_proper.specs.Desugar.{member}
+use Rattle.dispatch_laws.specs.Templates.{check_name}
 use Rattle.sj_names.specs.declared.method_names.Member.{Member}
 use Rattle.sj_names.specs.declared.method_names.Namespace.TheVariants.{Constructor}
 use Rattle.sj_proper.specs.Once.{NamesOnce}
@@ -18,13 +18,13 @@ use Rattle.sj_trees.specs.Term.{Term}
 use Rattle.sj_trees.specs.declared.classes.MethodDef.{MethodDef}
 use Rattle.sj_trees.specs.declared.operators.BinaryOp.{BinaryOp}
 use Rattle.sj_trees.specs.declared.types.IrType.{IrType}
-use Rattle.sj_world.specs.Refusals.{HasNoCycle}
+use Rattle.dispatch_laws.specs.Refusals.{HasNoCycle}
 use Rattle.sj_local.specs.ClassRules.{is_interface, keeps_superclass, keeps_hijacked}
 use Rattle.sj_names.specs.WellKnown.{is_object, is_number, is_hijacked}
 use Rattle.sj_trees.specs.declared.classes.ClassDef.{ClassDef}
-use Rattle.sj_world.specs.Ancestors.{IsParent}
-use Rattle.sj_world.specs.Known.{Name, Classes, class_of, stands_as}
-use Rattle.sj_world.specs.Paths.{Path}
+use Rattle.dispatch_laws.specs.Ancestors.{IsParent}
+use Rattle.dispatch_laws.specs.Known.{Name, Classes, class_of, stands_as}
+use Rattle.dispatch_laws.specs.Paths.{Path}
 
 -- each class keeps the rules on superclasses and on hijacked classes
 pub record AreClassesKept (w : Classes) : Type 0 where

@@ -11,11 +11,11 @@ ghost use Rattle.body_soundness.specs.Laws.{ObjectLaws};
 ghost use Rattle.body_soundness.specs.Rules.{RightMember};
 ghost use Rattle.body_soundness.specs.Worked.{object_world, object_use};
 ghost use Rattle.body_soundness.specs.Worlds.{AreClassesKept, HasFields, WritesInterfaces, ObjectWorld};
-ghost use Rattle.built_forms.specs.Built.{Usable, members_alone};
-ghost use Rattle.ir_mean.specs.Dispatch.{chain_of};
-ghost use Rattle.ir_mean.specs.Rows.{once};
-ghost use Rattle.ir_mean.specs.Shows.{initializers, ir_shows};
-ghost use Rattle.ir_mean.specs.World.{World};
+ghost use Rattle.sj_proper.specs.Built.{Usable, members_alone};
+ghost use Rattle.dispatch_laws.specs.Dispatch.{chain_of};
+ghost use Rattle.dispatch_laws.specs.Rows.{once};
+ghost use Rattle.dispatch_laws.specs.Shows.{initializers, ir_shows};
+ghost use Rattle.dispatch_laws.specs.World.{World};
 ghost use Rattle.outcomes.specs.Agreement.{IsNotWrong};
 ghost use Rattle.sj_local.specs.ClassRules.{keeps_hijacked};
 ghost use Rattle.sj_local.specs.MemberRules.{breaks_field};
@@ -28,11 +28,11 @@ ghost use Rattle.sj_trees.specs.declared.classes.ClassDef.{ClassDef};
 ghost use Rattle.sj_trees.specs.declared.classes.FieldDef.{FieldDef};
 ghost use Rattle.sj_trees.specs.declared.types.IrType.{IrType};
 ghost use Rattle.sj_trees.specs.declared.types.IrType.TheVariants.{Class};
-ghost use Rattle.sj_world.specs.Ancestors.{IsOnChain};
-ghost use Rattle.sj_world.specs.Known.{Name, Classes, class_of, is_hijacked};
-ghost use Rattle.sj_world.specs.Laws.{IsPlain};
-ghost use Rattle.sj_world.specs.Refusals.{HasNoCycle};
-ghost use Rattle.sj_world.specs.Subtypes.{hijacked_class, IsSub};
+ghost use Rattle.dispatch_laws.specs.Ancestors.{IsOnChain};
+ghost use Rattle.dispatch_laws.specs.Known.{Name, Classes, class_of, is_hijacked};
+ghost use Rattle.dispatch_laws.specs.SjWorldLaws.{IsPlain};
+ghost use Rattle.dispatch_laws.specs.Refusals.{HasNoCycle};
+ghost use Rattle.dispatch_laws.specs.Subtypes.{hijacked_class, IsSub};
 
 /// Where the members that can be called keep the rules, and the world has what the laws on objects ask, what a public module shows whose initializers
 /// can be called is wrong at no bound.

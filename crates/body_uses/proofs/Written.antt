@@ -5,9 +5,9 @@ use Rattle.sj_world.specs.Resolution.{Answer, target, abstract, missing, Resolve
 use Rattle.ir_mean.specs.Dispatch.{resolved}
 use Rattle.resolution_laws.proofs.Resolves.{each_call_resolves}
 use Rattle.resolution_laws.specs.Laws.{HasAnswer}
-use Rattle.dispatch_laws.proofs.WorkedOut.{targets_are_worked_out}
-use Rattle.dispatch_laws.specs.Laws.{found_by}
-use Rattle.dispatch_laws.specs.Targets.{at_owner, target_in}
+use Rattle.resolution_laws.proofs.WorkedOut.{targets_are_worked_out}
+use Rattle.resolution_laws.specs.DispatchLawsLaws.{found_by}
+use Rattle.linked_pieces.specs.Targets.{at_owner, target_in}
 use Rattle.std.proofs.Common.{◌≡◌, Bool, true, false, List, [], ◌∷◌, inl, inr, Option, Some, refl, sym, subst, ◌∙◌, Contains, codes, ap, None}
 use Rattle.std.specs.Prelude.{not, ◌&&◌, ◌||◌}
 use Rattle.worklist.proofs.Inserted.{nothing_in}

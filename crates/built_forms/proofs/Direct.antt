@@ -4,7 +4,7 @@ use Rattle.std.specs.Prelude.{nat_eq}
 use Rattle.std.specs.Cmp.Lexicographic.{pointwise}
 use Rattle.std.proofs.lemmas.Bool.{or_right}
 use Rattle.built_forms.specs.Built.{Usable, can_call}
-use Rattle.sj_core.specs.declared.callees.Callee.TheVariants as callees
+use Rattle.sj_desugar.specs.CalleeVariants as callees
 use Rattle.sj_desugar.specs.Desugar.{member, called_in, called_on, named_by, callee_of}
 use Rattle.sj_names.proofs.Same.{impossible}
 use Rattle.sj_names.specs.declared.method_names.MethodName.{MethodName}
@@ -12,11 +12,11 @@ use Rattle.sj_names.specs.declared.method_names.Namespace.TheVariants.{Public}
 use Rattle.sj_names.specs.declared.references.TypeRef.{TypeRef}
 use Rattle.sj_trees.specs.Types.{class_type}
 use Rattle.sj_trees.specs.declared.types.IrType.{IrType}
-use Rattle.sj_world.specs.Ancestors.{IsAncestor, by_path}
-use Rattle.sj_world.specs.Calls.{receiver_class}
-use Rattle.sj_world.specs.Known.{Classes, class_of, is_hijacked}
-use Rattle.sj_world.specs.Paths.{stay}
-use Rattle.sj_world.specs.Subtypes.{IsSub, equal, to_any, primitive_to_class, hijacked_class}
+use Rattle.sj_desugar.specs.Ancestors.{IsAncestor, by_path}
+use Rattle.sj_desugar.specs.Calls.{receiver_class}
+use Rattle.sj_desugar.specs.Known.{Classes, class_of, is_hijacked}
+use Rattle.sj_desugar.specs.Paths.{stay}
+use Rattle.sj_desugar.specs.Subtypes.{IsSub, equal, to_any, primitive_to_class, hijacked_class}
 use Rattle.std.specs.Prelude.{is_some}
 
 -- the class of the receiver is hijacked, its values are of it, and it decides what is called

@@ -1,9 +1,9 @@
 -- The forms of bodies that are built: what is asked of a method beside its typing, so that the theorem on bodies covers it, one Boolean.
 use Rattle.std.specs.Prelude.{ℕ, pos, Bool, true, false, ◌&&◌, ◌||◌, not, List, [], ◌∷◌, Option, Some, None, codes}
 use Rattle.std.specs.Ordering.{int_eq}
-use Rattle.sj_core.specs.Lookup.{Lookup, own_targets}
-use Rattle.sj_core.specs.declared.callees.Callee.{Callee}
-use Rattle.sj_core.specs.declared.callees.Callee.TheVariants as callees
+use Rattle.sj_desugar.specs.Lookup.{Lookup, own_targets}
+use Rattle.sj_desugar.specs.Callee.{Callee}
+use Rattle.sj_desugar.specs.CalleeVariants as callees
 use Rattle.sj_desugar.specs.Desugar.{member, callee_of, result_destination}
 use Rattle.sj_desugar.specs.Plain.{is_no_type}
 use Rattle.sj_names.specs.declared.method_names.Namespace.{Namespace}
@@ -11,7 +11,7 @@ use Rattle.sj_names.specs.declared.method_names.Namespace.TheVariants.{Public, P
 use Rattle.sj_names.specs.declared.references.TypeRef.{TypeRef}
 use Rattle.sj_names.specs.declared.references.TypeRef.TheVariants.{Void}
 use Rattle.sj_names.specs.declared.method_names.Member.{Member}
-use Rattle.sure_receivers.specs.Sure.{is_sure_type}
+use Rattle.sj_desugar.specs.Sure.{is_sure_type}
 use Rattle.sj_trees.specs.Term.{Term, Terms, no_terms, more_terms, Cases, no_cases, more_cases, var_def, skip, block_of, labeled, assign, return_to, if_then, while_loop, do_while, match_on, throw, new_object, select, select_static, apply, apply_statically, this_ref, apply_static, unary_op, binary_op, is_instance_of, as_instance_of, undefined_literal, null_literal, boolean_literal, char_literal, byte_literal, short_literal, int_literal, long_literal, string_literal, var_ref, log_line}
 use Rattle.sj_trees.specs.TypeOf.{type_of_term}
 use Rattle.sj_trees.specs.declared.classes.MethodDef.{MethodDef}

@@ -4,3 +4,6 @@ pub mod Rows
 pub use Rattle.typing_rules.specs.Nodes
 pub use Rattle.typing_rules.specs.Rules
 pub use Rattle.typing_rules.specs.declared.labels.Label
+pub use Rattle.typing_rules.specs.Labels
+pub use Rattle.typing_rules.specs.Sizes
+pub use Rattle.typing_rules.specs.Typed

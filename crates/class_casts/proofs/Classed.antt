@@ -5,10 +5,10 @@ use Rattle.outcomes.specs.Outcome.{Out, done, going, then_do}
 use Rattle.js_mean.specs.States.{Value, null, boolean, ClassLink, absent, Scope, State, ExpressionEnd, gives, with_value, Program}
 use Rattle.js_mean.specs.Meaning.{Low, Code, below, code_of, code_call, function_scope, evaluate, chosen, one_of}
 use Rattle.class_tests.proofs.Bridge.{return_hands_on}
-use Rattle.helper_rules.specs.declared.kinds.Kind.{Kind}
-use Rattle.helper_rules.specs.declared.kinds.Kind.TheVariants.{Undefined, Boolean, Char, Byte, Short, Int, Long, Text}
-use Rattle.helper_rules.specs.Words.{is_name, call1, units_of, x}
-use Rattle.piece_rules.specs.Pieces.{kind_test, is_instance, null_or_instance, cast_value}
+use Rattle.class_tests.specs.Kind.{Kind}
+use Rattle.class_tests.specs.KindVariants.{Undefined, Boolean, Char, Byte, Short, Int, Long, Text}
+use Rattle.class_tests.specs.Words.{is_name, call1, units_of, x}
+use Rattle.class_tests.specs.Pieces.{kind_test, is_instance, null_or_instance, cast_value}
 use Rattle.class_tests.specs.Kinds.{test_code}
 use Rattle.class_casts.specs.Kinds.{passes, throwing_name, failed, KindTestStands}
 use Rattle.class_casts.specs.Classes.{class_cast_code, class_test_name, ClassCastStands, ClassCastsTell, hijacked_test_code, HijackedCastsTell}

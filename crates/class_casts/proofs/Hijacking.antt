@@ -6,16 +6,16 @@ use Rattle.std.specs.List.{filter}
 use Rattle.std.proofs.lemmas.List.Elements.{Contains-append_cases, Contains-append_left, Contains-append_right, Contains-push_cases}
 use Rattle.js_tree.specs.Terms.{Name}
 use Rattle.sj_trees.specs.declared.classes.ClassDef.{ClassDef}
-use Rattle.sj_world.specs.Ancestors.{listed, written_in, above_in, directly_above, IsParent, Way, by_path, is_object, IsAncestor}
-use Rattle.sj_world.specs.Calls.{IsInstance, IsByte, IsShort}
-use Rattle.sj_world.specs.Known.{Classes, class_of, is_known, is_hijacked, stands_as, object as object_name}
-use Rattle.sj_world.specs.Laws.{IsPlain}
-use Rattle.sj_world.specs.Paths.{Path, stay, on}
+use Rattle.class_tests.specs.Ancestors.{listed, written_in, above_in, directly_above, IsParent, Way, by_path, is_object, IsAncestor}
+use Rattle.class_tests.specs.Calls.{IsInstance, IsByte, IsShort}
+use Rattle.class_tests.specs.Known.{Classes, class_of, is_known, is_hijacked, stands_as, object as object_name}
+use Rattle.class_tests.specs.Laws.{IsPlain}
+use Rattle.class_tests.specs.Paths.{Path, stay, on}
 use Rattle.js_mean.specs.States.{Value, undefined, null, boolean, number, big_int, text, object, function, class, method, ClassLink, State}
-use Rattle.helper_rules.specs.declared.kinds.Kind.{Kind}
-use Rattle.helper_rules.specs.declared.kinds.Kind.TheVariants.{Undefined, Boolean, Char, Byte, Short, Int, Long, Text}
-use Rattle.helper_rules.specs.Words.{all_kinds, kind_class}
-use Rattle.piece_rules.specs.Pieces.{kind_of_class}
+use Rattle.class_tests.specs.Kind.{Kind}
+use Rattle.class_tests.specs.KindVariants.{Undefined, Boolean, Char, Byte, Short, Int, Long, Text}
+use Rattle.class_tests.specs.Words.{all_kinds, kind_class}
+use Rattle.class_tests.specs.Pieces.{kind_of_class}
 use Rattle.class_tests.specs.Kinds.{is_box, is_of, is_told}
 use Rattle.class_tests.proofs.Smallest.{small_tests_tell}
 use Rattle.class_tests.proofs.Telling.{nothing_in, one_kind}

@@ -8,10 +8,10 @@ use Rattle.js_mean.specs.States.{Value, undefined, null, boolean, number, big_in
 use Rattle.js_mean.specs.Meaning.{Low, Code, below, code_of, code_call, call, function_scope, evaluate, chosen, read_property, value_or_wrong}
 use Rattle.class_tests.specs.Bridges.{IsTopFunction}
 use Rattle.class_tests.proofs.Bridge.{name_held, call_given, return_hands_on}
-use Rattle.helper_rules.specs.declared.kinds.Kind.{Kind}
-use Rattle.helper_rules.specs.declared.kinds.Kind.TheVariants.{Undefined, Boolean, Char, Byte, Short, Int, Long, Text}
-use Rattle.helper_rules.specs.Helpers.{kind_zero, kind_word, unboxed, cast_failure, unboxed_or_throw, cast_of}
-use Rattle.helper_rules.specs.Words.{is_name, is_null, call1, x}
+use Rattle.class_tests.specs.Kind.{Kind}
+use Rattle.class_tests.specs.KindVariants.{Undefined, Boolean, Char, Byte, Short, Int, Long, Text}
+use Rattle.class_tests.specs.Helpers.{kind_zero, kind_word, unboxed, cast_failure, unboxed_or_throw, cast_of}
+use Rattle.class_tests.specs.Words.{is_name, is_null, call1, x}
 use Rattle.class_tests.specs.Kinds.{test_code, BoxesStand}
 use Rattle.class_tests.proofs.Telling.{tests_tell}
 use Rattle.class_tests.proofs.Smallest.{small_tests_tell}

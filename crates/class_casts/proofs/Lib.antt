@@ -8,3 +8,6 @@ pub use Rattle.class_tests.proofs.Bridge
 pub use Rattle.class_tests.proofs.Instanced
 pub use Rattle.class_tests.proofs.Marked
 pub use Rattle.class_tests.proofs.Smallest
+pub use Rattle.class_tests.proofs.Owners
+pub use Rattle.class_tests.proofs.Markers
+pub use Rattle.class_tests.proofs.Reflective

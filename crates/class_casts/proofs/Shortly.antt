@@ -6,10 +6,10 @@ use Rattle.outcomes.specs.Outcome.{Out, going, then_do}
 use Rattle.js_mean.specs.States.{Value, null, boolean, ClassLink, absent, Scope, State, ExpressionEnd, with_value, Program}
 use Rattle.js_mean.specs.Meaning.{Code, below, code_call, function_scope, evaluate, both_of, one_of}
 use Rattle.class_tests.proofs.Bridge.{return_hands_on}
-use Rattle.helper_rules.specs.declared.kinds.Kind.{Kind}
-use Rattle.helper_rules.specs.declared.kinds.Kind.TheVariants.{Undefined, Boolean, Char, Byte, Short, Int, Long, Text}
-use Rattle.helper_rules.specs.Words.{is_name, either}
-use Rattle.piece_rules.specs.Pieces.{kind_test, joined, any_of, has_marker, instance_test}
+use Rattle.class_tests.specs.Kind.{Kind}
+use Rattle.class_tests.specs.KindVariants.{Undefined, Boolean, Char, Byte, Short, Int, Long, Text}
+use Rattle.class_tests.specs.Words.{is_name, either}
+use Rattle.class_tests.specs.Pieces.{kind_test, joined, any_of, has_marker, instance_test}
 use Rattle.class_tests.specs.Tests.{TestStands, TestsStand, tests_more, class_test_code}
 use Rattle.class_casts.specs.Classes.{class_cast_code}
 use Rattle.class_casts.specs.Worlds.{TestedCastStands, test_units}

@@ -5,10 +5,10 @@ use Rattle.sj_mangling.specs.Bindings.{class_binding}
 use Rattle.sj_mangling.specs.declared.bindings.ClassBinding.TheVariants.{AsInstance}
 use Rattle.js_mean.specs.Meaning.{code_among}
 use Rattle.class_tests.proofs.Bridge.{same_text}
-use Rattle.helper_rules.specs.declared.kinds.Kind.{Kind}
-use Rattle.helper_rules.specs.declared.kinds.Kind.TheVariants.{Undefined, Boolean, Char, Byte, Short, Int, Long, Text}
-use Rattle.helper_rules.specs.declared.kinds.Helper.TheVariants.{CastTo}
-use Rattle.helper_rules.specs.Helpers.{Above, helper_item, helper_name}
+use Rattle.class_tests.specs.Kind.{Kind}
+use Rattle.class_tests.specs.KindVariants.{Undefined, Boolean, Char, Byte, Short, Int, Long, Text}
+use Rattle.class_tests.specs.HelperVariants.{CastTo}
+use Rattle.class_tests.specs.Helpers.{Above, helper_item, helper_name}
 use Rattle.class_casts.specs.Kinds.{cast_code}
 use Rattle.class_casts.specs.Classes.{class_cast_code, class_test_name, hijacked_test_code}
 use Rattle.class_casts.specs.Coded.{PiecesHaveCodes}

@@ -3,17 +3,17 @@ use Rattle.std.proofs.Common.{arith, ◌≡◌, ◌≢◌, ℕ, ◌+◌, suc, Bo
 use Rattle.std.specs.Prelude.{◌↔◌, codes, is_some}
 use Rattle.js_tree.specs.Terms.{Name, no_statements}
 use Rattle.outcomes.specs.Outcome.{done, then_do}
-use Rattle.sj_world.specs.Known.{Classes, is_hijacked}
-use Rattle.sj_world.specs.Calls.{IsInstance}
+use Rattle.class_tests.specs.Known.{Classes, is_hijacked}
+use Rattle.class_tests.specs.Calls.{IsInstance}
 use Rattle.js_mean.specs.Objects.{property, or_value, stored_has}
 use Rattle.js_mean.specs.States.{Value, undefined, null, boolean, number, big_int, text, object, function, class, method, ClassLink, Stored, plain, Scope, State, gives, with_value, Program}
 use Rattle.js_mean.specs.Meaning.{Code, below, code_call, function_scope, value_or_wrong, truth_or_wrong, has}
 use Rattle.class_tests.proofs.Bridge.{return_hands_on}
-use Rattle.helper_rules.specs.declared.kinds.Kind.{Kind}
-use Rattle.helper_rules.specs.declared.kinds.Kind.TheVariants.{Undefined, Boolean, Char, Byte, Short, Int, Long, Text}
-use Rattle.helper_rules.specs.Words.{kind_class, marker, worded_kinds, units_of}
-use Rattle.piece_rules.specs.Classes.{AreInstances}
-use Rattle.piece_rules.specs.Pieces.{instance_test}
+use Rattle.class_tests.specs.Kind.{Kind}
+use Rattle.class_tests.specs.KindVariants.{Undefined, Boolean, Char, Byte, Short, Int, Long, Text}
+use Rattle.class_tests.specs.Words.{kind_class, marker, worded_kinds, units_of}
+use Rattle.class_tests.specs.Classes.{AreInstances}
+use Rattle.class_tests.specs.Pieces.{instance_test}
 use Rattle.class_tests.specs.Kinds.{is_of}
 use Rattle.class_tests.specs.Tests.{HasMarker, on_object, on_undefined, on_boolean, on_number, on_big_int, on_text, TestsStand, class_test_code, class_told}
 use Rattle.class_tests.specs.Instances.{is_worded}

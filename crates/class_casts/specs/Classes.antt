@@ -7,9 +7,9 @@ use Rattle.sj_mangling.specs.declared.bindings.ClassBinding.TheVariants.{IsInsta
 use Rattle.js_mean.specs.States.{Value, null, boolean, ClassLink, State, gives, Program}
 use Rattle.js_mean.specs.Meaning.{Code, below, code_of, code_call}
 use Rattle.class_tests.specs.Bridges.{IsTopFunction}
-use Rattle.helper_rules.specs.declared.kinds.Kind.{Kind}
-use Rattle.helper_rules.specs.Words.{units_of, only_return}
-use Rattle.piece_rules.specs.Pieces.{kind_test, cast_value}
+use Rattle.class_tests.specs.Kind.{Kind}
+use Rattle.class_tests.specs.Words.{units_of, only_return}
+use Rattle.class_tests.specs.Pieces.{kind_test, cast_value}
 use Rattle.class_casts.specs.Kinds.{passes, throwing_name, failed, KindTestStands}
 
 abbrev pub class_cast_code : Name → Code

@@ -1,12 +1,12 @@
 -- The cast of a hijacked class gives null and instances, by the world.
 use Rattle.std.specs.Prelude.{◌≡◌, ℕ, ℤ, suc, true, false, List, Option, Some, None}
 use Rattle.js_tree.specs.Terms.{Name}
-use Rattle.sj_world.specs.Known.{Classes, is_hijacked}
-use Rattle.sj_world.specs.Calls.{IsInstance}
-use Rattle.sj_world.specs.Laws.{IsPlain}
+use Rattle.class_tests.specs.Known.{Classes, is_hijacked}
+use Rattle.class_tests.specs.Calls.{IsInstance}
+use Rattle.class_tests.specs.Laws.{IsPlain}
 use Rattle.js_mean.specs.States.{Value, number, object, ClassLink, State, Program}
-use Rattle.helper_rules.specs.declared.kinds.Kind.{Kind}
-use Rattle.helper_rules.specs.Words.{kind_class}
+use Rattle.class_tests.specs.Kind.{Kind}
+use Rattle.class_tests.specs.Words.{kind_class}
 use Rattle.class_tests.specs.Kinds.{is_box, is_of, is_told}
 use Rattle.class_casts.specs.Classes.{HijackedCastStands}
 use Rattle.class_casts.specs.Worlds.{GivesInstances}

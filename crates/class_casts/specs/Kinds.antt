@@ -7,10 +7,10 @@ use Rattle.js_mean.specs.Objects.{property}
 use Rattle.js_mean.specs.States.{Value, undefined, null, boolean, number, big_int, text, ClassLink, State, ExpressionEnd, gives, Program}
 use Rattle.js_mean.specs.Meaning.{Code, below, code_of, code_call}
 use Rattle.class_tests.specs.Bridges.{IsTopFunction}
-use Rattle.helper_rules.specs.declared.kinds.Kind.{Kind}
-use Rattle.helper_rules.specs.declared.kinds.Kind.TheVariants.{Undefined, Boolean, Char, Byte, Short, Long, Text}
-use Rattle.helper_rules.specs.Words.{is_name, only_return}
-use Rattle.helper_rules.specs.Helpers.{cast_of, kind_word}
+use Rattle.class_tests.specs.Kind.{Kind}
+use Rattle.class_tests.specs.KindVariants.{Undefined, Boolean, Char, Byte, Short, Long, Text}
+use Rattle.class_tests.specs.Words.{is_name, only_return}
+use Rattle.class_tests.specs.Helpers.{cast_of, kind_word}
 use Rattle.class_tests.specs.Kinds.{is_of, test_code, BoxesStand}
 use Rattle.class_tests.specs.Small.{is_small_number}
 

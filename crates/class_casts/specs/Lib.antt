@@ -8,3 +8,13 @@ pub mod Worlds
 pub use Rattle.class_tests.specs.Instances
 pub use Rattle.class_tests.specs.Kinds as ClassTestsKinds
 pub use Rattle.class_tests.specs.Tests
+pub use Rattle.class_tests.specs.Entries
+pub use Rattle.class_tests.specs.Helpers
+pub use Rattle.class_tests.specs.Words
+pub use Rattle.class_tests.specs.FailureVariants
+pub use Rattle.class_tests.specs.HelperVariants
+pub use Rattle.class_tests.specs.Kind
+pub use Rattle.class_tests.specs.KindVariants
+pub use Rattle.class_tests.specs.Classes as PieceRulesClasses
+pub use Rattle.class_tests.specs.Pieces
+pub use Rattle.class_tests.specs.Calls

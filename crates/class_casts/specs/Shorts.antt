@@ -4,7 +4,7 @@ use Rattle.js_tree.specs.Terms.{Name}
 use Rattle.outcomes.specs.Outcome.{going}
 use Rattle.js_mean.specs.States.{Value, null, ClassLink, State, Program}
 use Rattle.js_mean.specs.Meaning.{below, code_of, code_call}
-use Rattle.helper_rules.specs.declared.kinds.Kind.{Kind}
+use Rattle.class_tests.specs.Kind.{Kind}
 use Rattle.class_casts.specs.Kinds.{cast_code, CastStands}
 use Rattle.class_casts.specs.Classes.{class_cast_code, class_test_name, ClassCastStands, HijackedCastStands}
 use Rattle.class_casts.specs.Worlds.{TestedCastStands, test_units}

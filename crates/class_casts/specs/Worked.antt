@@ -1,20 +1,20 @@
 -- A program made of pieces with casts, whose meaning is worked out.
 use Rattle.std.specs.Prelude.{ℕ, false, true, List, [], ◌∷◌, ◌++◌, Option, Some, None, map, pos, codes}
-use Rattle.helper_rules.specs.Helpers.{helper_item, failure_class, init_name}
-use Rattle.helper_rules.specs.Words.{object_class, class_name, as_name, call1}
-use Rattle.helper_rules.specs.declared.kinds.Failure.TheVariants.{Cast}
-use Rattle.helper_rules.specs.declared.kinds.Helper.TheVariants.{BoxedChar, CastTo, ConstantsOf, TestOf, Throws}
-use Rattle.helper_rules.specs.declared.kinds.Kind.TheVariants.{Char, Int, Text}
+use Rattle.class_tests.specs.Helpers.{helper_item, failure_class, init_name}
+use Rattle.class_tests.specs.Words.{object_class, class_name, as_name, call1}
+use Rattle.class_tests.specs.FailureVariants.{Cast}
+use Rattle.class_tests.specs.HelperVariants.{BoxedChar, CastTo, ConstantsOf, TestOf, Throws}
+use Rattle.class_tests.specs.KindVariants.{Char, Int, Text}
 use Rattle.js_mean.specs.Rows.{main_file}
 use Rattle.js_mean.specs.States.{Program}
 use Rattle.js_tree.specs.Terms.{Name, Expression, no_expressions, expression, number_literal, text_literal, null_literal, name_use, new_of, conditional_of, binary_of, host_call, no_statements, statement, expression_statement, return_of, Item, function_item, expression_item, Piece}
 use Rattle.js_tree.specs.declared.operators.BinaryOperator.TheVariants.{StrictEqual}
 use Rattle.js_tree.specs.declared.operators.HostFunction.TheVariants.{ConsoleLog}
-use Rattle.piece_rules.specs.Pieces.{Parts, pieces}
+use Rattle.class_tests.specs.Pieces.{Parts, pieces}
 use Rattle.sj_mangling.specs.Bindings.{class_binding}
 use Rattle.sj_mangling.specs.declared.bindings.ClassBinding.TheVariants.{AsInstance}
 use Rattle.sj_trees.specs.declared.classes.ClassKind.TheVariants as Kinds
-use Rattle.sj_world.specs.Rows.{empty_class}
+use Rattle.class_tests.specs.Rows.{empty_class}
 
 abbrev parts_of : Name → Option Name → List Name → Parts
 parts_of c superclass above = record { class = empty_class c Kinds.Class superclass []; ancestors = above; entries = []; fields = []; statics = []; instances = []; is_live = true; is_base = false; is_loaded = false; is_stored = false; is_tested = false; is_cast = true }

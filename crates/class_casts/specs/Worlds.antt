@@ -2,17 +2,17 @@
 use Rattle.std.specs.Prelude.{◌≡◌, ℕ, ℤ, ◌+◌, suc, true, false, List, [], ◌∷◌, slice_get, Option, Some, None, codes}
 use Rattle.js_tree.specs.Terms.{Name}
 use Rattle.outcomes.specs.Outcome.{done}
-use Rattle.sj_world.specs.Known.{Classes, is_hijacked}
-use Rattle.sj_world.specs.Calls.{IsInstance}
-use Rattle.sj_world.specs.Tables.{AreAncestors}
+use Rattle.class_tests.specs.Known.{Classes, is_hijacked}
+use Rattle.class_tests.specs.Calls.{IsInstance}
+use Rattle.class_tests.specs.Tables.{AreAncestors}
 use Rattle.js_mean.specs.Objects.{property, no_properties}
 use Rattle.js_mean.specs.States.{Value, object, ClassLink, plain, State, gives, Program}
 use Rattle.js_mean.specs.Meaning.{below, code_of, code_call}
-use Rattle.file_tops.specs.Tops.{literal_properties}
-use Rattle.helper_rules.specs.declared.kinds.Kind.{Kind}
-use Rattle.helper_rules.specs.Helpers.{constants}
-use Rattle.helper_rules.specs.Words.{kind_class, worded_kinds, units_of}
-use Rattle.piece_rules.specs.Classes.{AreInstances}
+use Rattle.class_tests.specs.Tops.{literal_properties}
+use Rattle.class_tests.specs.Kind.{Kind}
+use Rattle.class_tests.specs.Helpers.{constants}
+use Rattle.class_tests.specs.Words.{kind_class, worded_kinds, units_of}
+use Rattle.class_tests.specs.Classes.{AreInstances}
 use Rattle.class_tests.specs.Kinds.{is_of}
 use Rattle.class_tests.specs.Tests.{TestsStand, class_test_code}
 use Rattle.class_tests.specs.Instances.{is_worded}

@@ -12,7 +12,7 @@ use Rattle.js_mean.specs.Proper.{is_among, are_distinct}
 use Rattle.js_mean.specs.Files.{owner}
 use Rattle.js_mean.specs.States.{Value, undefined, function, method, class, ClassLink, this_is, Cell, absent, holds, Scope, State, Program, Evaluation, ExpressionEnd, gives, throws, StatementEnd, ends, returns, with_value, in_statement, next_statement}
 use Rattle.js_mean.specs.Meaning.{Low, below, binding, bind_parameters, class_bindings, member_scope, or_outer, cell_value, top_cell, name_value, in_order, arguments, call, evaluate, execute_all, code_of, code_call, method_call, returned}
-use Rattle.helper_rules.specs.Words.{uses}
+use Rattle.entry_search.specs.Words.{uses}
 use Rattle.class_code.specs.Bridges.{bridge, IsTopFunction, BridgesHandOn, first_with, IsMethodOf, LookupSearches}
 
 same_is : (a b : Name) → is_same_text a b ≡ true → a ≡ b

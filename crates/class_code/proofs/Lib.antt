@@ -3,3 +3,7 @@ pub mod Making
 pub mod Markers
 pub mod Objects
 pub mod Parameters
+pub use Rattle.entry_search.proofs.Once
+pub use Rattle.entry_search.proofs.Searches
+pub use Rattle.entry_search.proofs.Owners
+pub use Rattle.entry_search.proofs.Reflective

@@ -15,8 +15,8 @@ use Rattle.js_mean.specs.Meaning.{unless_missing, with_expression, Low, below, b
 use Rattle.file_tops.specs.Tops.{literal_value}
 use Rattle.file_tops.proofs.Run.{each, some_same, literal_runs}
 use Rattle.class_code.proofs.Bridge.{name_at_top}
-use Rattle.helper_rules.specs.Words.{class_name, constants_name}
-use Rattle.piece_rules.specs.Pieces.{zero_of, constructor_body, field_start}
+use Rattle.entry_search.specs.Words.{class_name, constants_name}
+use Rattle.entry_search.specs.Pieces.{zero_of, constructor_body, field_start}
 use Rattle.class_code.specs.Made.{with_fields, MakerStands, Makes, makes_top, makes_more, ChainsMake, ShortBoundsGo}
 
 longer : (a n : ℕ) → suc a + n ≡ suc (a + n)

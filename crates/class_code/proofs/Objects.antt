@@ -11,13 +11,13 @@ use Rattle.sj_names.specs.declared.references.TypeRef.{TypeRef}
 use Rattle.sj_names.specs.MethodNames.{spelled_method, IsMethodName}
 use Rattle.sj_mangling.specs.Mangling.{mangled}
 use Rattle.sj_mangling.proofs.Injective.{mangled_texts_differ}
-use Rattle.sj_world.specs.declared.facts.Fact.{Fact}
-use Rattle.sj_world.specs.declared.linked.MethodEntry.{MethodEntry}
-use Rattle.sj_world.specs.Known.{Classes, is_same}
-use Rattle.sj_world.proofs.Searches.{stands_at, contains_at}
-use Rattle.reach_rules.specs.Rules.{public_member}
-use Rattle.entry_rules.specs.Entries.{AreEntries}
-use Rattle.piece_rules.specs.Dispatch.{IsReachedTarget}
+use Rattle.entry_search.specs.Fact.{Fact}
+use Rattle.entry_search.specs.MethodEntry.{MethodEntry}
+use Rattle.entry_search.specs.Known.{Classes, is_same}
+use Rattle.entry_search.proofs.Searches.{stands_at, contains_at}
+use Rattle.entry_search.specs.Rules.{public_member}
+use Rattle.entry_search.specs.Entries.{AreEntries}
+use Rattle.entry_search.specs.Dispatch.{IsReachedTarget}
 use Rattle.entry_search.specs.Search.{is_for, or_member, entry_for, found}
 use Rattle.entry_search.specs.Laws.{AreSpelled}
 use Rattle.entry_search.proofs.Found.{same_method, Found, entry_found, entry_none, is_for_itself, is_direct, same_target, search_finds_target}
@@ -26,10 +26,10 @@ use Rattle.js_mean.specs.Objects.{stored_callee, value_on, called, Callee, value
 use Rattle.js_mean.specs.States.{Value, object, method, ClassLink, Stored, Program}
 use Rattle.js_mean.specs.Meaning.{Code, below, code_of, code_call, method_call}
 use Rattle.class_code.specs.Bridges.{bridge}
-use Rattle.helper_rules.specs.Words.{uses, class_name, entry_name, public_function, parameter, parameters_of, only_return}
-use Rattle.sj_emit_expr.specs.Templates.{member_name}
+use Rattle.entry_search.specs.Words.{uses, class_name, entry_name, public_function, parameter, parameters_of, only_return}
+use Rattle.entry_search.specs.Templates.{member_name}
 use Rattle.class_code.proofs.Bridge.{bridges_hand_on, same_text}
-use Rattle.piece_rules.specs.Pieces.{entry_member, direct_call, proxy_call, is_proxy}
+use Rattle.entry_search.specs.Pieces.{entry_member, direct_call, proxy_call, is_proxy}
 use Rattle.class_code.proofs.Parameters.{no_parameter}
 use Rattle.class_code.specs.Objects.{call_found, Stands, AllStand, stand_more, FindsBridge, LookupFindsBridge, ObjectsRunTargets}
 

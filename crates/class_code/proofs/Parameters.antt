@@ -1,6 +1,6 @@
 -- A name that no parameter has isn't among them.
 use Rattle.std.proofs.Common.{◌≡◌, ℕ, zero, suc, Bool, true, false, ◌||◌, List, [], ◌∷◌, ◌++◌, refl, sym, ap, ◌∙◌}
-use Rattle.helper_rules.specs.Words.{parameter, first_parameters}
+use Rattle.entry_search.specs.Words.{parameter, first_parameters}
 use Rattle.js_mean.specs.Proper.{is_among}
 use Rattle.js_tree.specs.Names.{is_same_text}
 use Rattle.js_tree.specs.Terms.{Name}

@@ -4,7 +4,7 @@ use Rattle.js_tree.specs.Names.{is_same_text}
 use Rattle.js_tree.specs.Terms.{Name, expression, this_use, call_of, no_statements, statement, return_of}
 use Rattle.js_mean.specs.Classes.{method_code}
 use Rattle.js_mean.specs.Objects.{method_on}
-use Rattle.helper_rules.specs.Words.{uses}
+use Rattle.entry_search.specs.Words.{uses}
 use Rattle.js_mean.specs.Proper.{is_among, are_distinct}
 use Rattle.js_mean.specs.Files.{owner}
 use Rattle.js_mean.specs.States.{Value, function, method, ClassLink, holds, State, Program}

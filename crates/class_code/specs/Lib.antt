@@ -2,3 +2,25 @@ pub mod Bridges
 pub mod Made
 pub mod Markers
 pub mod Objects
+pub use Rattle.file_tops.specs.Tops
+pub use Rattle.entry_search.specs.Helpers
+pub use Rattle.entry_search.specs.Words
+pub use Rattle.entry_search.specs.HelperVariants
+pub use Rattle.entry_search.specs.Kind
+pub use Rattle.entry_search.specs.KindVariants
+pub use Rattle.entry_search.specs.ClassRows
+pub use Rattle.entry_search.specs.Classes
+pub use Rattle.entry_search.specs.Dispatch
+pub use Rattle.entry_search.specs.Pieces
+pub use Rattle.entry_search.specs.Ancestors
+pub use Rattle.entry_search.specs.Calls
+pub use Rattle.entry_search.specs.Known
+pub use Rattle.entry_search.specs.Resolution
+pub use Rattle.entry_search.specs.Rows
+pub use Rattle.entry_search.specs.Tables
+pub use Rattle.entry_search.specs.Fact
+pub use Rattle.entry_search.specs.MethodEntry
+pub use Rattle.entry_search.specs.FailureVariants
+pub use Rattle.entry_search.specs.SjWorldLaws as Laws
+pub use Rattle.entry_search.specs.Paths
+pub use Rattle.entry_search.specs.Entries

@@ -12,8 +12,8 @@ use Rattle.js_mean.specs.Files.{owner}
 use Rattle.js_mean.specs.States.{Value, object, ClassLink, holds, State, gives, Program}
 use Rattle.js_mean.specs.Meaning.{below, top_cell, construct}
 use Rattle.file_tops.specs.Tops.{with_each, literal_value}
-use Rattle.helper_rules.specs.Words.{class_name, constants_name}
-use Rattle.piece_rules.specs.Pieces.{zero_of, constructor_body}
+use Rattle.entry_search.specs.Words.{class_name, constants_name}
+use Rattle.entry_search.specs.Pieces.{zero_of, constructor_body}
 
 -- own properties with the fields of a class at their zeros
 abbrev pub with_fields : Name → List FieldDef → (Name → Option Value) → Option (Name → Option Value)

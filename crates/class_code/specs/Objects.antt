@@ -4,11 +4,11 @@ use Rattle.js_tree.specs.Terms.{Name, Statements, constructor_of}
 use Rattle.sj_names.specs.declared.method_names.MethodName.{MethodName}
 use Rattle.sj_names.specs.MethodNames.{IsMethodName}
 use Rattle.entry_search.specs.Laws.{AreSpelled}
-use Rattle.sj_world.specs.declared.facts.Fact.{Fact}
-use Rattle.sj_world.specs.declared.linked.MethodEntry.{MethodEntry}
-use Rattle.sj_world.specs.Known.{Classes}
-use Rattle.entry_rules.specs.Entries.{AreEntries, IsLive, IsWanted}
-use Rattle.piece_rules.specs.Dispatch.{IsReachedTarget}
+use Rattle.entry_search.specs.Fact.{Fact}
+use Rattle.entry_search.specs.MethodEntry.{MethodEntry}
+use Rattle.entry_search.specs.Known.{Classes}
+use Rattle.entry_search.specs.Entries.{AreEntries, IsLive, IsWanted}
+use Rattle.entry_search.specs.Dispatch.{IsReachedTarget}
 use Rattle.entry_search.specs.Search.{IsChainTo}
 use Rattle.js_mean.specs.Classes.{members_of, method_code}
 use Rattle.js_mean.specs.Objects.{method_on, Callee, callee}
@@ -17,8 +17,8 @@ use Rattle.js_mean.specs.States.{Value, object, ClassLink, plain, Scope, State, 
 use Rattle.outcomes.specs.Outcome.{wrong}
 use Rattle.js_mean.specs.Meaning.{Low, below, code_of, code_call, call_with_this}
 use Rattle.class_code.specs.Bridges.{bridge, IsTopFunction}
-use Rattle.helper_rules.specs.Words.{class_name, entry_name, public_function, parameters_of}
-use Rattle.piece_rules.specs.Pieces.{entry_member}
+use Rattle.entry_search.specs.Words.{class_name, entry_name, public_function, parameters_of}
+use Rattle.entry_search.specs.Pieces.{entry_member}
 
 -- the class of this name stands in the program: a constructor, and a member for each of its entries
 pub record Stands (p : Program) (link_of : Name → ClassLink) (entries : List MethodEntry) (c : Name) : Type 0 where

@@ -1,16 +1,16 @@
 -- Tests of classes and instances.
 use Rattle.std.proofs.Common.{◌≡◌, ℕ, ℤ, Bool, true, false, List, [], ◌∷◌, slice_get, Option, Some, None, refl, sym, ap, ◌∙◌, subst, ◌||◌, inl, inr, ◌++◌, ⊎_elim, ◌⊎◌, Contains, zero, suc}
 use Rattle.js_tree.specs.Terms.{Name}
-use Rattle.sj_world.specs.Known.{Classes, is_hijacked}
-use Rattle.sj_world.specs.Ancestors.{IsAncestor}
-use Rattle.sj_world.specs.Calls.{IsInstance, IsSmall}
+use Rattle.class_code.specs.Known.{Classes, is_hijacked}
+use Rattle.class_code.specs.Ancestors.{IsAncestor}
+use Rattle.class_code.specs.Calls.{IsInstance, IsSmall}
 use Rattle.js_mean.specs.States.{Value, object, ClassLink, State}
-use Rattle.helper_rules.specs.declared.kinds.Kind.{Kind}
-use Rattle.helper_rules.specs.declared.kinds.Kind.TheVariants.{Undefined, Boolean, Char, Byte, Short, Int, Long, Text}
-use Rattle.helper_rules.specs.Words.{kind_class, worded_kinds}
-use Rattle.piece_rules.specs.Classes.{AreInstances}
+use Rattle.class_code.specs.Kind.{Kind}
+use Rattle.class_code.specs.KindVariants.{Undefined, Boolean, Char, Byte, Short, Int, Long, Text}
+use Rattle.class_code.specs.Words.{kind_class, worded_kinds}
+use Rattle.class_code.specs.Classes.{AreInstances}
 use Rattle.std.proofs.lemmas.List.Elements.{Contains-push, Contains-push_cases, Contains-append_left}
-use Rattle.sj_world.proofs.Searches.{contains_at, stands_at}
+use Rattle.class_code.proofs.Searches.{contains_at, stands_at}
 use Rattle.std.specs.List.{list_all}
 use Rattle.std.proofs.lemmas.Bool.{and_parts}
 use Rattle.class_tests.proofs.Telling.{nothing_in, one_kind}

@@ -4,3 +4,6 @@ pub mod Shortly
 pub mod Smallest
 pub mod Telling
 pub use Rattle.class_code.proofs.Bridge
+pub use Rattle.class_code.proofs.Owners
+pub use Rattle.class_code.proofs.Markers
+pub use Rattle.class_code.proofs.Reflective

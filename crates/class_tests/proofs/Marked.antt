@@ -8,18 +8,18 @@ use Rattle.js_tree.specs.Terms.{Name, Expression, expression, no_expressions, no
 use Rattle.outcomes.specs.Outcome.{Out, done, then_do}
 use Rattle.sj_mangling.specs.Mangling.{mangled}
 use Rattle.sj_mangling.proofs.Injective.{mangled_texts_differ}
-use Rattle.sj_world.specs.Ancestors.{IsAncestor}
-use Rattle.sj_world.proofs.Searches.{stands_at, contains_at}
+use Rattle.class_code.specs.Ancestors.{IsAncestor}
+use Rattle.class_code.proofs.Searches.{stands_at, contains_at}
 use Rattle.js_mean.specs.Objects.{property, no_properties, with_property, or_value, stored_has}
 use Rattle.js_mean.specs.States.{Value, boolean, number, text, object, ClassLink, absent, Stored, plain, Scope, State, ExpressionEnd, gives, with_value, Program}
 use Rattle.js_mean.specs.Meaning.{Low, Code, below, code_call, function_scope, evaluate, one_of, both_of, value_or_wrong, truth_or_wrong, has}
-use Rattle.file_tops.specs.Tops.{literal_properties}
+use Rattle.class_code.specs.Tops.{literal_properties}
 use Rattle.class_code.proofs.Bridge.{same_text, call_given, return_hands_on}
-use Rattle.helper_rules.specs.declared.kinds.Kind.{Kind}
-use Rattle.helper_rules.specs.declared.kinds.Kind.TheVariants.{Undefined, Boolean, Char, Byte, Short, Int, Long, Text}
-use Rattle.helper_rules.specs.Words.{is_name, marker, x, not_null, either}
-use Rattle.helper_rules.specs.Helpers.{marker_property}
-use Rattle.piece_rules.specs.Pieces.{kind_test, joined, any_of, has_marker, instance_test}
+use Rattle.class_code.specs.Kind.{Kind}
+use Rattle.class_code.specs.KindVariants.{Undefined, Boolean, Char, Byte, Short, Int, Long, Text}
+use Rattle.class_code.specs.Words.{is_name, marker, x, not_null, either}
+use Rattle.class_code.specs.Helpers.{marker_property}
+use Rattle.class_code.specs.Pieces.{kind_test, joined, any_of, has_marker, instance_test}
 use Rattle.class_tests.specs.Kinds.{is_of}
 use Rattle.class_tests.specs.Tests.{MarkersTell, HasMarker, on_object, on_undefined, on_boolean, on_number, on_big_int, on_text, TestStands, TestsStand, tests_none, tests_more, class_test_code, class_told, ClassTestsTell, NullIsNoInstance}
 use Rattle.class_tests.proofs.Telling.{tests_tell}

@@ -8,11 +8,11 @@ use Rattle.sj_names.specs.declared.method_names.MethodName.{MethodName}
 use Rattle.js_mean.specs.Proper.{are_distinct}
 use Rattle.js_mean.specs.States.{Value, function, ClassLink, Cell, absent, Scope, State, Program, ExpressionEnd, with_value, in_statement, next_statement}
 use Rattle.js_mean.specs.Meaning.{Code, below, bind_declared, function_scope, call, code_call, evaluate, execute_all, in_block, taken, nothing, returned}
-use Rattle.helper_rules.specs.Words.{uses, is_name, parameter, parameters_of, x, call1, only_return, public_function}
+use Rattle.class_code.specs.Words.{uses, is_name, parameter, parameters_of, x, call1, only_return, public_function}
 use Rattle.class_code.proofs.Bridge.{Hold, parameters_hold, name_held, call_given}
-use Rattle.helper_rules.specs.declared.kinds.Kind.{Kind}
-use Rattle.helper_rules.specs.declared.kinds.Kind.TheVariants.{Undefined, Boolean, Char, Byte, Short, Int, Long, Text}
-use Rattle.piece_rules.specs.Dispatch.{Told, dispatch_body}
+use Rattle.class_code.specs.Kind.{Kind}
+use Rattle.class_code.specs.KindVariants.{Undefined, Boolean, Char, Byte, Short, Int, Long, Text}
+use Rattle.class_code.specs.Dispatch.{Told, dispatch_body}
 use Rattle.class_code.proofs.Parameters.{no_parameter}
 use Rattle.class_tests.specs.Kinds.{CaseStands, dispatch_code}
 use Rattle.class_tests.specs.Shorts.{ShortCallsGo}

@@ -12,8 +12,8 @@ use Rattle.outcomes.specs.Outcome.{done}
 use Rattle.js_mean.specs.States.{Value, undefined, null, boolean, number, big_int, text, object, function, class, method, State, gives, Program}
 use Rattle.js_mean.specs.Meaning.{below, function_scope, evaluate}
 use Rattle.class_code.proofs.Bridge.{return_hands_on}
-use Rattle.helper_rules.specs.declared.kinds.Kind.TheVariants.{Byte, Short}
-use Rattle.helper_rules.specs.Helpers.{kind_condition}
+use Rattle.class_code.specs.KindVariants.{Byte, Short}
+use Rattle.class_code.specs.Helpers.{kind_condition}
 use Rattle.class_tests.specs.Kinds.{test_code}
 use Rattle.class_tests.specs.Small.{is_small_number, SmallTestsTell}
 

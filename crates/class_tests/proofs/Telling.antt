@@ -1,6 +1,6 @@
 -- Tests of kinds, and dispatch on them.
 use Rattle.std.proofs.lemmas.List.Elements.{Contains-push_cases}
-use Rattle.sj_world.proofs.Searches.{contains_at}
+use Rattle.class_code.proofs.Searches.{contains_at}
 use Rattle.std.proofs.Common.{◌<◌, arith, ◌++◌, ⊎_elim, Contains, subst, sym, ◌≡◌, ℕ, suc, Bool, true, false, List, [], ◌∷◌, length, slice_get, Option, Some, None, refl, ap, ◌∙◌, cond, ◌||◌}
 use Rattle.std.specs.Prelude.{codes}
 use Rattle.js_tree.specs.Names.{is_same_text}
@@ -8,22 +8,22 @@ use Rattle.js_tree.specs.Terms.{Name, Expression, expression, no_expressions, ca
 use Rattle.outcomes.specs.Outcome.{Out, done, then_do}
 use Rattle.outcomes.proofs.Sequence.{then_do-associative}
 use Rattle.sj_names.specs.declared.method_names.MethodName.{MethodName}
-use Rattle.sj_world.specs.declared.facts.Fact.{Fact}
-use Rattle.sj_world.specs.Known.{Classes}
-use Rattle.sj_world.specs.Resolution.{target}
-use Rattle.sj_world.proofs.Once.{resolves_once}
-use Rattle.piece_rules.specs.Dispatch.{IsReachedTarget, Told, dispatch_body, AreTold, told_none, told, untold}
+use Rattle.class_code.specs.Fact.{Fact}
+use Rattle.class_code.specs.Known.{Classes}
+use Rattle.class_code.specs.Resolution.{target}
+use Rattle.class_code.proofs.Once.{resolves_once}
+use Rattle.class_code.specs.Dispatch.{IsReachedTarget, Told, dispatch_body, AreTold, told_none, told, untold}
 use Rattle.js_mean.specs.Objects.{is_instance, callee, Callee}
 use Rattle.js_mean.specs.Files.{owner}
 use Rattle.js_mean.specs.Proper.{is_among}
 use Rattle.js_mean.specs.States.{Value, undefined, null, boolean, number, big_int, text, object, function, class, method, ClassLink, Cell, absent, holds, Scope, State, Execution, ExpressionEnd, gives, throws, StatementEnd, ends, returns, with_value, in_statement, next_statement, Program}
 use Rattle.js_mean.specs.Meaning.{Low, Code, below, top_cell, cell_value, code_of, code_call, call, call_with_this, call_property, function_scope, bind_declared, bind_parameters, arguments, in_order, evaluate, execute_all, in_block, leaving, taken, nothing, returned, name_value, instance, truth_or_wrong}
 use Rattle.class_code.specs.Bridges.{IsTopFunction}
-use Rattle.helper_rules.specs.Words.{uses, kind_class, is_name, told_kinds, entry_name, public_function, parameter, parameters_of, only_return, call1, x}
+use Rattle.class_code.specs.Words.{uses, kind_class, is_name, told_kinds, entry_name, public_function, parameter, parameters_of, only_return, call1, x}
 use Rattle.class_code.proofs.Bridge.{handed_on, Hold, hold_more, parameters_hold, parameters_leave, name_held, names_given, call_given, return_hands_on}
-use Rattle.helper_rules.specs.declared.kinds.Kind.{Kind}
-use Rattle.helper_rules.specs.declared.kinds.Kind.TheVariants.{Undefined, Boolean, Char, Byte, Short, Int, Long, Text}
-use Rattle.helper_rules.specs.Helpers.{kind_condition}
+use Rattle.class_code.specs.Kind.{Kind}
+use Rattle.class_code.specs.KindVariants.{Undefined, Boolean, Char, Byte, Short, Int, Long, Text}
+use Rattle.class_code.specs.Helpers.{kind_condition}
 use Rattle.class_code.proofs.Parameters.{no_parameter}
 use Rattle.class_code.specs.Objects.{call_found}
 use Rattle.class_tests.specs.Kinds.{is_box, is_of, is_told, test_code, BoxesStand, TestsTell, CaseStands, CasesStand, cases_none, cases_more, dispatch_code, told_outcome, DispatchTells, KindsRunTargets, OthersCallMethods}

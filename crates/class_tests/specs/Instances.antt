@@ -1,13 +1,13 @@
 -- The test of a class gives what the world says of instances.
 use Rattle.std.specs.Prelude.{◌≡◌, ◌↔◌, ℕ, ℤ, Bool, true, false, List, Option}
 use Rattle.js_tree.specs.Terms.{Name}
-use Rattle.sj_world.specs.Known.{Classes, is_hijacked}
-use Rattle.sj_world.specs.Calls.{IsInstance}
+use Rattle.class_code.specs.Known.{Classes, is_hijacked}
+use Rattle.class_code.specs.Calls.{IsInstance}
 use Rattle.js_mean.specs.States.{Value, ClassLink, State}
-use Rattle.helper_rules.specs.declared.kinds.Kind.{Kind}
-use Rattle.helper_rules.specs.declared.kinds.Kind.TheVariants.{Char, Byte, Short}
-use Rattle.helper_rules.specs.Words.{kind_class, worded_kinds}
-use Rattle.piece_rules.specs.Classes.{AreInstances}
+use Rattle.class_code.specs.Kind.{Kind}
+use Rattle.class_code.specs.KindVariants.{Char, Byte, Short}
+use Rattle.class_code.specs.Words.{kind_class, worded_kinds}
+use Rattle.class_code.specs.Classes.{AreInstances}
 use Rattle.class_tests.specs.Kinds.{is_of}
 use Rattle.class_tests.specs.Tests.{class_told}
 

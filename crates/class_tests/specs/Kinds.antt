@@ -3,9 +3,9 @@ use Rattle.std.specs.Prelude.{◌≡◌, ℕ, suc, Bool, true, false, List, [], 
 use Rattle.js_tree.specs.Terms.{Name}
 use Rattle.outcomes.specs.Outcome.{Out, done}
 use Rattle.sj_names.specs.declared.method_names.MethodName.{MethodName}
-use Rattle.sj_world.specs.declared.facts.Fact.{Fact}
-use Rattle.sj_world.specs.Known.{Classes}
-use Rattle.piece_rules.specs.Dispatch.{IsReachedTarget, Told, dispatch_body, AreTold}
+use Rattle.class_code.specs.Fact.{Fact}
+use Rattle.class_code.specs.Known.{Classes}
+use Rattle.class_code.specs.Dispatch.{IsReachedTarget, Told, dispatch_body, AreTold}
 use Rattle.js_mean.specs.Objects.{stored_below, callee}
 use Rattle.js_mean.specs.Files.{owner}
 use Rattle.js_mean.specs.Proper.{are_distinct}
@@ -13,10 +13,10 @@ use Rattle.js_mean.specs.States.{Value, undefined, boolean, number, big_int, tex
 use Rattle.class_code.specs.Objects.{call_found}
 use Rattle.js_mean.specs.Meaning.{Code, below, top_cell, code_of, code_call, function_scope}
 use Rattle.class_code.specs.Bridges.{IsTopFunction}
-use Rattle.helper_rules.specs.declared.kinds.Kind.{Kind}
-use Rattle.helper_rules.specs.declared.kinds.Kind.TheVariants.{Undefined, Boolean, Char, Byte, Short, Int, Long, Text}
-use Rattle.helper_rules.specs.Words.{kind_class, is_name, told_kinds, entry_name, public_function, parameters_of, only_return}
-use Rattle.helper_rules.specs.Helpers.{kind_condition}
+use Rattle.class_code.specs.Kind.{Kind}
+use Rattle.class_code.specs.KindVariants.{Undefined, Boolean, Char, Byte, Short, Int, Long, Text}
+use Rattle.class_code.specs.Words.{kind_class, is_name, told_kinds, entry_name, public_function, parameters_of, only_return}
+use Rattle.class_code.specs.Helpers.{kind_condition}
 
 -- an object of the class of boxed chars
 abbrev pub is_box : State → List ClassLink → Value → Bool

@@ -6,8 +6,8 @@ use Rattle.sj_names.specs.declared.method_names.MethodName.{MethodName}
 use Rattle.js_mean.specs.Proper.{are_distinct}
 use Rattle.js_mean.specs.States.{Value, ClassLink, State, Program}
 use Rattle.js_mean.specs.Meaning.{Code, below, code_call, method_call}
-use Rattle.helper_rules.specs.Words.{parameters_of}
-use Rattle.piece_rules.specs.Dispatch.{Told}
+use Rattle.class_code.specs.Words.{parameters_of}
+use Rattle.class_code.specs.Dispatch.{Told}
 use Rattle.class_tests.specs.Kinds.{CaseStands, dispatch_code}
 
 pub record ShortCallsGo : Type 0 where

@@ -7,7 +7,7 @@ use Rattle.js_tree.specs.Terms.{Name}
 use Rattle.outcomes.specs.Outcome.{done}
 use Rattle.js_mean.specs.States.{Value, boolean, number, State, gives, Program}
 use Rattle.js_mean.specs.Meaning.{below, code_call}
-use Rattle.helper_rules.specs.declared.kinds.Kind.TheVariants.{Byte, Short}
+use Rattle.class_code.specs.KindVariants.{Byte, Short}
 use Rattle.class_tests.specs.Kinds.{test_code}
 
 abbrev pub is_small_number : (ℤ → ℤ) → Value → Bool

@@ -2,19 +2,19 @@
 use Rattle.std.specs.Prelude.{◌≡◌, ◌↔◌, ℕ, ℤ, suc, Bool, true, false, ◌||◌, List, [], ◌∷◌, slice_get, Option, Some, None, is_some, codes}
 use Rattle.js_tree.specs.Terms.{Name}
 use Rattle.outcomes.specs.Outcome.{done}
-use Rattle.sj_world.specs.Known.{Classes}
-use Rattle.sj_world.specs.Ancestors.{IsAncestor}
-use Rattle.sj_world.specs.Tables.{AreAncestors}
+use Rattle.class_code.specs.Known.{Classes}
+use Rattle.class_code.specs.Ancestors.{IsAncestor}
+use Rattle.class_code.specs.Tables.{AreAncestors}
 use Rattle.js_mean.specs.Objects.{property, no_properties}
 use Rattle.js_mean.specs.States.{Value, undefined, null, boolean, number, big_int, text, object, ClassLink, plain, State, gives, Program}
 use Rattle.js_mean.specs.Meaning.{Code, below, code_of, code_call}
-use Rattle.file_tops.specs.Tops.{literal_properties}
+use Rattle.class_code.specs.Tops.{literal_properties}
 use Rattle.class_code.specs.Bridges.{IsTopFunction}
-use Rattle.helper_rules.specs.declared.kinds.Kind.{Kind}
-use Rattle.helper_rules.specs.declared.kinds.Kind.TheVariants.{Char}
-use Rattle.helper_rules.specs.Words.{is_name, marker, only_return}
-use Rattle.helper_rules.specs.Helpers.{constants}
-use Rattle.piece_rules.specs.Pieces.{instance_test}
+use Rattle.class_code.specs.Kind.{Kind}
+use Rattle.class_code.specs.KindVariants.{Char}
+use Rattle.class_code.specs.Words.{is_name, marker, only_return}
+use Rattle.class_code.specs.Helpers.{constants}
+use Rattle.class_code.specs.Pieces.{instance_test}
 use Rattle.class_tests.specs.Kinds.{is_of, is_told, test_code, BoxesStand}
 
 -- the constants of a class have the marker of another exactly where that one stands above it

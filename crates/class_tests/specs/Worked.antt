@@ -1,21 +1,21 @@
 -- A program made of pieces, whose meaning is worked out.
 use Rattle.std.specs.Prelude.{ℕ, true, false, List, [], ◌∷◌, ◌++◌, Option, Some, None, map, pos, codes}
-use Rattle.helper_rules.specs.Helpers.{helper_item}
-use Rattle.helper_rules.specs.Words.{object_class, class_name, entry_name, public_function, call1}
-use Rattle.helper_rules.specs.declared.kinds.Helper.TheVariants.{ConstantsOf, BoxedChar, TestOf}
-use Rattle.helper_rules.specs.declared.kinds.Kind.TheVariants.{Char, Int}
+use Rattle.class_code.specs.Helpers.{helper_item}
+use Rattle.class_code.specs.Words.{object_class, class_name, entry_name, public_function, call1}
+use Rattle.class_code.specs.HelperVariants.{ConstantsOf, BoxedChar, TestOf}
+use Rattle.class_code.specs.KindVariants.{Char, Int}
 use Rattle.js_mean.specs.Rows.{main_file}
 use Rattle.js_mean.specs.States.{Program}
 use Rattle.js_tree.specs.Terms.{Name, Expression, no_expressions, expression, number_literal, text_literal, null_literal, method_call_of, new_of, conditional_of, host_call, no_statements, statement, expression_statement, Item, function_item, expression_item, Piece}
 use Rattle.js_tree.specs.declared.operators.HostFunction.TheVariants.{ConsoleLog}
-use Rattle.piece_rules.specs.ClassRows.{m, bridge_to, a_field}
-use Rattle.piece_rules.specs.Dispatch.{dispatch_name, dispatch_item}
-use Rattle.piece_rules.specs.Pieces.{Parts, pieces}
+use Rattle.class_code.specs.ClassRows.{m, bridge_to, a_field}
+use Rattle.class_code.specs.Dispatch.{dispatch_name, dispatch_item}
+use Rattle.class_code.specs.Pieces.{Parts, pieces}
 use Rattle.sj_trees.specs.declared.classes.ClassKind.TheVariants as Kinds
 use Rattle.sj_trees.specs.declared.classes.FieldDef.{FieldDef}
 use Rattle.sj_trees.specs.declared.types.IrType.TheVariants as Types
-use Rattle.sj_world.specs.Rows.{empty_class}
-use Rattle.sj_world.specs.declared.linked.MethodEntry.{MethodEntry}
+use Rattle.class_code.specs.Rows.{empty_class}
+use Rattle.class_code.specs.MethodEntry.{MethodEntry}
 
 abbrev parts_of : Name → Option Name → List Name → List MethodEntry → List FieldDef → Parts
 parts_of c superclass above entries fields = record { class = empty_class c Kinds.Class superclass []; ancestors = above; entries = entries; fields = fields; statics = []; instances = []; is_live = true; is_base = false; is_loaded = false; is_stored = false; is_tested = true; is_cast = false }

@@ -3,9 +3,9 @@ use Rattle.std.proofs.Common.{◌≡◌, Bool, true, List, [], ◌∷◌, ◌++�
 use Rattle.std.specs.List.{All}
 use Rattle.std.proofs.lemmas.Bool.{and_parts}
 use Rattle.std.proofs.lemmas.List.Elements.{All-nil, All-cons, All-head, All-tail}
-use Rattle.declared_pieces.proofs.Direct.{IsCalled, is_called}
-use Rattle.declared_pieces.proofs.Uses.{combine}
-use Rattle.declared_pieces.specs.Built.{Usable, can_call, stands, is_built, are_built, are_built_cases}
+use Rattle.linked_folders.proofs.Direct.{IsCalled, is_called}
+use Rattle.linked_folders.proofs.Uses.{combine}
+use Rattle.linked_folders.specs.Built.{Usable, can_call, stands, is_built, are_built, are_built_cases}
 use Rattle.linked_folders.proofs.WrittenTrees.{written, written_below, all_written, cases_written}
 use Rattle.sj_desugar.specs.Desugar.{callee_of}
 use Rattle.sj_names.proofs.Same.{impossible}

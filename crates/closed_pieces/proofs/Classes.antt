@@ -4,13 +4,13 @@ use Rattle.std.specs.Prelude.{is_none}
 use Rattle.std.specs.List.{All}
 use Rattle.std.proofs.lemmas.Bool.{or_right}
 use Rattle.std.proofs.lemmas.List.Elements.{All-nil, All-cons, All-contains, Contains-append_left, Contains-append_right, Contains-append_cases}
-use Rattle.declared_pieces.proofs.Derivations.{closed}
-use Rattle.declared_pieces.proofs.Parts.{constants_there, statics_among, in_statics}
-use Rattle.declared_pieces.proofs.Uses.{combine}
-use Rattle.declared_pieces.specs.Classes.{AreParts}
-use Rattle.declared_pieces.specs.Entries.{IsLive, IsMethodEntry, direct, proxy, AreEntries}
-use Rattle.declared_pieces.specs.Reachable.{Reachable}
-use Rattle.declared_pieces.specs.Rules.{Reads, of_load, asked_body, load_made, plain_constructor, public_member}
+use Rattle.linked_folders.proofs.Derivations.{closed}
+use Rattle.linked_folders.proofs.Parts.{constants_there, statics_among, in_statics}
+use Rattle.linked_folders.proofs.Uses.{combine}
+use Rattle.linked_folders.specs.Classes.{AreParts}
+use Rattle.linked_folders.specs.Entries.{IsLive, IsMethodEntry, direct, proxy, AreEntries}
+use Rattle.linked_folders.specs.Reachable.{Reachable}
+use Rattle.linked_folders.specs.ReachRulesRules.{Reads, of_load, asked_body, load_made, plain_constructor, public_member}
 use Rattle.helper_rules.specs.Helpers.{helper_name}
 use Rattle.helper_rules.specs.Words.{bound, helper, all_kinds, class_name}
 use Rattle.helper_rules.specs.declared.kinds.Failure.TheVariants.{Cast as CastFails}
@@ -20,7 +20,7 @@ use Rattle.helper_rules.specs.declared.kinds.Kind.{Kind}
 use Rattle.js_tree.specs.Terms.{Name, Piece}
 use Rattle.js_tree.specs.declared.items.Binding.{Binding}
 use Rattle.module_rules.specs.Laws.{IsDeclared}
-use Rattle.declared_pieces.specs.PieceRulesPieces.{Parts, pieces, when, constants_piece, class_piece, class_uses, parent_uses, own_constants, uses_of_entries, entry_uses, box_uses, is_char, all_statics, variable_piece, setter_piece, cell_piece, cell_pieces, load_piece, store_piece, init_name, test_piece, test_uses, test_binding, cast_piece, kind_of_class, constants_of, class_of as class_pieces_of, module_of, tests_of}
+use Rattle.linked_folders.specs.PieceRulesPieces.{Parts, pieces, when, constants_piece, class_piece, class_uses, parent_uses, own_constants, uses_of_entries, entry_uses, box_uses, is_char, all_statics, variable_piece, setter_piece, cell_piece, cell_pieces, load_piece, store_piece, init_name, test_piece, test_uses, test_binding, cast_piece, kind_of_class, constants_of, class_of as class_pieces_of, module_of, tests_of}
 use Rattle.sj_emit_expr.specs.Templates.{member_name}
 use Rattle.sj_emit_expr.specs.Uses.{function_binding}
 use Rattle.sj_infos.specs.declared.forms.BodyForm.TheVariants as forms
@@ -38,8 +38,8 @@ use Rattle.sj_world.specs.declared.facts.Fact.TheVariants.{Body, Made}
 use Rattle.sj_world.specs.declared.linked.MethodEntry.{MethodEntry}
 use Rattle.worklist.proofs.Inserted.{nothing_in, only_one}
 use Rattle.closed_pieces.proofs.Declared.{Declares}
-use Rattle.declared_pieces.proofs.Parts.{test_among}
-use Rattle.declared_pieces.proofs.Forms.{body_tells, in_one}
+use Rattle.linked_folders.proofs.Parts.{test_among}
+use Rattle.linked_folders.proofs.Forms.{body_tells, in_one}
 use Rattle.closed_pieces.proofs.Places.{from_once}
 
 module _ (entries : List EntryPoint) (l : Linked) (having : List Helper) (ps : List Piece) (d : Declares entries l having ps) (holds : (f : Fact) → Contains l.facts f → Reachable l.world entries f) (methods : AreEntries l.world l.facts l.entries) where

@@ -2,29 +2,29 @@
 use Rattle.std.proofs.Common.{◌≡◌, ◌↔◌, ◌++◌, ◌||◌, Bool, true, List, [], ◌∷◌, Option, Some, refl, sym, ap, subst, ◌∙◌, Contains}
 use Rattle.std.proofs.lemmas.List.Elements.{Contains-append_left, Contains-append_right}
 use Rattle.std.proofs.lemmas.List.Sorted.{Contains-permutation}
-use Rattle.declared_pieces.proofs.Blocks.{OwnPieces, own_pieces, method_there, helper_there}
-use Rattle.declared_pieces.proofs.Derivations.{closed}
-use Rattle.declared_pieces.proofs.Live.{classes_kept, live_there}
-use Rattle.declared_pieces.proofs.Made as made
-use Rattle.declared_pieces.proofs.Members.{defined}
-use Rattle.declared_pieces.proofs.Parts.{class_there, statics_among, in_statics, is_reached, test_among, cast_among}
-use Rattle.declared_pieces.specs.Accepted.{IsAccepted}
-use Rattle.declared_pieces.specs.Bodies.{AreBodies}
-use Rattle.declared_pieces.specs.Classes.{HasForm}
-use Rattle.declared_pieces.specs.Emitted.{EmittedMethod}
-use Rattle.declared_pieces.specs.Entries.{IsLive}
-use Rattle.declared_pieces.specs.Pieces.{piece_of_member, AreLinkedPieces}
-use Rattle.declared_pieces.specs.Reachable.{Reachable}
-use Rattle.declared_pieces.specs.Rules.{the_object}
-use Rattle.declared_pieces.specs.TypingRulesRules.{HasFieldType}
+use Rattle.linked_folders.proofs.Blocks.{OwnPieces, own_pieces, method_there, helper_there}
+use Rattle.linked_folders.proofs.Derivations.{closed}
+use Rattle.linked_folders.proofs.DeclaredPiecesLive.{classes_kept, live_there}
+use Rattle.linked_folders.proofs.Made as made
+use Rattle.linked_folders.proofs.Members.{defined}
+use Rattle.linked_folders.proofs.Parts.{class_there, statics_among, in_statics, is_reached, test_among, cast_among}
+use Rattle.linked_folders.specs.Accepted.{IsAccepted}
+use Rattle.linked_folders.specs.Bodies.{AreBodies}
+use Rattle.linked_folders.specs.Classes.{HasForm}
+use Rattle.linked_folders.specs.Emitted.{EmittedMethod}
+use Rattle.linked_folders.specs.Entries.{IsLive}
+use Rattle.linked_folders.specs.Pieces.{piece_of_member, AreLinkedPieces}
+use Rattle.linked_folders.specs.Reachable.{Reachable}
+use Rattle.linked_folders.specs.ReachRulesRules.{the_object}
+use Rattle.linked_folders.specs.Rules.{HasFieldType}
 use Rattle.file_listings.specs.Listed.{AreBytes}
 use Rattle.helper_rules.specs.Helpers.{helper_name, helper_piece}
 use Rattle.helper_rules.specs.Words.{bound, helper, all_kinds, class_name}
 use Rattle.helper_rules.specs.declared.kinds.Helper.{Helper}
 use Rattle.js_tree.specs.Terms.{Piece}
 use Rattle.module_rules.specs.Laws.{IsDeclared}
-use Rattle.declared_pieces.proofs.Plain.{class_found}
-use Rattle.declared_pieces.specs.PieceRulesPieces.{Parts, pieces, when, constants_of, class_of, module_of, tests_of, class_piece, variable_piece, setter_piece, all_statics, test_piece, cast_piece, kind_of_class}
+use Rattle.linked_folders.proofs.Plain.{class_found}
+use Rattle.linked_folders.specs.PieceRulesPieces.{Parts, pieces, when, constants_of, class_of, module_of, tests_of, class_piece, variable_piece, setter_piece, all_statics, test_piece, cast_piece, kind_of_class}
 use Rattle.sj_emit_expr.specs.Templates.{member_name, static_name, setter_name}
 use Rattle.sj_emit_expr.specs.Uses.{function_binding, class_use, static_use, setter_use}
 use Rattle.sj_infos.specs.declared.forms.BodyForm.TheVariants as forms

@@ -3,26 +3,26 @@ use Rattle.std.proofs.Common.{◌≡◌, ◌∙◌, List, [], ◌∷◌, Option,
 use Rattle.std.specs.List.{All}
 use Rattle.std.proofs.lemmas.List.Elements.{All-nil, All-cons, All-contains, Contains-append_left}
 use Rattle.closed_pieces.proofs.Called.{Called, each_called, with_calls}
-use Rattle.declared_pieces.proofs.Calls.{needed}
-use Rattle.declared_pieces.proofs.Derivations.{closed}
-use Rattle.declared_pieces.proofs.Direct.{IsCalled}
-use Rattle.declared_pieces.proofs.EachTyped.{in_all}
-use Rattle.declared_pieces.proofs.Found.{here}
-use Rattle.declared_pieces.proofs.Given.{all_from}
-use Rattle.declared_pieces.proofs.Hijacked.{of_hijacked}
-use Rattle.declared_pieces.proofs.Members.{defined}
-use Rattle.declared_pieces.proofs.Standing.{Stands, each_stands}
-use Rattle.declared_pieces.proofs.Written.{some_same, all_at}
-use Rattle.declared_pieces.specs.Accepted.{IsAccepted}
-use Rattle.declared_pieces.specs.Bodies.{AreBodies}
-use Rattle.declared_pieces.specs.Built.{any_object, body_boxes, is_built, is_object_body, may_make}
-use Rattle.declared_pieces.specs.Classes.{HasForm}
-use Rattle.declared_pieces.specs.Emitted.{EmittedMethod}
-use Rattle.declared_pieces.specs.Pieces.{piece_of_member}
-use Rattle.declared_pieces.specs.Reachable.{Reachable}
-use Rattle.declared_pieces.specs.Refusals.{missing_class, missing_method, abstract_target, IsPresent, no_class, no_target, no_target_body, no_method, no_hijacked_body}
-use Rattle.declared_pieces.specs.Rules.{Reads, of_call, of_new, asked_body, new_made, field_needed, resolved_class, resolved_body, call_class, call_hijacked, class_named}
-use Rattle.declared_pieces.specs.Typed.{MeetsThere}
+use Rattle.linked_folders.proofs.Calls.{needed}
+use Rattle.linked_folders.proofs.Derivations.{closed}
+use Rattle.linked_folders.proofs.Direct.{IsCalled}
+use Rattle.linked_folders.proofs.EachTyped.{in_all}
+use Rattle.linked_folders.proofs.Found.{here}
+use Rattle.linked_folders.proofs.Given.{all_from}
+use Rattle.linked_folders.proofs.Hijacked.{of_hijacked}
+use Rattle.linked_folders.proofs.Members.{defined}
+use Rattle.linked_folders.proofs.Standing.{Stands, each_stands}
+use Rattle.linked_folders.proofs.Written.{some_same, all_at}
+use Rattle.linked_folders.specs.Accepted.{IsAccepted}
+use Rattle.linked_folders.specs.Bodies.{AreBodies}
+use Rattle.linked_folders.specs.Built.{any_object, body_boxes, is_built, is_object_body, may_make}
+use Rattle.linked_folders.specs.Classes.{HasForm}
+use Rattle.linked_folders.specs.Emitted.{EmittedMethod}
+use Rattle.linked_folders.specs.Pieces.{piece_of_member}
+use Rattle.linked_folders.specs.Reachable.{Reachable}
+use Rattle.linked_folders.specs.Refusals.{missing_class, missing_method, abstract_target, IsPresent, no_class, no_target, no_target_body, no_method, no_hijacked_body}
+use Rattle.linked_folders.specs.ReachRulesRules.{Reads, of_call, of_new, asked_body, new_made, field_needed, resolved_class, resolved_body, call_class, call_hijacked, class_named}
+use Rattle.linked_folders.specs.Typed.{MeetsThere}
 use Rattle.dispatch_laws.proofs.WorkedOut.{targets_are_worked_out}
 use Rattle.dispatch_laws.specs.Laws.{found_by}
 use Rattle.dispatch_laws.specs.Targets.{at_owner, lookup_in}

@@ -1,13 +1,13 @@
 -- What the helpers of an accepted folder use is declared.
 use Rattle.std.proofs.Common.{◌≡◌, true, List, [], ◌∷◌, inl, inr, subst, map, Contains}
 use Rattle.std.proofs.lemmas.List.Elements.{Contains-append_cases}
-use Rattle.declared_pieces.specs.Accepted.{IsAccepted}
-use Rattle.declared_pieces.specs.Bodies.{AreBodies}
-use Rattle.declared_pieces.specs.Built.{is_object_body}
-use Rattle.declared_pieces.specs.Emitted.{EmittedMethod}
-use Rattle.declared_pieces.specs.Pieces.{by_helper, AreLinkedPieces}
-use Rattle.declared_pieces.specs.Reachable.{Reachable}
-use Rattle.declared_pieces.specs.Rules.{message_constructor}
+use Rattle.linked_folders.specs.Accepted.{IsAccepted}
+use Rattle.linked_folders.specs.Bodies.{AreBodies}
+use Rattle.linked_folders.specs.Built.{is_object_body}
+use Rattle.linked_folders.specs.Emitted.{EmittedMethod}
+use Rattle.linked_folders.specs.Pieces.{by_helper, AreLinkedPieces}
+use Rattle.linked_folders.specs.Reachable.{Reachable}
+use Rattle.linked_folders.specs.ReachRulesRules.{message_constructor}
 use Rattle.helper_rules.specs.Helpers.{failure_class, helper_uses, init_name, of, used_helpers, used_of_classes}
 use Rattle.helper_rules.specs.Words.{bound, class_name}
 use Rattle.helper_rules.specs.declared.kinds.Helper.{Helper}

@@ -5,9 +5,13 @@ pub mod Called
 pub mod Classes
 pub mod Helpers
 pub mod Uses
-pub use Rattle.declared_pieces.proofs.EachTyped
-pub use Rattle.declared_pieces.proofs.Fields
-pub use Rattle.declared_pieces.proofs.Forms
-pub use Rattle.declared_pieces.proofs.Order
-pub use Rattle.declared_pieces.proofs.Parts
-pub use Rattle.declared_pieces.proofs.Worlds
+pub use Rattle.linked_folders.proofs.EachTyped
+pub use Rattle.linked_folders.proofs.DeclaredPiecesFields as Fields
+pub use Rattle.linked_folders.proofs.Forms
+pub use Rattle.linked_folders.proofs.Order
+pub use Rattle.linked_folders.proofs.Parts
+pub use Rattle.linked_folders.proofs.Worlds
+pub use Rattle.linked_folders.proofs.Edits
+pub use Rattle.linked_folders.proofs.Links
+pub use Rattle.linked_folders.proofs.One
+pub use Rattle.linked_folders.proofs.Names

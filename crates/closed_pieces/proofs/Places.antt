@@ -2,23 +2,23 @@
 use Rattle.std.proofs.Common.{◌≡◌, ◌++◌, Bool, true, false, List, [], ◌∷◌, inl, inr, sym, subst, map, Contains, if◌then◌else◌}
 use Rattle.std.specs.List.{flat_map}
 use Rattle.std.proofs.lemmas.List.Elements.{All-contains, Contains-append_left, Contains-append_cases}
-use Rattle.declared_pieces.proofs.Blocks.{in_block}
-use Rattle.declared_pieces.proofs.EachTyped.{in_all}
-use Rattle.declared_pieces.proofs.Given.{all_from}
-use Rattle.declared_pieces.specs.Classes.{AreClassPieces, AreParts, absent, present}
-use Rattle.declared_pieces.specs.Emitted.{EmittedMethod}
-use Rattle.declared_pieces.specs.Pieces.{piece_of_member, Block, IsBlock, AreBlocks, pieces_of_block, with_helpers, AreLinkedPieces}
+use Rattle.linked_folders.proofs.Blocks.{in_block}
+use Rattle.linked_folders.proofs.EachTyped.{in_all}
+use Rattle.linked_folders.proofs.Given.{all_from}
+use Rattle.linked_folders.specs.Classes.{AreClassPieces, AreParts, absent, present}
+use Rattle.linked_folders.specs.Emitted.{EmittedMethod}
+use Rattle.linked_folders.specs.Pieces.{piece_of_member, Block, IsBlock, AreBlocks, pieces_of_block, with_helpers, AreLinkedPieces}
 use Rattle.helper_rules.specs.Helpers.{helper_piece}
 use Rattle.helper_rules.specs.declared.kinds.Helper.{Helper}
 use Rattle.js_tree.specs.Terms.{Name, Piece}
 use Rattle.js_tree.specs.declared.items.Binding.{Binding}
 use Rattle.linked_folders.proofs.Bodies.{once_in}
-use Rattle.declared_pieces.specs.PieceRulesPieces.{Parts, pieces}
+use Rattle.linked_folders.specs.PieceRulesPieces.{Parts, pieces}
 use Rattle.sj_emit_expr.specs.Uses.{once_each}
 use Rattle.sj_names.specs.WellKnown.{is_object}
 use Rattle.sj_split.proofs.Members.{at_first, further, cons_cases, from_map}
 use Rattle.sj_world.specs.Linked.{Linked}
-use Rattle.declared_pieces.proofs.Forms.{in_one}
+use Rattle.linked_folders.proofs.Forms.{in_one}
 use Rattle.worklist.proofs.Inserted.{nothing_in}
 
 -- what stands once each stood there before

@@ -1,16 +1,16 @@
 -- What the pieces of an accepted folder use they declare.
 use Rattle.std.proofs.Common.{◌≡◌, ◌↔◌, ◌∙◌, true, List, Some, sym, subst, Contains}
-use Rattle.declared_pieces.proofs.Calls.{needed}
-use Rattle.declared_pieces.proofs.Live.{next_is, live_next, live_free}
-use Rattle.declared_pieces.proofs.Members.{defined}
-use Rattle.declared_pieces.specs.Accepted.{IsAccepted}
-use Rattle.declared_pieces.specs.Bodies.{AreBodies}
-use Rattle.declared_pieces.specs.Built.{is_object_body}
-use Rattle.declared_pieces.specs.Classes.{AreParts}
-use Rattle.declared_pieces.specs.Emitted.{EmittedMethod}
-use Rattle.declared_pieces.specs.Entries.{IsLive, AreEntries}
-use Rattle.declared_pieces.specs.Pieces.{piece_of_member, by_piece, AreLinkedPieces}
-use Rattle.declared_pieces.specs.Reachable.{Reachable}
+use Rattle.linked_folders.proofs.Calls.{needed}
+use Rattle.linked_folders.proofs.DeclaredPiecesLive.{next_is, live_next, live_free}
+use Rattle.linked_folders.proofs.Members.{defined}
+use Rattle.linked_folders.specs.Accepted.{IsAccepted}
+use Rattle.linked_folders.specs.Bodies.{AreBodies}
+use Rattle.linked_folders.specs.Built.{is_object_body}
+use Rattle.linked_folders.specs.Classes.{AreParts}
+use Rattle.linked_folders.specs.Emitted.{EmittedMethod}
+use Rattle.linked_folders.specs.Entries.{IsLive, AreEntries}
+use Rattle.linked_folders.specs.Pieces.{piece_of_member, by_piece, AreLinkedPieces}
+use Rattle.linked_folders.specs.Reachable.{Reachable}
 use Rattle.file_listings.specs.Listed.{AreBytes}
 use Rattle.helper_rules.specs.Helpers.{helper_name}
 use Rattle.helper_rules.specs.Words.{helper}
@@ -20,8 +20,8 @@ use Rattle.js_tree.specs.declared.items.Binding.{Binding}
 use Rattle.linked_folders.proofs.Links.{body_built}
 use Rattle.linked_folders.specs.Edits.{AreBuilt}
 use Rattle.module_rules.specs.Laws.{IsDeclared}
-use Rattle.declared_pieces.proofs.Plain.{class_found}
-use Rattle.declared_pieces.specs.PieceRulesPieces.{Parts}
+use Rattle.linked_folders.proofs.Plain.{class_found}
+use Rattle.linked_folders.specs.PieceRulesPieces.{Parts}
 use Rattle.sj_names.specs.declared.entry_points.EntryPoint.{EntryPoint}
 use Rattle.sj_names.specs.declared.folders.SourceFile.{SourceFile}
 use Rattle.sj_world.specs.Known.{Classes}

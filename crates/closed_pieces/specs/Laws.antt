@@ -1,7 +1,7 @@
 -- What the pieces of an accepted folder use.
 use Rattle.std.specs.Prelude.{List}
 use Rattle.std.specs.List.{Contains}
-use Rattle.declared_pieces.specs.Accepted.{IsAccepted}
+use Rattle.linked_folders.specs.Accepted.{IsAccepted}
 use Rattle.file_listings.specs.Listed.{AreBytes}
 use Rattle.js_tree.specs.Terms.{Piece}
 use Rattle.js_tree.specs.declared.items.Binding.{Binding}

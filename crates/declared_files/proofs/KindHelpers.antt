@@ -5,7 +5,7 @@ use Rattle.helper_rules.specs.Helpers.{helper_name}
 use Rattle.helper_rules.specs.declared.kinds.Helper.TheVariants.{TestOf, CastTo}
 use Rattle.helper_rules.specs.declared.kinds.Kind.{Kind}
 use Rattle.helper_rules.specs.declared.kinds.Kind.TheVariants as kinds
-use Rattle.sj_calls.specs.Helpers.{kind_of}
+use Rattle.file_declarations.specs.Helpers.{kind_of}
 use Rattle.sj_emit_expr.specs.Tests.{test_name, cast_name}
 use Rattle.sj_names.proofs.Same.{impossible}
 use Rattle.sj_trees.specs.declared.types.IrType.{IrType}

@@ -11,7 +11,7 @@ use Rattle.js_mean.specs.Files.{module_among, items_in}
 use Rattle.js_mean.specs.Objects.{no_properties}
 use Rattle.js_mean.specs.States.{Value, Stored, plain, State, Program}
 use Rattle.js_tree.specs.Terms.{Name, Property, Item, object_item}
-use Rattle.sj_plain.specs.Settings.{MarksAncestors}
+use Rattle.file_declarations.specs.Settings.{MarksAncestors}
 use Rattle.sj_world.specs.Known.{Classes}
 use Rattle.declared_files.specs.Declared.{AreConstants}
 use Rattle.declared_files.specs.Placed.{Placed, placed, items_until, OfPlaced, of_placed}

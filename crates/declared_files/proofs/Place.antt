@@ -10,7 +10,7 @@ use Rattle.file_declarations.specs.Declarations.{behind}
 use Rattle.file_declarations.specs.Declared.{Running, alone as by_itself, on_receiver, completing, running, is_covered}
 use Rattle.file_tops.proofs.Run.{some_same}
 use Rattle.file_tops.specs.Tops.{literal_value, link}
-use Rattle.dispatch_laws.specs.Targets.{IsTargetOf}
+use Rattle.body_soundness.specs.Targets.{IsTargetOf}
 use Rattle.helper_rules.specs.Helpers.{helper_name, helper_item, used_helpers, constants, box_constructor}
 use Rattle.helper_rules.specs.Words.{class_name, constants_name, kind_class}
 use Rattle.helper_rules.specs.declared.kinds.Failure.TheVariants.{NullReceiver, Division, Cast}
@@ -29,20 +29,20 @@ use Rattle.js_tree.specs.Terms.{Name, Statements, Member, constructor_of, Item, 
 use Rattle.js_tree.specs.Views.{statements_of}
 use Rattle.outcomes.specs.Agreement.{Room}
 use Rattle.outcomes.specs.Shown as shown_ends
-use Rattle.piece_rules.specs.Pieces.{class_item_of, constructor_body, setter, test_piece, cast_piece, zero_of as zero_literal}
-use Rattle.sj_calls.proofs.Shapes.{stands_there, zero_alike}
-use Rattle.sj_calls.specs.Chains as chains
-use Rattle.sj_calls.specs.ClassCasts.{class_cast_code, hijacked_test_code}
-use Rattle.sj_calls.specs.ClassTests.{class_test_code}
-use Rattle.sj_calls.proofs.Casting.{cast_named}
-use Rattle.sj_calls.proofs.Testing.{test_named}
-use Rattle.sj_calls.specs.Helpers.{ReachesBoxes, ReachesTest, ClassTest, by_marker, by_kind, CanTest, Tested, of_kind, of_class, CanCompare, helper_code, HelperStands, BoxStands, failing_code, checking_code, division_code}
-use Rattle.sj_calls.specs.Made.{zero_value}
-use Rattle.sj_calls.specs.Methods.{Linked, parameters_in, function_of}
-use Rattle.sj_calls.specs.Names.{emitted_in}
-use Rattle.sj_calls.specs.Objects.{RunsOn, Constructs, function_on, body_of}
-use Rattle.sj_calls.specs.Objects as on_objects
-use Rattle.sj_calls.specs.Worlds.{IsMade, CanCheck, CanDivide, ThrowsCast, CanCast, CanCastClass, Casted, to_kind, to_class, StaticStands, setter_code, HasObjects}
+use Rattle.file_declarations.specs.Pieces.{class_item_of, constructor_body, setter, test_piece, cast_piece, zero_of as zero_literal}
+use Rattle.file_declarations.proofs.Shapes.{stands_there, zero_alike}
+use Rattle.file_declarations.specs.Chains as chains
+use Rattle.file_declarations.specs.ClassCastsClasses.{class_cast_code, hijacked_test_code}
+use Rattle.file_declarations.specs.Tests.{class_test_code}
+use Rattle.file_declarations.proofs.Casting.{cast_named}
+use Rattle.file_declarations.proofs.Testing.{test_named}
+use Rattle.file_declarations.specs.Helpers.{ReachesBoxes, ReachesTest, ClassTest, by_marker, by_kind, CanTest, Tested, of_kind, of_class, CanCompare, helper_code, HelperStands, BoxStands, failing_code, checking_code, division_code}
+use Rattle.file_declarations.specs.Made.{zero_value}
+use Rattle.file_declarations.specs.Methods.{Linked, parameters_in, function_of}
+use Rattle.file_declarations.specs.Names.{emitted_in}
+use Rattle.file_declarations.specs.Objects.{RunsOn, Constructs, function_on, body_of}
+use Rattle.file_declarations.specs.Objects as on_objects
+use Rattle.file_declarations.specs.Worlds.{IsMade, CanCheck, CanDivide, ThrowsCast, CanCast, CanCastClass, Casted, to_kind, to_class, StaticStands, setter_code, HasObjects}
 use Rattle.sj_core.specs.Terms.{named, receiver}
 use Rattle.sj_desugar.specs.Desugar.{is_mutable_in, names_of, body_code, completed, desugared_member}
 use Rattle.sj_emit_expr.specs.Members.{with_receiver, member_piece}
@@ -53,8 +53,8 @@ use Rattle.sj_names.proofs.Same.{impossible}
 use Rattle.sj_names.specs.declared.method_names.Member.{Member as MemberName}
 use Rattle.sj_names.specs.declared.method_names.Namespace.{Namespace}
 use Rattle.sj_names.specs.declared.method_names.Namespace.TheVariants.{Public, PublicStatic, Private, PrivateStatic, Constructor}
-use Rattle.sj_plain.specs.Settings.{Place, Top, a_function, a_method, a_constructor, a_class, some_constants, a_static, a_setter, a_test, a_cast, a_helper, top_name, is_usable, IsField, HasField, Holding, holding, HoldsConstants, TopHolds, SameHeap, SameState, Reaches, link_of, box_link, division_helper}
-use Rattle.sj_plain.specs.Worlds.{World}
+use Rattle.file_declarations.specs.Settings.{Place, Top, a_function, a_method, a_constructor, a_class, some_constants, a_static, a_setter, a_test, a_cast, a_helper, top_name, is_usable, IsField, HasField, Holding, holding, HoldsConstants, TopHolds, SameHeap, SameState, Reaches, link_of, box_link, division_helper}
+use Rattle.file_declarations.specs.SjPlainWorlds.{World}
 use Rattle.sj_trees.specs.Term.{Term}
 use Rattle.sj_world.specs.Known.{is_hijacked}
 use Rattle.sj_trees.specs.declared.classes.ClassDef.{ClassDef}

@@ -11,13 +11,13 @@ use Rattle.js_mean.specs.Shows as js_showing
 use Rattle.js_tree.specs.Terms.{Item}
 use Rattle.outcomes.proofs.Simulation.{agree-from_sim}
 use Rattle.outcomes.specs.Agreement.{Direction, Enough, Sim, Agree}
-use Rattle.sj_calls.proofs.Names.{emitted_names_differ}
-use Rattle.sj_calls.proofs.ObjectLevels as levels
-use Rattle.sj_calls.proofs.Whole.{InitializersAgreeAt}
+use Rattle.file_declarations.proofs.Names.{emitted_names_differ}
+use Rattle.file_declarations.proofs.ObjectLevels as levels
+use Rattle.file_declarations.proofs.Whole.{InitializersAgreeAt}
 use Rattle.sj_names.specs.declared.entry_points.EntryPoint.{EntryPoint}
-use Rattle.sj_plain.specs.Settings.{a_function, NamesDiffer}
-use Rattle.sj_plain.specs.Worlds.{no_values}
-use Rattle.sj_proper.specs.Emitted.{initializer_member, call_item_of}
+use Rattle.file_declarations.specs.Settings.{a_function, NamesDiffer}
+use Rattle.file_declarations.specs.SjPlainWorlds.{no_values}
+use Rattle.body_soundness.specs.Emitted.{initializer_member, call_item_of}
 use Rattle.sj_world.specs.Laws.{IsPlain}
 use Rattle.declared_files.specs.Declared.{Spread, Declared, IsPublic, IsLawful}
 use Rattle.declared_files.specs.Placed.{RunInOrder, DeclaredAt}

@@ -36,9 +36,9 @@ use Rattle.sj_names.specs.Grammar.{is_class_name, is_plain_name}
 use Rattle.sj_names.specs.declared.entry_points.EntryPoint.{EntryPoint}
 use Rattle.sj_names.specs.declared.method_names.Member.{Member}
 use Rattle.sj_names.specs.declared.method_names.Namespace.TheVariants.{Private, Constructor}
-use Rattle.sj_plain.specs.Settings.{Top, a_function, a_method, a_constructor, a_class, some_constants, a_static, a_setter, a_test, a_cast, a_helper, is_named, is_usable, IsField}
-use Rattle.sj_proper.specs.Emitted.{initializer_member}
-use Rattle.sj_proper.specs.Methods.{KeepsRules}
+use Rattle.file_declarations.specs.Settings.{Top, a_function, a_method, a_constructor, a_class, some_constants, a_static, a_setter, a_test, a_cast, a_helper, is_named, is_usable, IsField}
+use Rattle.body_soundness.specs.Emitted.{initializer_member}
+use Rattle.body_soundness.specs.Methods.{KeepsRules}
 use Rattle.sj_trees.specs.Term.{skip}
 use Rattle.sj_trees.specs.declared.classes.FieldDef.{FieldDef}
 use Rattle.sj_trees.specs.declared.classes.ClassDef.{ClassDef}

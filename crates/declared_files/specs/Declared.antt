@@ -10,7 +10,7 @@ use Rattle.helper_rules.specs.Words.{marker, kind_class, worded_kinds}
 use Rattle.helper_rules.specs.declared.kinds.Failure.TheVariants.{NullReceiver, Division, Cast}
 use Rattle.helper_rules.specs.declared.kinds.Helper.{Helper}
 use Rattle.helper_rules.specs.declared.kinds.Kind.{Kind}
-use Rattle.sj_calls.specs.Helpers.{kind_of}
+use Rattle.file_declarations.specs.Helpers.{kind_of}
 use Rattle.helper_rules.specs.declared.kinds.Helper.TheVariants.{Throws, TestOf, CastTo}
 use Rattle.ir_mean.specs.Dispatch.{chain_of}
 use Rattle.ir_mean.specs.Meaning.{with_message}
@@ -20,8 +20,8 @@ use Rattle.js_mean.specs.Shows.{class_marked, file_of}
 use Rattle.js_mean.specs.States.{Program}
 use Rattle.js_tree.specs.Terms.{Name, Property, Item, object_item, Member, constructor_of}
 use Rattle.js_tree.specs.Views.{statements_of}
-use Rattle.piece_rules.specs.Classes.{AreInstances}
-use Rattle.piece_rules.specs.Pieces.{constants_piece, class_item_of, constructor_body, variable_piece, setter_piece, test_piece, cast_piece}
+use Rattle.file_declarations.specs.Classes.{AreInstances}
+use Rattle.file_declarations.specs.Pieces.{constants_piece, class_item_of, constructor_body, variable_piece, setter_piece, test_piece, cast_piece}
 use Rattle.sj_desugar.specs.Desugar.{desugared_member, member}
 use Rattle.sj_emit_expr.specs.Members.{member_piece}
 use Rattle.sj_emit_expr.specs.Templates.{check_name}
@@ -29,8 +29,8 @@ use Rattle.sj_names.specs.Same.{is_same_text}
 use Rattle.sj_names.specs.declared.entry_points.EntryPoint.{EntryPoint}
 use Rattle.sj_names.specs.declared.method_names.Member.{Member as MemberName}
 use Rattle.sj_names.specs.declared.method_names.Namespace.TheVariants.{Constructor}
-use Rattle.sj_plain.specs.Settings.{Top, a_function, a_method, a_constructor, a_class, some_constants, a_static, a_setter, a_test, a_cast, a_helper, top_name, is_usable, is_named, IsField, IsStaticField}
-use Rattle.sj_proper.specs.Emitted.{initializer_member, call_item_of}
+use Rattle.file_declarations.specs.Settings.{Top, a_function, a_method, a_constructor, a_class, some_constants, a_static, a_setter, a_test, a_cast, a_helper, top_name, is_usable, is_named, IsField, IsStaticField}
+use Rattle.body_soundness.specs.Emitted.{initializer_member, call_item_of}
 use Rattle.sj_trees.specs.declared.classes.ClassDef.{ClassDef}
 use Rattle.sj_trees.specs.declared.classes.FieldDef.{FieldDef}
 use Rattle.sj_trees.specs.declared.operators.BinaryOp.{BinaryOp}

@@ -11,8 +11,8 @@ use Rattle.js_tree.specs.Views.{statements_of}
 use Rattle.sj_core.specs.Lookup.{own_targets}
 use Rattle.sj_desugar.specs.Desugar.{member}
 use Rattle.sj_names.specs.declared.method_names.Namespace.TheVariants.{Private, Constructor}
-use Rattle.sj_plain.specs.Settings.{Top, a_function, a_class, some_constants}
-use Rattle.sj_proper.specs.Emitted.{call_item_of}
+use Rattle.file_declarations.specs.Settings.{Top, a_function, a_class, some_constants}
+use Rattle.body_soundness.specs.Emitted.{call_item_of}
 use Rattle.sj_trees.specs.SameTypes.{is_same_type}
 use Rattle.sj_trees.specs.declared.types.IrType.TheVariants.{Int}
 use Rattle.declared_files.specs.Declared.{Spread}

@@ -7,9 +7,9 @@ use Rattle.std.proofs.lemmas.List.Elements.{Contains-append_left, Contains-appen
 use Rattle.declared_pieces.proofs.BodyUsesTested.{kind_uses, cast_kind_uses}
 use Rattle.declared_pieces.proofs.Written.{divisors_fit}
 use Rattle.class_code.proofs.Markers.{marked}
-use Rattle.declared_files.proofs.KindHelpers.{helpers_of}
-use Rattle.declared_files.specs.Declared.{Spread, all_items, Leads, FunctionDeclared, ClassDeclared, ChainDeclared, extends_none, extends_one, MadeDeclared, StaticDeclared, KindTestDeclared, ClassTestDeclared, by_marker, by_kind, TestDeclared, of_kind, of_class, KindCastDeclared, ClassCastDeclared, CastDeclared, to_kind, to_class, Uses as UsesTop}
-use Rattle.declared_files.specs.Placed.{placed}
+use Rattle.module_uses.proofs.KindHelpers.{helpers_of}
+use Rattle.module_uses.specs.Declared.{Spread, all_items, Leads, FunctionDeclared, ClassDeclared, ChainDeclared, extends_none, extends_one, MadeDeclared, StaticDeclared, KindTestDeclared, ClassTestDeclared, by_marker, by_kind, TestDeclared, of_kind, of_class, KindCastDeclared, ClassCastDeclared, CastDeclared, to_kind, to_class, Uses as UsesTop}
+use Rattle.module_uses.specs.Placed.{placed}
 use Rattle.declared_pieces.proofs.Blocks.{method_there}
 use Rattle.declared_pieces.proofs.Chains.{Stands, whole_chain}
 use Rattle.declared_pieces.proofs.Fields.{field_there, fields_kept}
@@ -26,7 +26,7 @@ use Rattle.declared_pieces.specs.Emitted.{EmittedMethod}
 use Rattle.declared_pieces.specs.Entries.{IsLive}
 use Rattle.declared_pieces.specs.Laws.{TestThere}
 use Rattle.declared_pieces.specs.Linked.{has_function}
-use Rattle.object_folders.specs.PieceRulesPieces.{Parts, constants_piece, entry_member, variable_piece, setter_piece, test_piece, test_binding, test_uses as kind_tests, kind_of_class, cast_piece}
+use Rattle.class_code.specs.Pieces.{Parts, constants_piece, entry_member, variable_piece, setter_piece, test_piece, test_binding, test_uses as kind_tests, kind_of_class, cast_piece}
 use Rattle.declared_pieces.specs.Pieces.{piece_of_member, AreLinkedPieces}
 use Rattle.declared_pieces.specs.Running.{CanRun}
 use Rattle.declared_pieces.specs.Used.{used_of, is_among, is_received, is_constructor, is_constructor_without_value, uses_static, uses_helper as written_helper, uses_test, uses_cast, is_tested, is_cast}
@@ -48,10 +48,10 @@ use Rattle.module_rules.specs.Modules.{file_with}
 use Rattle.module_uses.proofs.Bodies.{built_here}
 use Rattle.module_uses.proofs.InFiles.{used_there}
 use Rattle.module_uses.specs.Used.{restricted, uses_in}
-use Rattle.object_folders.proofs.Chains.{byte_not}
-use Rattle.object_folders.proofs.Methods.{right_method}
-use Rattle.object_folders.proofs.Throwing.{exceptions, division, cast_throws}
-use Rattle.accepted_folders.specs.BodySoundnessRules.{RightMember}
+use Rattle.declared_pieces.proofs.BodySoundnessChains.{byte_not}
+use Rattle.declared_pieces.proofs.ObjectFoldersMethods.{right_method}
+use Rattle.declared_pieces.proofs.Throwing.{exceptions, division, cast_throws}
+use Rattle.module_uses.specs.Rules.{RightMember}
 use Rattle.sj_desugar.specs.Desugar.{member}
 use Rattle.sj_emit_expr.specs.Templates.{check_name, static_name}
 use Rattle.sj_emit_expr.specs.Tests.{test_name, cast_name}

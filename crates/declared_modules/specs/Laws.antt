@@ -1,7 +1,7 @@
 -- Laws of the files of a plan.
 use Rattle.std.specs.Prelude.{◌≡◌, ◌↔◌, true, List}
 use Rattle.std.specs.List.{Contains}
-use Rattle.declared_files.specs.Declared.{Declared}
+use Rattle.module_uses.specs.Declared.{Declared}
 use Rattle.declared_pieces.specs.Accepted.{IsAccepted}
 use Rattle.declared_pieces.specs.Bodies.{AreBodies}
 use Rattle.declared_pieces.specs.Closed.{IsClosed}

@@ -1,3 +1,13 @@
 pub mod Spread
 pub mod Laws
 pub use Rattle.module_uses.specs.Used
+pub use Rattle.declared_pieces.specs.Accepted
+pub use Rattle.declared_pieces.specs.Bodies
+pub use Rattle.declared_pieces.specs.Closed
+pub use Rattle.module_files.specs.Pieces
+pub use Rattle.declared_pieces.specs.Reachable
+pub use Rattle.declared_pieces.specs.Refusals
+pub use Rattle.declared_pieces.specs.Rules
+pub use Rattle.declared_pieces.specs.Running
+pub use Rattle.declared_pieces.specs.Verdicts
+pub use Rattle.module_files.specs.Files

@@ -1,8 +1,8 @@
 -- The spread of a plan: in which file each binding stands, and what the code of each file can use.
 use Rattle.std.specs.Prelude.{◌≡◌, List, [], Option, Some, None}
 use Rattle.std.specs.List.{Contains}
-use Rattle.declared_files.specs.Declared.{Spread, all_items, AreConstants}
-use Rattle.declared_files.specs.Placed.{placed}
+use Rattle.module_uses.specs.Declared.{Spread, all_items, AreConstants}
+use Rattle.module_uses.specs.Placed.{placed}
 use Rattle.declared_pieces.specs.Built.{Usable}
 use Rattle.helper_rules.specs.Words.{object_class}
 use Rattle.js_tree.specs.Terms.{Name, Property, Item, object_item, Piece}

@@ -36,3 +36,6 @@ pub use Rattle.object_folders.proofs.Fields as ObjectFoldersFields
 pub use Rattle.object_folders.proofs.Defined
 pub use Rattle.object_folders.proofs.Plain
 pub use Rattle.body_uses.proofs.Tested as BodyUsesTested
+pub use Rattle.object_folders.proofs.Chains as BodySoundnessChains
+pub use Rattle.object_folders.proofs.Methods as ObjectFoldersMethods
+pub use Rattle.object_folders.proofs.Throwing

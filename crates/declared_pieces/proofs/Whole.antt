@@ -12,7 +12,7 @@ use Rattle.object_folders.proofs.Plain.{class_found}
 use Rattle.object_folders.specs.Standing.{call_type}
 use Rattle.object_folders.proofs.Chains.{byte_not}
 use Rattle.object_folders.specs.Built.{Usable, has_static, is_static, has_kind, has_no_value}
-use Rattle.class_code.proofs.Markers.{marked}
+use Rattle.file_declarations.proofs.Markers.{marked}
 use Rattle.declared_pieces.proofs.Blocks.{OwnPieces, own_pieces, method_there, helper_there}
 use Rattle.declared_pieces.proofs.Chains.{Stands, whole_chain}
 use Rattle.declared_pieces.proofs.Fields.{field_there, static_there, class_named, fields_kept}

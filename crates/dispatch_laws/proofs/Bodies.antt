@@ -10,11 +10,11 @@ use Rattle.sj_names.specs.declared.method_names.Namespace.{Namespace}
 use Rattle.sj_names.specs.declared.method_names.Namespace.TheVariants.{Public}
 use Rattle.sj_trees.specs.declared.classes.ClassDef.{ClassDef}
 use Rattle.sj_trees.specs.declared.classes.MethodDef.{MethodDef}
-use Rattle.sj_world.specs.Known.{Name, Classes, class_of}
-use Rattle.sj_world.specs.Paths.{IsFirst, HasNone}
-use Rattle.sj_world.specs.Resolution.{IsBody, IsBodyAt, HasNoBody}
-use Rattle.sj_world.proofs.Bodies.{no_body, body_is}
-use Rattle.sj_world.proofs.LawsHold.{same_body}
+use Rattle.ir_mean.specs.Known.{Name, Classes, class_of}
+use Rattle.ir_mean.specs.Paths.{IsFirst, HasNone}
+use Rattle.ir_mean.specs.Resolution.{IsBody, IsBodyAt, HasNoBody}
+use Rattle.ir_mean.proofs.Bodies.{no_body, body_is}
+use Rattle.ir_mean.proofs.LawsHold.{same_body}
 use Rattle.dispatch_laws.proofs.SameNames.{method-itself}
 
 module _ (m : MethodName) where

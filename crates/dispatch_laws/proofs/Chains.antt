@@ -12,15 +12,15 @@ use Rattle.sj_names.proofs.Same.{impossible}
 use Rattle.sj_names.specs.declared.method_names.MethodName.{MethodName}
 use Rattle.sj_trees.specs.declared.classes.ClassDef.{ClassDef}
 use Rattle.sj_trees.specs.declared.classes.MethodDef.{MethodDef}
-use Rattle.sj_world.specs.Ancestors.{IsAncestor, IsParent, IsNext, IsOnChain, by_path, listed, superclass_in, superclass_of_absent, above_in, directly_above, next_on_chain}
-use Rattle.sj_world.specs.Known.{Name, Classes, is_same, class_of, is_known, hijacked, names_of, stands_as}
-use Rattle.sj_world.specs.Paths.{Path, stay, on}
-use Rattle.sj_world.specs.Resolution.{IsBodyAt, HasNoBody, Passes, begin, up, IsNearest, HasNoneOnChain}
-use Rattle.sj_world.proofs.Bodies.{absent_on_chain}
-use Rattle.sj_world.proofs.LawsHold.{joined}
-use Rattle.sj_world.proofs.Lined.{known_named}
-use Rattle.sj_world.proofs.OnCycles.{among}
-use Rattle.sj_world.proofs.Orders.{same_name, is_same_itself}
+use Rattle.ir_mean.specs.Ancestors.{IsAncestor, IsParent, IsNext, IsOnChain, by_path, listed, superclass_in, superclass_of_absent, above_in, directly_above, next_on_chain}
+use Rattle.ir_mean.specs.Known.{Name, Classes, is_same, class_of, is_known, hijacked, names_of, stands_as}
+use Rattle.ir_mean.specs.Paths.{Path, stay, on}
+use Rattle.ir_mean.specs.Resolution.{IsBodyAt, HasNoBody, Passes, begin, up, IsNearest, HasNoneOnChain}
+use Rattle.ir_mean.proofs.Bodies.{absent_on_chain}
+use Rattle.ir_mean.proofs.LawsHold.{joined}
+use Rattle.ir_mean.proofs.Lined.{known_named}
+use Rattle.ir_mean.proofs.OnCycles.{among}
+use Rattle.ir_mean.proofs.Orders.{same_name, is_same_itself}
 use Rattle.worklist.proofs.Inserted.{nothing_in}
 use Rattle.dispatch_laws.proofs.Bodies.{body_found, none_found}
 use Rattle.dispatch_laws.proofs.Lists.{first_stands, stands_behind, first_or_behind, is_kept}

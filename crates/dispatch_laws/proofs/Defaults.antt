@@ -10,14 +10,14 @@ use Rattle.sj_trees.specs.declared.classes.ClassDef.{ClassDef}
 use Rattle.sj_trees.specs.declared.classes.ClassKind.{ClassKind}
 use Rattle.sj_trees.specs.declared.classes.ClassKind.TheVariants.{Interface}
 use Rattle.sj_trees.specs.declared.classes.MethodDef.{MethodDef}
-use Rattle.sj_world.specs.Ancestors.{IsAncestor}
-use Rattle.sj_world.specs.Known.{Name, Classes, is_same, class_of}
-use Rattle.sj_world.specs.Paths.{IsFirst, HasNone}
-use Rattle.sj_world.specs.Refusals.{is_before, IsInOrder}
-use Rattle.sj_world.specs.Resolution.{IsBody, IsDefault, IsOverridden, IsCandidate, IsLeastCandidate, HasNoCandidate}
-use Rattle.sj_world.proofs.ByName.{class_of-place, class_of-stands, name_of_class}
-use Rattle.sj_world.proofs.Orders.{same_name, is_same_itself, differs_after}
-use Rattle.sj_world.proofs.Searches.{stands_at, contains_at}
+use Rattle.ir_mean.specs.Ancestors.{IsAncestor}
+use Rattle.ir_mean.specs.Known.{Name, Classes, is_same, class_of}
+use Rattle.ir_mean.specs.Paths.{IsFirst, HasNone}
+use Rattle.ir_mean.specs.Refusals.{is_before, IsInOrder}
+use Rattle.ir_mean.specs.Resolution.{IsBody, IsDefault, IsOverridden, IsCandidate, IsLeastCandidate, HasNoCandidate}
+use Rattle.ir_mean.proofs.ByName.{class_of-place, class_of-stands, name_of_class}
+use Rattle.ir_mean.proofs.Orders.{same_name, is_same_itself, differs_after}
+use Rattle.ir_mean.proofs.Searches.{stands_at, contains_at}
 use Rattle.worklist.proofs.Inserted.{nothing_in}
 use Rattle.dispatch_laws.proofs.Bodies.{is_body-tells, is_body-right, first_body, body_found}
 use Rattle.dispatch_laws.proofs.Lists.{first_stands, stands_behind, first_or_behind, any_of, passing, kept_stands, kept_passes, is_kept}

@@ -10,23 +10,23 @@ use Rattle.emit_questions.proofs.Agree.{IsSame, same_emitted}
 use Rattle.emit_questions.proofs.PublicCalls.{IsPublic, ArePublic, public_of_all}
 use Rattle.ir_mean.proofs.AncestorsFound.{ancestors_are_worked_out}
 use Rattle.ir_mean.specs.Dispatch.{resolved, is_ancestor}
-use Rattle.sj_ask.proofs.One.{one_truth}
-use Rattle.sj_ask.specs.Answers.{IsAnswer, IsTarget, IsAboveHijacked, GivesMember, SaysWhether, target_member}
-use Rattle.sj_ask.specs.Apart.{Exchange}
-use Rattle.sj_ask.specs.declared.questions.Answer.{Answer}
-use Rattle.sj_ask.specs.declared.questions.Answer.TheVariants as answer
-use Rattle.sj_ask.specs.Runs.{Comes}
-use Rattle.sj_ask.specs.Stands.{Stand}
-use Rattle.sj_ask.specs.Tasks.{done, ◌>>=◌, found_member, says_yes, asks_target, asks_hijacked}
+use Rattle.emit_questions.proofs.One.{one_truth}
+use Rattle.emit_questions.specs.Answers.{IsAnswer, IsTarget, IsAboveHijacked, GivesMember, SaysWhether, target_member}
+use Rattle.emit_questions.specs.Apart.{Exchange}
+use Rattle.emit_questions.specs.Answer.{Answer}
+use Rattle.emit_questions.specs.AnswerVariants as answer
+use Rattle.emit_questions.specs.Runs.{Comes}
+use Rattle.emit_questions.specs.Stands.{Stand}
+use Rattle.emit_questions.specs.Tasks.{done, ◌>>=◌, found_member, says_yes, asks_target, asks_hijacked}
 use Rattle.sj_names.proofs.Same.{text-same, text-refl}
 use Rattle.sj_names.specs.Same.{is_same_text}
 use Rattle.sj_names.specs.declared.memory.NoMemory.{NoMemory}
 use Rattle.sj_names.specs.declared.method_names.Member.{Member}
 use Rattle.sj_names.specs.declared.method_names.Namespace.{Namespace}
 use Rattle.sj_names.specs.declared.method_names.Namespace.TheVariants.{Public}
-use Rattle.sj_world.specs.Known.{Name, Classes, hijacked}
-use Rattle.sj_world.specs.Refusals.{IsInOrder}
-use Rattle.sj_world.specs.Resolution as resolution
+use Rattle.ir_mean.specs.Known.{Name, Classes, hijacked}
+use Rattle.ir_mean.specs.Refusals.{IsInOrder}
+use Rattle.ir_mean.specs.Resolution as resolution
 use Rattle.worklist.proofs.Inserted.{nothing_in}
 use Rattle.dispatch_laws.specs.Laws.{found_by, EmissionFindsTargets}
 use Rattle.dispatch_laws.specs.Targets.{at_owner, target_from, target_in, has_hijacked_in, lookup_in}

@@ -7,3 +7,6 @@ pub mod Defaults
 pub mod Running
 pub mod WorkedOut
 pub mod Emission
+pub use Rattle.ir_mean.proofs.AncestorsFound
+pub use Rattle.ir_mean.proofs.HijackedCalls
+pub use Rattle.ir_mean.proofs.LawsHold

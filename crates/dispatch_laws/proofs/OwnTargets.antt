@@ -2,13 +2,13 @@
 use Rattle.std.proofs.Common.{refl}
 use Rattle.dispatch_laws.specs.Targets.{IsTargetOf}
 use Rattle.ir_mean.proofs.TargetsFound.{target_found}
-use Rattle.sj_core.specs.Lookup.{Lookup}
-use Rattle.sj_emit_expr.specs.Templates.{called_member}
+use Rattle.emit_questions.specs.Lookup.{Lookup}
+use Rattle.emit_questions.specs.Templates.{called_member}
 use Rattle.sj_names.specs.declared.method_names.Member.{Member}
 use Rattle.sj_names.specs.declared.method_names.Namespace.{Namespace}
 use Rattle.sj_names.specs.declared.method_names.Namespace.TheVariants.{Public}
-use Rattle.sj_world.specs.Known.{Classes}
-use Rattle.sj_world.specs.Subtypes.{equal}
+use Rattle.ir_mean.specs.Known.{Classes}
+use Rattle.ir_mean.specs.Subtypes.{equal}
 
 pub own_target : (w : Classes) (m : Member) → IsTargetOf w m m
 own_target w m = record { namespace = refl; method = refl; above = equal refl; runs = λ d e has_body found. target_found w m.class m.namespace m.method d e has_body found }

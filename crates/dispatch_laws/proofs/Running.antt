@@ -14,12 +14,12 @@ use Rattle.sj_trees.specs.declared.types.IrType.{IrType}
 use Rattle.sj_trees.specs.declared.types.IrType.TheVariants.{Any, Class, NoType}
 use Rattle.sj_trees.specs.declared.classes.ClassDef.{ClassDef}
 use Rattle.sj_trees.specs.declared.classes.MethodDef.{MethodDef}
-use Rattle.sj_world.specs.Ancestors.{IsAncestor, next_on_chain}
-use Rattle.sj_world.specs.Known.{Name, Classes, is_same, object}
-use Rattle.sj_world.specs.Resolution.{IsBodyAt}
-use Rattle.sj_world.specs.Laws.{IsTopped}
-use Rattle.sj_world.specs.Subtypes.{IsSub, equal, to_any, class_to_class}
-use Rattle.sj_world.proofs.Orders.{same_name}
+use Rattle.ir_mean.specs.Ancestors.{IsAncestor, next_on_chain}
+use Rattle.ir_mean.specs.Known.{Name, Classes, is_same, object}
+use Rattle.ir_mean.specs.Resolution.{IsBodyAt}
+use Rattle.ir_mean.specs.Laws.{IsTopped}
+use Rattle.ir_mean.specs.Subtypes.{IsSub, equal, to_any, class_to_class}
+use Rattle.ir_mean.proofs.Orders.{same_name}
 use Rattle.dispatch_laws.proofs.OwnTargets.{own_target}
 use Rattle.dispatch_laws.specs.Laws.{TargetsRun}
 use Rattle.dispatch_laws.specs.Targets.{at_owner, target_from, IsTargetOf}

@@ -2,10 +2,10 @@
 use Rattle.std.proofs.Common.{◌≡◌, ap, ◌∙◌}
 use Rattle.ir_mean.specs.Dispatch.{least_class, candidates, default_of, or_default}
 use Rattle.sj_names.specs.declared.method_names.MethodName.{MethodName}
-use Rattle.sj_world.specs.Ancestors.{IsAncestor}
-use Rattle.sj_world.specs.Known.{Name, Classes}
-use Rattle.sj_world.specs.Refusals.{IsInOrder}
-use Rattle.sj_world.specs.Resolution.{Answer, by_chain, by_ancestors, ResolvesAbove, by_default, undeclared, declared}
+use Rattle.ir_mean.specs.Ancestors.{IsAncestor}
+use Rattle.ir_mean.specs.Known.{Name, Classes}
+use Rattle.ir_mean.specs.Refusals.{IsInOrder}
+use Rattle.ir_mean.specs.Resolution.{Answer, by_chain, by_ancestors, ResolvesAbove, by_default, undeclared, declared}
 use Rattle.dispatch_laws.specs.Laws.{found_by, TargetsAreWorkedOut}
 use Rattle.dispatch_laws.proofs.Chains.{nearest_reached, none_on_chain}
 use Rattle.dispatch_laws.proofs.Defaults.{default_found, none_default}

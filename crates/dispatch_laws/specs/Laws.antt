@@ -2,18 +2,18 @@
 use Rattle.std.specs.Prelude.{◌≡◌, List, Option, Some, None, Ok}
 use Rattle.emit_questions.specs.Task.{Emitted, emitted, emit_task}
 use Rattle.ir_mean.specs.Dispatch.{Found, resolved}
-use Rattle.sj_ask.specs.Answers.{IsAnswer}
-use Rattle.sj_ask.specs.Apart.{Exchange}
-use Rattle.sj_ask.specs.Runs.{Comes}
-use Rattle.sj_ask.specs.Stands.{Stand}
-use Rattle.sj_core.specs.Terms.{Method}
+use Rattle.emit_questions.specs.Answers.{IsAnswer}
+use Rattle.emit_questions.specs.Apart.{Exchange}
+use Rattle.emit_questions.specs.Runs.{Comes}
+use Rattle.emit_questions.specs.Stands.{Stand}
+use Rattle.emit_questions.specs.Terms.{Method}
 use Rattle.sj_names.specs.declared.memory.NoMemory.{NoMemory}
 use Rattle.sj_names.specs.declared.method_names.Member.{Member}
 use Rattle.sj_names.specs.declared.method_names.MethodName.{MethodName}
-use Rattle.sj_world.specs.Known.{Name, Classes}
-use Rattle.sj_world.specs.Laws.{IsTopped}
-use Rattle.sj_world.specs.Refusals.{IsInOrder}
-use Rattle.sj_world.specs.Resolution.{Answer, target, abstract, missing, Resolves}
+use Rattle.ir_mean.specs.Known.{Name, Classes}
+use Rattle.ir_mean.specs.Laws.{IsTopped}
+use Rattle.ir_mean.specs.Refusals.{IsInOrder}
+use Rattle.ir_mean.specs.Resolution.{Answer, target, abstract, missing, Resolves}
 use Rattle.dispatch_laws.specs.Targets.{target_in, lookup_in, IsTargetOf}
 
 abbrev pub found_by : Answer → Option Found

@@ -4,15 +4,15 @@ use Rattle.std.specs.List.{list_any}
 use Rattle.ir_mean.specs.Dispatch.{Found, resolved, is_ancestor}
 use Rattle.ir_mean.specs.Meaning.{static_target}
 use Rattle.ir_mean.specs.World.{member_of}
-use Rattle.sj_core.specs.Lookup.{Lookup}
+use Rattle.emit_questions.specs.Lookup.{Lookup}
 use Rattle.sj_names.specs.declared.method_names.Member.{Member}
 use Rattle.sj_names.specs.declared.method_names.Namespace.{Namespace}
 use Rattle.sj_names.specs.declared.method_names.Namespace.TheVariants.{Public}
 use Rattle.sj_trees.specs.Term.{Term}
 use Rattle.sj_trees.specs.Types.{class_type}
 use Rattle.sj_trees.specs.declared.classes.MethodDef.{MethodDef}
-use Rattle.sj_world.specs.Known.{Name, Classes, hijacked}
-use Rattle.sj_world.specs.Subtypes.{IsSub}
+use Rattle.ir_mean.specs.Known.{Name, Classes, hijacked}
+use Rattle.ir_mean.specs.Subtypes.{IsSub}
 
 abbrev pub at_owner : Member → Option Found → Member
 at_owner k None = k

@@ -4,10 +4,10 @@ use Rattle.std.proofs.lemmas.List.Elements.{Contains-append_left, Contains-appen
 use Rattle.js_tree.specs.Terms as js
 use Rattle.js_tree.specs.Terms.{property_of, call_of, new_of, conditional_of, host_call, const_of, let_of, expression_statement, assign_name, assign_property, do_forever, switch_on}
 use Rattle.js_tree.specs.declared.operators.HostFunction.TheVariants.{StringFromCharCode, ConsoleLog}
-use Rattle.sj_core.specs.Lookup.{Lookup}
-use Rattle.sj_core.specs.declared.callees.Callee.{Callee}
-use Rattle.sj_core.specs.declared.callees.Callee.TheVariants as callees
-use Rattle.sj_core.specs.Terms.{Expression, boxed_char, char_text, value_text, choice_of, static_call, field_of, checked_value, made_of, receiver_call, test_of, cast_of, unary_of, binary_of, Expressions, no_expressions, expression, Statement, constant_of, define_of, declare_of, assign_to, evaluate_of, return_of, log_of, assign_field, assign_static, throw_of, leave_label, break_nearest, if_of, while_of, loop_of, labeled_of, switch_of, Statements, no_statements, statement, Cases, no_cases, switch_case, Method}
+use Rattle.sj_emit_expr.specs.Lookup.{Lookup}
+use Rattle.sj_emit_expr.specs.Callee.{Callee}
+use Rattle.sj_emit_expr.specs.CalleeVariants as callees
+use Rattle.sj_emit_expr.specs.Terms.{Expression, boxed_char, char_text, value_text, choice_of, static_call, field_of, checked_value, made_of, receiver_call, test_of, cast_of, unary_of, binary_of, Expressions, no_expressions, expression, Statement, constant_of, define_of, declare_of, assign_to, evaluate_of, return_of, log_of, assign_field, assign_static, throw_of, leave_label, break_nearest, if_of, while_of, loop_of, labeled_of, switch_of, Statements, no_statements, statement, Cases, no_cases, switch_case, Method}
 use Rattle.sj_emit_expr.specs.Members.{function_parameters}
 use Rattle.sj_emit_expr.specs.Names.{variable_name, label_name}
 use Rattle.sj_emit_expr.specs.Templates.{called_member, looked_up_template, call_template, as_text, unary_template, binary_template, is_nonzero_literal, member_name, class_name, property_name, setter_name, check_name, choice_template, expression_template, expression_templates, statement_template, statement_templates, case_templates}

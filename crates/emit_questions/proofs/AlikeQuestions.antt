@@ -6,7 +6,7 @@ use Rattle.sj_ask.specs.declared.questions.Answer.TheVariants as answer
 use Rattle.sj_ask.specs.Laws.{Alike}
 use Rattle.sj_ask.specs.Tasks.{done, ◌>>=◌, found_member, says_yes, asks_target, asks_hijacked}
 use Rattle.sj_ask.proofs.SameRuns.{same_run, alike_bind}
-use Rattle.sj_core.specs.Terms.{Method}
+use Rattle.sj_emit_expr.specs.Terms.{Method}
 use Rattle.sj_names.specs.declared.memory.NoMemory.{NoMemory}
 use Rattle.sj_names.specs.declared.method_names.Member.{Member}
 use Rattle.emit_questions.specs.Calls.{calls_of_all}

@@ -1,3 +1,4 @@
 pub mod PublicCalls
 pub mod Agree
 pub mod AlikeQuestions
+pub use Rattle.sj_ask.proofs.One

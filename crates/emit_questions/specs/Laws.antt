@@ -8,7 +8,7 @@ use Rattle.sj_ask.specs.Stands.{Stand}
 use Rattle.sj_ask.specs.Told.{Told}
 use Rattle.sj_ask.specs.declared.questions.Answer.{Answer}
 use Rattle.sj_ask.specs.declared.questions.Question.{Question}
-use Rattle.sj_core.specs.Terms.{Method}
+use Rattle.sj_emit_expr.specs.Terms.{Method}
 use Rattle.js_tree.specs.declared.items.JsMember.{JsMember}
 use Rattle.sj_names.specs.declared.memory.NoMemory.{NoMemory}
 use Rattle.emit_questions.specs.Task.{Emitted, emit_task, emitted_view}

@@ -7,8 +7,8 @@ use Rattle.js_tree.specs.declared.items.JsMember.{JsMember}
 use Rattle.sj_ask.specs.Tasks.{Asking, done, ◌>>=◌, asks_target, asks_hijacked}
 use Rattle.emit_questions.specs.declared.Inquiry.{Inquiry}
 use Rattle.emit_questions.specs.declared.Inquiry.TheVariants as inquiries
-use Rattle.sj_core.specs.Lookup.{Lookup}
-use Rattle.sj_core.specs.Terms.{Method}
+use Rattle.sj_emit_expr.specs.Lookup.{Lookup}
+use Rattle.sj_emit_expr.specs.Terms.{Method}
 use Rattle.sj_emit_expr.specs.Members.{function_parameters}
 use Rattle.sj_emit_expr.specs.Templates.{body_template}
 use Rattle.sj_emit_expr.specs.Uses.{uses}

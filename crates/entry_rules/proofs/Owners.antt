@@ -2,9 +2,9 @@
 use Rattle.std.proofs.Common.{◌≡◌}
 use Rattle.sj_names.specs.declared.method_names.MethodName.{MethodName}
 use Rattle.sj_trees.specs.declared.classes.MethodDef.{MethodDef}
-use Rattle.sj_world.specs.Known.{Name, Classes}
-use Rattle.sj_world.specs.Resolution.{target}
-use Rattle.sj_world.proofs.Once.{resolves_once}
+use Rattle.proxy_targets.specs.Known.{Name, Classes}
+use Rattle.proxy_targets.specs.Resolution.{target}
+use Rattle.proxy_targets.proofs.Once.{resolves_once}
 use Rattle.entry_rules.specs.Entries.{IsTarget}
 
 target_owner : (d e : MethodDef) (a b : Name) → target d a ≡ target e b → a ≡ b

@@ -8,20 +8,20 @@ use Rattle.sj_trees.specs.declared.classes.ClassDef.{ClassDef}
 use Rattle.sj_trees.specs.declared.classes.ClassKind.TheVariants.{Class, Interface}
 use Rattle.sj_trees.specs.declared.classes.MethodDef.{MethodDef}
 use Rattle.sj_trees.specs.declared.types.IrType.TheVariants.{NoType}
-use Rattle.sj_infos.specs.Forms.{forms_by}
-use Rattle.sj_infos.specs.declared.forms.BodyForm.TheVariants.{Reflective}
-use Rattle.sj_world.specs.Ancestors.{IsAncestor, IsParent, IsNext, IsOnChain, Way, by_path, is_object, parents, next_on_chain}
-use Rattle.sj_world.specs.Calls.{IsNamedBy, IsProxyTarget, HasNoneNamed, narrowest}
-use Rattle.sj_world.specs.Known.{Name, class_of, object}
-use Rattle.sj_world.specs.Members.{IsMethod, IsMethodOf}
-use Rattle.sj_world.specs.Paths.{Path, stay, on, IsFirst}
-use Rattle.sj_world.specs.Resolution.{IsBody, IsBodyAt, HasNoBody, HasNoneOnChain, IsDefault, by_chain, by_ancestors, by_default, begin, up}
-use Rattle.sj_world.specs.Subtypes.{IsSub, equal}
-use Rattle.sj_world.specs.declared.facts.Fact.TheVariants.{Made, Body, Called}
-use Rattle.sj_world.specs.declared.linked.MethodEntry.{MethodEntry}
+use Rattle.reach_rules.specs.Forms.{forms_by}
+use Rattle.reach_rules.specs.BodyFormVariants.{Reflective}
+use Rattle.proxy_targets.specs.Ancestors.{IsAncestor, IsParent, IsNext, IsOnChain, Way, by_path, is_object, parents, next_on_chain}
+use Rattle.proxy_targets.specs.Calls.{IsNamedBy, IsProxyTarget, HasNoneNamed, narrowest}
+use Rattle.proxy_targets.specs.Known.{Name, class_of, object}
+use Rattle.proxy_targets.specs.Members.{IsMethod, IsMethodOf}
+use Rattle.proxy_targets.specs.Paths.{Path, stay, on, IsFirst}
+use Rattle.proxy_targets.specs.Resolution.{IsBody, IsBodyAt, HasNoBody, HasNoneOnChain, IsDefault, by_chain, by_ancestors, by_default, begin, up}
+use Rattle.proxy_targets.specs.Subtypes.{IsSub, equal}
+use Rattle.proxy_targets.specs.FactVariants.{Made, Body, Called}
+use Rattle.proxy_targets.specs.MethodEntry.{MethodEntry}
 use Rattle.sj_trees.specs.Erase.{nowhere}
-use Rattle.sj_world.specs.Refusals.{is_before}
-use Rattle.sj_world.proofs.Searches.{contains_at}
+use Rattle.proxy_targets.specs.Refusals.{is_before}
+use Rattle.proxy_targets.proofs.Searches.{contains_at}
 use Rattle.reach_rules.proofs.One.{one_method}
 use Rattle.worklist.proofs.Inserted.{nothing_in, only_one}
 use Rattle.reach_rules.specs.Rows.{proxy, call_by_proxy}

@@ -7,16 +7,16 @@ use Rattle.sj_names.specs.MethodNames.{spelled_method}
 use Rattle.sj_names.specs.declared.method_names.Member.{Member}
 use Rattle.sj_names.specs.declared.method_names.MethodName.{MethodName}
 use Rattle.sj_trees.specs.declared.classes.MethodDef.{MethodDef}
-use Rattle.sj_world.specs.Ancestors.{IsAncestor, IsNext, IsOnChain}
-use Rattle.sj_world.specs.Known.{Name, Classes}
-use Rattle.sj_world.specs.Linked.{Linked}
-use Rattle.sj_world.specs.Members.{IsMethodOf}
-use Rattle.sj_world.specs.Resolution.{Resolves, target}
-use Rattle.sj_world.specs.declared.facts.Fact.{Fact}
-use Rattle.sj_world.specs.declared.facts.Fact.TheVariants.{Made, Body, Called}
-use Rattle.sj_world.specs.declared.linked.MethodEntry.{MethodEntry}
-use Rattle.sj_infos.specs.Forms.{forms_by}
-use Rattle.sj_infos.specs.declared.forms.BodyForm.TheVariants.{Reflective}
+use Rattle.proxy_targets.specs.Ancestors.{IsAncestor, IsNext, IsOnChain}
+use Rattle.proxy_targets.specs.Known.{Name, Classes}
+use Rattle.proxy_targets.specs.Linked.{Linked}
+use Rattle.proxy_targets.specs.Members.{IsMethodOf}
+use Rattle.proxy_targets.specs.Resolution.{Resolves, target}
+use Rattle.proxy_targets.specs.Fact.{Fact}
+use Rattle.proxy_targets.specs.FactVariants.{Made, Body, Called}
+use Rattle.proxy_targets.specs.MethodEntry.{MethodEntry}
+use Rattle.reach_rules.specs.Forms.{forms_by}
+use Rattle.reach_rules.specs.BodyFormVariants.{Reflective}
 use Rattle.proxy_targets.specs.Proxies.{IsTargetName}
 use Rattle.reach_rules.specs.Rules.{public_member}
 

@@ -1,7 +1,7 @@
 -- What holds of targets.
 use Rattle.std.specs.Prelude.{◌≡◌}
 use Rattle.sj_names.specs.declared.method_names.MethodName.{MethodName}
-use Rattle.sj_world.specs.Known.{Name, Classes}
+use Rattle.proxy_targets.specs.Known.{Name, Classes}
 use Rattle.entry_rules.specs.Entries.{IsTarget}
 
 -- a class has one target for a name at most

@@ -2,3 +2,15 @@ pub mod Entries
 pub mod Laws
 pub mod Rows
 pub use Rattle.reach_rules.specs.Rules
+pub use Rattle.reach_rules.specs.Forms
+pub use Rattle.reach_rules.specs.BodyForm
+pub use Rattle.reach_rules.specs.BodyFormVariants
+pub use Rattle.proxy_targets.specs.Ancestors
+pub use Rattle.proxy_targets.specs.Calls
+pub use Rattle.proxy_targets.specs.Known
+pub use Rattle.proxy_targets.specs.Linked
+pub use Rattle.proxy_targets.specs.Members
+pub use Rattle.proxy_targets.specs.Fact
+pub use Rattle.proxy_targets.specs.FactVariants
+pub use Rattle.proxy_targets.specs.MethodEntry
+pub use Rattle.reach_rules.specs.Trees

@@ -9,10 +9,10 @@ use Rattle.sj_trees.specs.declared.classes.ClassDef.{ClassDef}
 use Rattle.sj_trees.specs.declared.classes.ClassKind.{ClassKind}
 use Rattle.sj_trees.specs.declared.classes.ClassKind.TheVariants.{Class, Interface}
 use Rattle.sj_trees.specs.declared.classes.MethodDef.{MethodDef}
-use Rattle.sj_world.specs.Known.{Name, Classes, object}
-use Rattle.sj_world.specs.declared.facts.Fact.{Fact}
-use Rattle.sj_world.specs.declared.facts.Fact.TheVariants.{Made, Body, Called}
-use Rattle.sj_world.specs.declared.linked.MethodEntry.{MethodEntry}
+use Rattle.proxy_targets.specs.Known.{Name, Classes, object}
+use Rattle.proxy_targets.specs.Fact.{Fact}
+use Rattle.proxy_targets.specs.FactVariants.{Made, Body, Called}
+use Rattle.proxy_targets.specs.MethodEntry.{MethodEntry}
 use Rattle.reach_rules.specs.Rows.{a_method, static_method, plain_name, proxy, call_by_proxy}
 use Rattle.reach_rules.specs.Rules.{public_member}
 use Rattle.entry_rules.specs.Entries.{IsMethodEntry}

@@ -1,3 +1,6 @@
 pub mod Ending
 pub mod Found
 pub mod Reflective
+pub use Rattle.sj_world.proofs.Searches
+pub use Rattle.sj_world.proofs.Once
+pub use Rattle.piece_rules.proofs.Owners

@@ -1,3 +1,26 @@
 pub mod Chains
 pub mod Laws
 pub mod Search
+pub use Rattle.piece_rules.specs.Entries
+pub use Rattle.piece_rules.specs.Words
+pub use Rattle.piece_rules.specs.Dispatch
+pub use Rattle.piece_rules.specs.Pieces
+pub use Rattle.piece_rules.specs.Rules
+pub use Rattle.piece_rules.specs.Templates
+pub use Rattle.sj_world.specs.Known
+pub use Rattle.sj_world.specs.declared.facts.Fact
+pub use Rattle.sj_world.specs.declared.linked.MethodEntry
+pub use Rattle.piece_rules.specs.Helpers
+pub use Rattle.piece_rules.specs.HelperVariants
+pub use Rattle.piece_rules.specs.Kind
+pub use Rattle.piece_rules.specs.KindVariants
+pub use Rattle.piece_rules.specs.ClassRows
+pub use Rattle.piece_rules.specs.Classes
+pub use Rattle.sj_world.specs.Ancestors
+pub use Rattle.sj_world.specs.Calls
+pub use Rattle.sj_world.specs.Resolution
+pub use Rattle.sj_world.specs.Rows
+pub use Rattle.sj_world.specs.Tables
+pub use Rattle.piece_rules.specs.FailureVariants
+pub use Rattle.sj_world.specs.Laws as SjWorldLaws
+pub use Rattle.sj_world.specs.Paths

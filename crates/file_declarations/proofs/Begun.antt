@@ -12,7 +12,7 @@ use Rattle.ir_mean.specs.World as ir_world
 use Rattle.js_mean.specs.Objects.{with_property, no_properties}
 use Rattle.js_mean.specs.States as js
 use Rattle.js_tree.specs.Terms.{Name}
-use Rattle.piece_rules.specs.Pieces.{zero_of as zero_literal}
+use Rattle.sj_calls.specs.Pieces.{zero_of as zero_literal}
 use Rattle.sj_calls.proofs.Marked.{markers_tell}
 use Rattle.sj_calls.specs.Made.{zero_value}
 use Rattle.sj_mangling.proofs.Injective.{mangled_texts_differ}
@@ -21,7 +21,7 @@ use Rattle.sj_mangling.specs.Mangling.{mangled}
 use Rattle.sj_mangling.specs.declared.bindings.ClassBinding.TheVariants.{Marker}
 use Rattle.sj_trees.specs.declared.types.IrType.{IrType}
 use Rattle.sj_trees.specs.declared.types.IrType.TheVariants.{Undefined, Boolean, Char, Byte, Short, Int, Long, String}
-use Rattle.sj_plain.specs.Settings.{MarksAncestors}
+use Rattle.sj_calls.specs.Settings.{MarksAncestors}
 use Rattle.sj_world.specs.Ancestors.{IsAncestor, next_on_chain}
 use Rattle.sj_world.specs.Known.{Classes, is_same}
 use Rattle.sj_world.specs.Tables.{AreAncestors}

@@ -2,3 +2,10 @@ pub mod Begun
 pub mod Fields
 pub mod Items
 pub mod Tops
+pub use Rattle.sj_calls.proofs.Casting
+pub use Rattle.sj_calls.proofs.Names
+pub use Rattle.sj_calls.proofs.ObjectLevels
+pub use Rattle.sj_calls.proofs.Shapes
+pub use Rattle.sj_calls.proofs.Testing
+pub use Rattle.sj_calls.proofs.Whole
+pub use Rattle.sj_calls.proofs.Markers

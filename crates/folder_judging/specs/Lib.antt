@@ -5,3 +5,7 @@ pub mod Rules
 pub mod Bodies
 pub mod Types
 pub mod Judging
+pub use Rattle.entry_rules.specs.Entries
+pub use Rattle.folder_verdicts.specs.Stages
+pub use Rattle.typing_rules.specs.Typed
+pub use Rattle.folder_verdicts.specs.Verdicts

@@ -17,9 +17,9 @@ use Rattle.sj_world.specs.Members.{IsMethodOf}
 use Rattle.sj_world.specs.declared.facts.Fact.{Fact}
 use Rattle.sj_world.specs.declared.facts.Fact.TheVariants as fact
 use Rattle.worklist.proofs.Inserted.{nothing_in}
-use Rattle.linked_folders.proofs.Members.{found-member}
+use Rattle.linked_modules.proofs.Members.{found-member}
 use Rattle.folder_judging.specs.Counts.{members_of}
-use Rattle.linked_folders.specs.Stages.{IsDefined}
+use Rattle.folder_judging.specs.Stages.{IsDefined}
 use Rattle.folder_linking.proofs.Taken.{more_taken}
 use Rattle.folder_linking.specs.declared.functions.Function.{Function}
 use Rattle.folder_linking.specs.Functions.{IsFunction, AreFunctions, member_of}

@@ -10,31 +10,31 @@ use Rattle.js_tree.specs.Rules.{IsPiece}
 use Rattle.js_tree.specs.Terms.{Piece}
 use Rattle.js_tree.specs.Views.{piece_view}
 use Rattle.js_tree.specs.declared.items.JsPiece.{JsPiece}
-use Rattle.linked_folders.specs.Emitted.{EmittedMethod}
-use Rattle.linked_folders.specs.Files.{HasFunction}
+use Rattle.body_soundness.specs.Emitted.{EmittedMethod}
+use Rattle.world_pieces.specs.Files.{HasFunction}
 use Rattle.sj_names.proofs.Equal.{member_decides}
 use Rattle.sj_names.specs.contracts.method_names.MemberPartialEq.TheImpl as member_eq
 use Rattle.sj_names.specs.declared.entry_points.EntryPoint.{EntryPoint}
 use Rattle.sj_names.specs.declared.method_names.Member.{Member}
-use Rattle.linked_folders.specs.Emitted.{HaveOwnMembers}
+use Rattle.body_soundness.specs.Emitted.{HaveOwnMembers}
 use Rattle.sj_reach.specs.Answers.{StandOnce, AreReachable}
-use Rattle.linked_folders.specs.Reachable.{Reachable}
+use Rattle.sj_reach.specs.Reachable.{Reachable}
 use Rattle.sj_split.proofs.Members.{at_first, further, cons_cases, into_map, from_map}
 use Rattle.sj_world.specs.Known.{Classes}
 use Rattle.sj_world.specs.Linked.{Linked}
 use Rattle.sj_world.specs.declared.facts.Fact.{Fact}
 use Rattle.sj_world.specs.declared.facts.Fact.TheVariants as fact
-use Rattle.linked_folders.proofs.Defined.{needed_bodies}
-use Rattle.linked_folders.specs.Stages.{IsDefined, KeepRules}
+use Rattle.folder_judging.proofs.Defined.{needed_bodies}
+use Rattle.folder_judging.specs.Stages.{IsDefined, KeepRules}
 use Rattle.worklist.proofs.Inserted.{nothing_in}
-use Rattle.linked_folders.specs.Bodies.{AreBodies}
+use Rattle.linked_modules.specs.Bodies.{AreBodies}
 use Rattle.folder_judging.specs.Counts.{members_of, bodies_among}
-use Rattle.linked_folders.proofs.Edits.{Differ, no_more}
-use Rattle.linked_folders.proofs.Names.{names_tell}
+use Rattle.linked_modules.proofs.LinkedFoldersEdits.{Differ, no_more}
+use Rattle.linked_modules.proofs.Names.{names_tell}
 use Rattle.folder_linking.specs.declared.functions.Function.{Function}
 use Rattle.folder_linking.specs.Functions.{AreFunctions, piece}
 use Rattle.folder_linking.specs.Linking.{IsLinkable, ArePrintable}
-use Rattle.linked_folders.specs.Pieces.{piece_of_member, AreLinkedPieces}
+use Rattle.world_pieces.specs.Pieces.{piece_of_member, AreLinkedPieces}
 use Rattle.world_pieces.specs.Names.{NamesTell}
 use Rattle.folder_linking.proofs.Objects.{body_on_objects}
 use Rattle.folder_linking.proofs.Methods.{methods, members_are, pieces_are, methods_found, pieces_keep}

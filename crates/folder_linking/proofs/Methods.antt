@@ -4,13 +4,13 @@ use Rattle.std.proofs.lemmas.List.Elements.{All-nil, All-cons}
 use Rattle.std.specs.List.{All}
 use Rattle.js_tree.specs.Rules.{IsPiece}
 use Rattle.js_tree.specs.Views.{piece_view}
-use Rattle.linked_folders.specs.Pieces.{piece_of_member}
-use Rattle.linked_folders.specs.Emitted.{EmittedMethod}
+use Rattle.world_pieces.specs.Pieces.{piece_of_member}
+use Rattle.body_soundness.specs.Emitted.{EmittedMethod}
 use Rattle.sj_pieces.specs.Owners.{OnObjects}
 use Rattle.sj_split.proofs.Members.{at_first, further, cons_cases}
 use Rattle.sj_world.specs.Known.{Classes}
 use Rattle.worklist.proofs.Inserted.{nothing_in}
-use Rattle.linked_folders.specs.Bodies.{IsFound}
+use Rattle.linked_modules.specs.Bodies.{IsFound}
 use Rattle.folder_linking.specs.declared.functions.Function.{Function}
 use Rattle.folder_linking.specs.Functions.{IsFunction, member_of}
 

@@ -2,21 +2,21 @@
 use Rattle.std.proofs.Common.{◌≡◌, ◌++◌, Bool, true, false, List, [], ◌∷◌, Option, Some, None, refl, sym, subst, ◌∙◌, Contains}
 use Rattle.std.specs.List.{All}
 use Rattle.std.proofs.lemmas.List.Elements.{All-head, All-tail}
-use Rattle.linked_folders.proofs.Calls.{needed}
-use Rattle.linked_folders.proofs.Members.{defined}
-use Rattle.linked_folders.proofs.Objects as objects
-use Rattle.linked_folders.proofs.Worlds.{judged}
-use Rattle.linked_folders.specs.Accepted.{IsAccepted}
-use Rattle.linked_folders.specs.Bodies.{AreBodies}
+use Rattle.linked_modules.proofs.Calls.{needed}
+use Rattle.linked_modules.proofs.Members.{defined}
+use Rattle.linked_modules.proofs.Objects as objects
+use Rattle.linked_modules.proofs.Worlds.{judged}
+use Rattle.linked_modules.specs.Accepted.{IsAccepted}
+use Rattle.linked_modules.specs.Bodies.{AreBodies}
 use Rattle.body_soundness.proofs.Chains.{no_primitive}
 use Rattle.body_soundness.specs.Worlds.{AreClassesKept, HasFields}
-use Rattle.linked_folders.proofs.Given.{all_from}
-use Rattle.linked_folders.proofs.Standing.{Stands, each_stands}
-use Rattle.linked_folders.proofs.Uses.{ahead, after}
-use Rattle.linked_folders.proofs.Written as written
+use Rattle.linked_modules.proofs.Given.{all_from}
+use Rattle.linked_modules.proofs.Standing.{Stands, each_stands}
+use Rattle.linked_modules.proofs.Uses.{ahead, after}
+use Rattle.linked_modules.proofs.Written as written
 use Rattle.file_listings.specs.Listed.{AreBytes}
-use Rattle.linked_folders.proofs.Fields.{field_there}
-use Rattle.linked_folders.specs.Refusals.{hijacked}
+use Rattle.linked_modules.proofs.Fields.{field_there}
+use Rattle.sj_reach.specs.Refusals.{hijacked}
 use Rattle.sj_desugar.specs.Desugar.{desugared_member}
 use Rattle.sj_desugarer.specs.Methods.{desugared_with}
 use Rattle.sj_infos.specs.Trees.{trees, all_below, cases_below}
@@ -25,7 +25,7 @@ use Rattle.sj_names.specs.declared.entry_points.EntryPoint.{EntryPoint}
 use Rattle.sj_names.specs.declared.folders.SourceFile.{SourceFile}
 use Rattle.sj_pieces.specs.Keys.{HasKeys}
 use Rattle.sj_pieces.specs.Owners.{OnObjects, AllOnObjects, CasesOnObjects, BodyOnObjects, FieldsHaveOwners}
-use Rattle.linked_folders.specs.Emitted.{EmittedMethod}
+use Rattle.body_soundness.specs.Emitted.{EmittedMethod}
 use Rattle.sj_trees.specs.Term.{Term, Terms, no_terms, more_terms, Cases, no_cases, more_cases, var_def, block_of, labeled, assign, return_to, if_then, while_loop, do_while, throw, match_on, new_object, select, select_static, apply, apply_statically, apply_static, unary_op, binary_op, is_instance_of, as_instance_of, var_ref, log_line}
 use Rattle.sj_trees.specs.TypeOf.{type_of_term}
 use Rattle.sj_trees.specs.Types.{class_type}
@@ -38,8 +38,8 @@ use Rattle.sj_names.specs.WellKnown.{is_hijacked}
 use Rattle.sj_world.specs.Known.{Name, Classes}
 use Rattle.sj_world.specs.Subtypes.{IsSub, hijacked_class}
 use Rattle.sure_receivers.specs.Sure.{is_sure_type}
-use Rattle.linked_folders.specs.Rules.{HasFieldType}
-use Rattle.linked_folders.specs.Typed.{MeetsThere}
+use Rattle.body_soundness.specs.TypingRulesRules.{HasFieldType}
+use Rattle.folder_judging.specs.Typed.{MeetsThere}
 
 -- a field is one of no tree of a primitive type
 abbrev IsOfObject : Term → Type 0

@@ -7,14 +7,14 @@ use Rattle.js_mean.specs.Shows.{File}
 use Rattle.js_tree.specs.Rules.{IsName, IsItem, IsPiece, IsModule}
 use Rattle.js_tree.specs.Spelling.{Spells}
 use Rattle.js_tree.specs.Terms.{Module, Piece}
-use Rattle.linked_folders.proofs.Blocks.{method_there}
-use Rattle.linked_folders.proofs.Calls.{entry}
-use Rattle.linked_folders.proofs.Members.{defined}
-use Rattle.linked_folders.proofs.Same.{has_function-is}
-use Rattle.linked_folders.specs.Emitted.{EmittedMethod, initializer_member}
-use Rattle.linked_folders.specs.Pieces.{piece_of_member}
-use Rattle.module_files.proofs.Entries.{initializer_of}
-use Rattle.module_files.specs.Files.{IsFileOf, AreFilesOf}
+use Rattle.linked_modules.proofs.Blocks.{method_there}
+use Rattle.linked_modules.proofs.Calls.{entry}
+use Rattle.linked_modules.proofs.Members.{defined}
+use Rattle.world_pieces.proofs.Same.{has_function-is}
+use Rattle.body_soundness.specs.Emitted.{EmittedMethod, initializer_member}
+use Rattle.world_pieces.specs.Pieces.{piece_of_member}
+use Rattle.linked_modules.proofs.Entries.{initializer_of}
+use Rattle.linked_modules.specs.Files.{IsFileOf, AreFilesOf}
 use Rattle.module_names.specs.Names.{sha1_digest}
 use Rattle.module_rules.specs.Calls.{call_item_of}
 use Rattle.module_rules.specs.Laws.{ModulesKeepRules, PlansNameFiles}

@@ -4,12 +4,12 @@ use Rattle.std.specs.List.{Contains}
 use Rattle.js_tree.specs.declared.items.JsPiece.{JsPiece}
 use Rattle.js_tree.specs.Rules.{IsPiece}
 use Rattle.js_tree.specs.Views.{piece_view}
-use Rattle.linked_folders.specs.Pieces.{piece_of_member}
-use Rattle.linked_folders.specs.Emitted.{EmittedMethod}
+use Rattle.world_pieces.specs.Pieces.{piece_of_member}
+use Rattle.body_soundness.specs.Emitted.{EmittedMethod}
 use Rattle.sj_pieces.specs.Owners.{OnObjects}
 use Rattle.sj_names.specs.declared.method_names.Member.{Member}
 use Rattle.sj_world.specs.Known.{Classes}
-use Rattle.linked_folders.specs.Bodies.{IsFound}
+use Rattle.linked_modules.specs.Bodies.{IsFound}
 use Rattle.folder_linking.specs.declared.functions.Function.{Function}
 
 -- the function of the member's body; it can be printed where the body's fields are those of objects

@@ -1,7 +1,7 @@
 -- When a folder can be linked, and its pieces.
 use Rattle.std.specs.Prelude.{List}
 use Rattle.std.specs.List.{All, Contains}
-use Rattle.linked_folders.specs.Entries.{AreEntries}
+use Rattle.folder_judging.specs.Entries.{AreEntries}
 use Rattle.js_tree.specs.Rules.{IsPiece}
 use Rattle.js_tree.specs.Terms.{Piece}
 use Rattle.file_listings.specs.Listed.{AreBytes}
@@ -11,10 +11,10 @@ use Rattle.sj_names.specs.declared.folders.SourceFile.{SourceFile}
 use Rattle.sj_world.specs.Known.{Classes}
 use Rattle.sj_world.specs.Linked.{Linked}
 use Rattle.sj_reach.specs.Answers.{AreReachable}
-use Rattle.linked_folders.specs.Accepted.{IsAccepted}
-use Rattle.linked_folders.specs.Edits.{AreBuilt}
+use Rattle.linked_modules.specs.Accepted.{IsAccepted}
+use Rattle.linked_modules.specs.LinkedFoldersEdits.{AreBuilt}
 use Rattle.js_mean.specs.Shows.{File}
-use Rattle.linked_folders.specs.Link.{ArePieces}
+use Rattle.linked_modules.specs.LinkedFoldersLink.{ArePieces}
 use Rattle.linked_modules.specs.Link.{IsLink}
 use Rattle.plan_laws.specs.Laws.{AreCountable}
 use Rattle.sj_split.specs.declared.plans.Style.{Style}

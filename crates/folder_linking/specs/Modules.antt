@@ -4,7 +4,7 @@ use Rattle.std.specs.List.{Contains}
 use Rattle.js_mean.specs.Shows.{File}
 use Rattle.js_tree.specs.Rules.{IsModule}
 use Rattle.js_tree.specs.Terms.{Piece}
-use Rattle.module_files.specs.Files.{IsFileOf}
+use Rattle.linked_modules.specs.Files.{IsFileOf}
 use Rattle.module_rules.specs.Modules.{module_of}
 use Rattle.sj_split.specs.declared.plans.PlannedModule.{PlannedModule}
 use Rattle.folder_linking.specs.declared.files.ModuleFile.{ModuleFile}

@@ -14,7 +14,7 @@ ghost use Rattle.sj_names.specs.declared.method_names.Member.{Member};
 ghost use Rattle.sj_world.specs.Known.{names_of};
 ghost use Rattle.sj_world.specs.Members.{IsMethodOf};
 ghost use Rattle.sj_world.specs.Refusals.{IsInOrder};
-ghost use Rattle.linked_folders.specs.Stages.{IsDefined};
+ghost use Rattle.folder_judging.specs.Stages.{IsDefined};
 ghost use Rattle.folder_judging.specs.Counts.{members_of, bodies_among};
 ghost use Rattle.folder_linking.specs.Counts.{Emits};
 ghost use Rattle.folder_linking.specs.Functions.{AreFunctions, IsFunction};

@@ -1,7 +1,7 @@
 // The modules of a plan, printed.
 ghost use Rattle.std.specs.Prelude.{◌≡◌, ◌<◌, IfOk, length, map};
 ghost use Rattle.js_tree.specs.Views.{piece_view};
-ghost use Rattle.module_files.specs.Files.{AreFilesOf};
+ghost use Rattle.linked_modules.specs.Files.{AreFilesOf};
 ghost use Rattle.folder_linking.specs.Modules.{IsFileAt, KeepRules, as_file};
 
 use crate::ModuleFile;

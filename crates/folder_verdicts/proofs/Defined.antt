@@ -24,14 +24,14 @@ use Rattle.sj_world.specs.Paths.{IsFirst, HasNone}
 use Rattle.sj_world.specs.Resolution.{IsBody, Resolves, by_chain, by_ancestors, by_default, target}
 use Rattle.sj_world.proofs.ByName.{class_of-stands}
 use Rattle.sj_world.proofs.Searches.{contains_at}
-use Rattle.sj_ask.proofs.One.{one_method}
+use Rattle.sj_reach.proofs.One.{one_method}
 use Rattle.sj_world.specs.declared.facts.Fact.{Fact}
 use Rattle.sj_world.specs.declared.facts.Fact.TheVariants as fact
-use Rattle.reach_rules.specs.Rules.{IsAsked, of_entry, of_new, of_load, of_call, of_throw, Rule, entry_class, asked_body, new_needed, load_needed, static_class, resolved_body, call_hijacked, dispatched, reflective_hijacked, throw_needed, public_member}
-use Rattle.reach_rules.specs.Reachable.{Reachable, Unresolved}
-use Rattle.reach_rules.specs.Refusals.{Refusal, missing_class, missing_method, abstract_target, no_class, no_member, no_body}
-use Rattle.reach_rules.proofs.Derivations.{derived-all, closed}
-use Rattle.reach_rules.proofs.Grows.{rule-grow}
+use Rattle.sj_reach.specs.Rules.{IsAsked, of_entry, of_new, of_load, of_call, of_throw, Rule, entry_class, asked_body, new_needed, load_needed, static_class, resolved_body, call_hijacked, dispatched, reflective_hijacked, throw_needed, public_member}
+use Rattle.sj_reach.specs.Reachable.{Reachable, Unresolved}
+use Rattle.sj_reach.specs.Refusals.{Refusal, missing_class, missing_method, abstract_target, no_class, no_member, no_body}
+use Rattle.sj_reach.proofs.Derivations.{derived-all, closed}
+use Rattle.sj_reach.proofs.Grows.{rule-grow}
 use Rattle.folder_verdicts.specs.Laws.{NeededBodiesAreThere}
 use Rattle.folder_verdicts.specs.Stages.{IsDefined, KeepRules}
 

@@ -19,9 +19,9 @@ use Rattle.sj_world.specs.declared.facts.Fact.{Fact}
 use Rattle.sj_world.specs.declared.facts.Fact.TheVariants as fact
 use Rattle.sj_world.proofs.OnCycles.{among}
 use Rattle.sj_world.proofs.Searches.{contains_at}
-use Rattle.reach_rules.specs.Reachable.{Reachable, Unresolved}
-use Rattle.reach_rules.specs.Refusals.{Refusal, missing_class, missing_method, missing_field, wrong_kind, abstract_target, no_class, no_member, no_body, no_field, no_class_above, no_interface_above, no_class_made, no_module, no_exception, no_target, no_target_body, no_method, no_hijacked_body, no_dispatched_body, no_dispatched_method, no_reflective_body}
-use Rattle.reach_rules.specs.Rules.{entry_member, plain_constructor, message_constructor, public_member, constructor_member, Reads, IsAsked, of_entry, of_new, of_load, of_call, of_throw, IsCalledOn, on_made, on_hijacked, Rule, the_object, entry_class, above, above_hijacked, new_needed, new_made, load_needed, load_made, field_class, static_class, resolved_class, call_class, call, reflective, array_made, class_named, throw_needed, throw_made}
+use Rattle.sj_reach.specs.Reachable.{Reachable, Unresolved}
+use Rattle.sj_reach.specs.Refusals.{Refusal, missing_class, missing_method, missing_field, wrong_kind, abstract_target, no_class, no_member, no_body, no_field, no_class_above, no_interface_above, no_class_made, no_module, no_exception, no_target, no_target_body, no_method, no_hijacked_body, no_dispatched_body, no_dispatched_method, no_reflective_body}
+use Rattle.sj_reach.specs.Rules.{entry_member, plain_constructor, message_constructor, public_member, constructor_member, Reads, IsAsked, of_entry, of_new, of_load, of_call, of_throw, IsCalledOn, on_made, on_hijacked, Rule, the_object, entry_class, above, above_hijacked, new_needed, new_made, load_needed, load_made, field_class, static_class, resolved_class, call_class, call, reflective, array_made, class_named, throw_needed, throw_made}
 use Rattle.sj_reach.specs.Answers.{comes_first}
 use Rattle.sj_reach.specs.Conclusions.{report}
 use Rattle.sj_reach.proofs.Once.{first_itself, first_trans}

@@ -14,13 +14,13 @@ use Rattle.sj_world.specs.Members.{IsMethodOf}
 use Rattle.sj_world.specs.declared.facts.Fact.TheVariants as fact
 use Rattle.sj_world.proofs.ByName.{name_of_class}
 use Rattle.sj_world.proofs.Searches.{contains_at}
-use Rattle.typing_rules.specs.Nodes.{nodes}
-use Rattle.typing_rules.specs.Rules.{Yields}
-use Rattle.typing_rules.specs.Typed.{MeetsThere, IsTyped, IsUntyped, a_tree, the_body, tag}
-use Rattle.sj_ask.specs.Sizes.{in_32_bits}
+use Rattle.sj_verdicts.specs.Nodes.{nodes}
+use Rattle.sj_verdicts.specs.Rules.{Yields}
+use Rattle.sj_verdicts.specs.Typed.{MeetsThere, IsTyped, IsUntyped, a_tree, the_body, tag}
+use Rattle.sj_verdicts.specs.Sizes.{in_32_bits}
 use Rattle.sj_verdicts.proofs.OneVerdict.{has_one_verdict}
-use Rattle.reach_rules.specs.Reachable.{Reachable, Unresolved}
-use Rattle.reach_rules.specs.Refusals.{Refusal, spelled_member}
+use Rattle.sj_reach.specs.Reachable.{Reachable, Unresolved}
+use Rattle.sj_reach.specs.Refusals.{Refusal, spelled_member}
 use Rattle.sj_reach.specs.Answers.{comes_first}
 use Rattle.sj_reach.specs.declared.findings.Report.{Report}
 use Rattle.worklist.proofs.Inserted.{nothing_in}

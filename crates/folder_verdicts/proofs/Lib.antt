@@ -7,3 +7,4 @@ pub mod EachTyped
 pub mod EachResolved
 pub mod EachSorted
 mod EachFolder
+pub use Rattle.sj_reach.proofs.Derivations

@@ -5,8 +5,8 @@ use Rattle.sj_names.specs.declared.folders.SourceFile.{SourceFile}
 use Rattle.sj_names.specs.declared.method_names.Member.{Member}
 use Rattle.sj_world.specs.Known.{Classes}
 use Rattle.sj_world.specs.declared.facts.Fact.TheVariants.{Body}
-use Rattle.reach_rules.specs.Reachable.{Reachable, Unresolved}
-use Rattle.reach_rules.specs.Refusals.{Refusal}
+use Rattle.sj_reach.specs.Reachable.{Reachable, Unresolved}
+use Rattle.sj_reach.specs.Refusals.{Refusal}
 use Rattle.folder_verdicts.specs.Stages.{KeepRules, IsDefined}
 use Rattle.folder_verdicts.specs.Verdicts.{Verdict, IsVerdict}
 

@@ -12,11 +12,11 @@ use Rattle.sj_local.specs.Broken.{FirstBroken}
 use Rattle.sj_world.specs.Known.{Name, Classes}
 use Rattle.sj_world.specs.Members.{IsMethodOf}
 use Rattle.sj_world.specs.declared.facts.Fact.TheVariants.{Body}
-use Rattle.reach_rules.specs.Reachable.{Reachable}
-use Rattle.reach_rules.specs.Refusals.{spelled_member}
+use Rattle.sj_reach.specs.Reachable.{Reachable}
+use Rattle.sj_reach.specs.Refusals.{spelled_member}
 use Rattle.sj_reach.specs.Answers.{comes_first}
 use Rattle.sj_reach.specs.declared.findings.Report.{Report}
-use Rattle.typing_rules.specs.Typed.{IsTyped, IsUntyped}
+use Rattle.sj_verdicts.specs.Typed.{IsTyped, IsUntyped}
 
 -- a file that isn't the file of a class, and where it fails first
 pub record HasFault (file : SourceFile) : Type 0 where

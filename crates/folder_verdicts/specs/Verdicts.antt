@@ -7,8 +7,8 @@ use Rattle.sj_trees.specs.Refusals.{number_of}
 use Rattle.sj_world.specs.Known.{Name, Classes}
 use Rattle.sj_world.specs.Paths.{IsFirst}
 use Rattle.sj_world.specs.Refusals.{IsTwice, IsLeastTwice, IsCyclic, IsWorldOf}
-use Rattle.reach_rules.specs.Reachable.{Unresolved}
-use Rattle.reach_rules.specs.Refusals.{Refusal}
+use Rattle.sj_reach.specs.Reachable.{Unresolved}
+use Rattle.sj_reach.specs.Refusals.{Refusal}
 use Rattle.sj_reach.specs.Answers.{IsLeastTold}
 use Rattle.sj_reach.specs.declared.findings.Report.{Report}
 use Rattle.folder_sizes.specs.Files.{sizes}

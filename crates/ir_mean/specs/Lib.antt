@@ -8,3 +8,10 @@ pub mod Shows
 pub mod States
 pub mod Values
 pub mod World
+pub use Rattle.sj_world.specs.Ancestors
+pub use Rattle.sj_world.specs.Known
+pub use Rattle.sj_world.specs.Laws
+pub use Rattle.sj_world.specs.Paths
+pub use Rattle.sj_world.specs.Refusals
+pub use Rattle.sj_world.specs.Resolution
+pub use Rattle.sj_world.specs.Subtypes

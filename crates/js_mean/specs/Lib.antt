@@ -10,3 +10,4 @@ pub mod Shows
 pub mod States
 pub mod ThrowRows
 pub mod Values
+pub use Rattle.js_tree.specs.Terms

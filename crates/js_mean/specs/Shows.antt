@@ -9,7 +9,7 @@ use Rattle.outcomes.specs.Shown.{Thrown, normal, uncaught, Shown}
 use Rattle.outcomes.specs.Shown as shown
 use Rattle.sj_mangling.specs.Bindings.{class_binding}
 use Rattle.sj_mangling.specs.declared.bindings.ClassBinding.TheVariants.{Marker}
-use Rattle.sj_names.specs.Grammar.{is_class_name}
+use Rattle.sj_mangling.specs.Grammar.{is_class_name}
 use Rattle.js_mean.specs.Objects.{property}
 use Rattle.js_mean.specs.States.{Value, undefined, null, boolean, number, big_int, text, object, function, class, method, State, ExpressionEnd, gives, throws, Program}
 use Rattle.js_mean.specs.Files.{running_order, is_good_file}

@@ -10,7 +10,7 @@ use Rattle.accepted_folders.specs.Accepted.{IsAccepted}
 use Rattle.accepted_folders.proofs.Plain.{plain_world}
 use Rattle.accepted_folders.specs.Entries.{IsTarget, IsLive, IsWanted, IsInherited, IsDirect, IsReflective, IsProxy, IsMethodEntry, direct, proxy, entry_cmp, AreEntries}
 use Rattle.accepted_folders.proofs.Owners.{one_owner}
-use Rattle.entry_search.proofs.Reflective.{without_result}
+use Rattle.linked_pieces.proofs.Reflective.{without_result}
 use Rattle.accepted_folders.proofs.Firsts.{standing}
 use Rattle.linked_pieces.specs.Order.{AreInOrder}
 use Rattle.linked_pieces.proofs.Names.{tied_name}

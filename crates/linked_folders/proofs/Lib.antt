@@ -20,3 +20,15 @@ pub use Rattle.object_helpers.proofs.Bodies
 pub use Rattle.object_helpers.proofs.Brought
 pub use Rattle.object_helpers.proofs.WrittenTrees
 pub use Rattle.object_helpers.proofs.Pieces
+pub use Rattle.declared_pieces.proofs.Derivations
+pub use Rattle.declared_pieces.proofs.Direct
+pub use Rattle.declared_pieces.proofs.EachTyped
+pub use Rattle.declared_pieces.proofs.Fields as DeclaredPiecesFields
+pub use Rattle.declared_pieces.proofs.Forms
+pub use Rattle.declared_pieces.proofs.Found
+pub use Rattle.declared_pieces.proofs.Hijacked
+pub use Rattle.declared_pieces.proofs.Live as DeclaredPiecesLive
+pub use Rattle.declared_pieces.proofs.Made
+pub use Rattle.declared_pieces.proofs.Order
+pub use Rattle.declared_pieces.proofs.Parts
+pub use Rattle.declared_pieces.proofs.Plain

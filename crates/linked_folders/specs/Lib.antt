@@ -16,3 +16,8 @@ pub use Rattle.declared_pieces.specs.Files
 pub use Rattle.declared_pieces.specs.Reachable
 pub use Rattle.declared_pieces.specs.Verdicts
 pub use Rattle.object_helpers.specs.Helpers
+pub use Rattle.declared_pieces.specs.Built
+pub use Rattle.declared_pieces.specs.Classes
+pub use Rattle.declared_pieces.specs.Closed
+pub use Rattle.declared_pieces.specs.PieceRulesPieces
+pub use Rattle.declared_pieces.specs.Rules as ReachRulesRules

@@ -3,7 +3,7 @@ use Rattle.std.specs.Prelude.{List}
 use Rattle.std.specs.List.{Contains}
 use Rattle.js_tree.specs.Terms.{Piece}
 use Rattle.js_tree.specs.declared.items.Binding.{Binding}
-use Rattle.module_files.proofs.Entries.{initializer_of}
+use Rattle.declared_modules.proofs.Entries.{initializer_of}
 use Rattle.module_names.specs.Names.{Key, Digest}
 use Rattle.module_rules.specs.Calls.{called}
 use Rattle.module_rules.specs.Laws.{AreClosed, IsDeclared, by_piece, by_call}

@@ -1,10 +1,10 @@
 -- An edit has one verdict, one list of files in each style and one amount of work, and its files agree with the folder.
 use Rattle.std.proofs.Common.{◌≡◌, ◌∙◌, ℕ, Bool, true, false, List, refl, sym, ap, subst, length}
-use Rattle.declared_pieces.specs.Bodies.{AreBodies}
-use Rattle.declared_pieces.specs.Verdicts.{Verdict, refused}
-use Rattle.declared_pieces.proofs.Verdict.{one_verdict}
-use Rattle.linked_folders.proofs.Edits.{same_world, not_accepted, accepted_by, as_many}
-use Rattle.linked_folders.specs.Edits.{AreBuilt}
+use Rattle.declared_modules.specs.Bodies.{AreBodies}
+use Rattle.declared_modules.specs.Verdicts.{Verdict, refused}
+use Rattle.declared_modules.proofs.Verdict.{one_verdict}
+use Rattle.running_modules.proofs.Edits.{same_world, not_accepted, accepted_by, as_many}
+use Rattle.running_modules.specs.Edits.{AreBuilt}
 use Rattle.sj_names.specs.declared.entry_points.EntryPoint.{EntryPoint}
 use Rattle.sj_names.specs.declared.folders.SourceFile.{SourceFile}
 use Rattle.sj_world.proofs.Orders.{same_name, differs_after}

@@ -2,8 +2,8 @@
 use Rattle.std.proofs.Common.{◌≡◌, ◌∙◌, List, [], ◌∷◌, refl, sym, subst}
 use Rattle.js_mean.specs.Shows.{File}
 use Rattle.js_tree.specs.Terms.{Piece}
-use Rattle.linked_folders.proofs.One.{one_pieces, spelled_once}
-use Rattle.module_files.specs.Files.{IsFileOf, AreFilesOf}
+use Rattle.running_modules.proofs.One.{one_pieces, spelled_once}
+use Rattle.declared_modules.specs.Files.{IsFileOf, AreFilesOf}
 use Rattle.module_names.specs.Names.{sha1_digest}
 use Rattle.module_rules.specs.Modules.{module_of}
 use Rattle.plan_laws.proofs.Digests.{digests_have_one_length}

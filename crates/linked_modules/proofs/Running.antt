@@ -6,15 +6,15 @@ use Rattle.std.proofs.lemmas.List.Elements.{Contains-append_left, Contains-appen
 use Rattle.std.proofs.lemmas.Slice.Eq.{bytes_eq-Decides}
 use Rattle.running_modules.proofs.Forms.{in_one}
 use Rattle.running_modules.specs.Placed.{Placed, placed, items_until}
-use Rattle.declared_pieces.proofs.EachTyped.{in_all}
-use Rattle.declared_pieces.specs.Closed.{IsClosed}
+use Rattle.declared_modules.proofs.EachTyped.{in_all}
+use Rattle.declared_modules.specs.Closed.{IsClosed}
 use Rattle.js_mean.specs.Files.{module_among, items_in}
 use Rattle.js_mean.specs.Proper.{is_among}
 use Rattle.js_mean.specs.States.{Program}
 use Rattle.js_tree.specs.Terms.{Name, Item, Piece}
 use Rattle.js_tree.specs.declared.items.Binding.{Binding}
-use Rattle.module_files.proofs.Found.{among_is, is_in}
-use Rattle.module_files.specs.Files.{AreWhole}
+use Rattle.declared_modules.proofs.Found.{among_is, is_in}
+use Rattle.declared_modules.specs.Files.{AreWhole}
 use Rattle.module_rules.specs.Laws.{IsIn, IsSource, Uses, by_piece}
 use Rattle.module_rules.specs.Modules.{file_with}
 use Rattle.sj_split.proofs.Members.{cons_cases, into_map, into_filter, from_filter}

@@ -11,22 +11,22 @@ use Rattle.running_modules.specs.Declared.{Spread, all_items, Declared, IsPublic
 use Rattle.running_modules.specs.Placed.{RunsLast, placed}
 use Rattle.declared_modules.proofs.Whole.{modules_declare}
 use Rattle.declared_modules.specs.Spread.{spread_of, AllStand, DeclaresConstants}
-use Rattle.declared_pieces.proofs.Assembled.{laws_of}
-use Rattle.declared_pieces.proofs.Calls.{needed}
-use Rattle.declared_pieces.proofs.Derivations.{closed as closed_under}
-use Rattle.declared_pieces.proofs.Judged.{judged_plain}
-use Rattle.declared_pieces.proofs.Members.{defined}
-use Rattle.declared_pieces.proofs.ObjectFoldersWorlds.{carry, link_right}
-use Rattle.declared_pieces.proofs.Worlds.{judged}
-use Rattle.declared_pieces.specs.Accepted.{IsAccepted}
-use Rattle.declared_pieces.specs.Bodies.{AreBodies}
-use Rattle.declared_pieces.specs.Built.{Usable, is_object_body}
-use Rattle.declared_pieces.specs.Closed.{IsClosed}
-use Rattle.declared_pieces.specs.Emitted.{EmittedMethod, initializer_member}
-use Rattle.declared_pieces.specs.Pieces.{AreLinkedPieces}
-use Rattle.declared_pieces.specs.Reachable.{Reachable}
-use Rattle.declared_pieces.specs.Rules.{entry_member, of_entry, asked_body}
-use Rattle.declared_pieces.specs.Running.{CanRun}
+use Rattle.declared_modules.proofs.Assembled.{laws_of}
+use Rattle.declared_modules.proofs.Calls.{needed}
+use Rattle.declared_modules.proofs.Derivations.{closed as closed_under}
+use Rattle.declared_modules.proofs.Judged.{judged_plain}
+use Rattle.declared_modules.proofs.Members.{defined}
+use Rattle.declared_modules.proofs.Worlds.{carry, link_right}
+use Rattle.declared_modules.proofs.AcceptedFoldersWorlds.{judged}
+use Rattle.declared_modules.specs.Accepted.{IsAccepted}
+use Rattle.declared_modules.specs.Bodies.{AreBodies}
+use Rattle.running_modules.specs.Built.{Usable, is_object_body}
+use Rattle.declared_modules.specs.Closed.{IsClosed}
+use Rattle.running_modules.specs.Emitted.{EmittedMethod, initializer_member}
+use Rattle.declared_modules.specs.Pieces.{AreLinkedPieces}
+use Rattle.declared_modules.specs.Reachable.{Reachable}
+use Rattle.declared_modules.specs.Rules.{entry_member, of_entry, asked_body}
+use Rattle.declared_modules.specs.Running.{CanRun}
 use Rattle.file_listings.specs.Listed.{AreBytes}
 use Rattle.ir_mean.specs.Shows.{initializers}
 use Rattle.js_mean.specs.Files.{running_order}
@@ -34,15 +34,15 @@ use Rattle.js_mean.specs.Shows.{File}
 use Rattle.js_mean.specs.States.{Program}
 use Rattle.js_tree.specs.Terms.{Name, Item, Piece}
 use Rattle.js_tree.specs.declared.items.Binding.{Binding}
-use Rattle.linked_folders.proofs.Links as links
-use Rattle.linked_folders.specs.Edits.{AreBuilt}
-use Rattle.linked_folders.specs.Link.{ArePieces}
-use Rattle.module_files.proofs.FromLinked.{linked_pieces_are_proper}
-use Rattle.module_files.proofs.Reached.{reached_files_are_good}
-use Rattle.module_files.proofs.Read.{files_are_read}
-use Rattle.module_files.proofs.Running.{imports_run_first}
-use Rattle.module_files.proofs.Whole.{plans_are_whole}
-use Rattle.module_files.specs.Files.{program_of, AreFilesOf, AreProper, AreWhole}
+use Rattle.running_modules.proofs.Links as links
+use Rattle.running_modules.specs.Edits.{AreBuilt}
+use Rattle.running_modules.specs.Link.{ArePieces}
+use Rattle.declared_modules.proofs.FromLinked.{linked_pieces_are_proper}
+use Rattle.declared_modules.proofs.Reached.{reached_files_are_good}
+use Rattle.declared_modules.proofs.Read.{files_are_read}
+use Rattle.declared_modules.proofs.Running.{imports_run_first}
+use Rattle.declared_modules.proofs.ModuleFilesWhole.{plans_are_whole}
+use Rattle.declared_modules.specs.Files.{program_of, AreFilesOf, AreProper, AreWhole}
 use Rattle.module_names.specs.Names.{sha1_digest}
 use Rattle.module_rules.proofs.Chosen.{is_it}
 use Rattle.module_rules.proofs.Lines.{files_are_those_of_plans}

@@ -1,11 +1,11 @@
 -- Laws of links with several public modules.
 use Rattle.std.specs.Prelude.{◌≡◌, List, map}
 use Rattle.std.specs.List.{Contains}
-use Rattle.declared_pieces.specs.Accepted.{IsAccepted}
-use Rattle.declared_pieces.specs.Verdicts.{Verdict}
+use Rattle.declared_modules.specs.Accepted.{IsAccepted}
+use Rattle.declared_modules.specs.Verdicts.{Verdict}
 use Rattle.file_listings.specs.Listed.{AreBytes}
 use Rattle.js_mean.specs.Shows.{File}
-use Rattle.linked_folders.specs.Edits.{AreBuilt}
+use Rattle.running_modules.specs.Edits.{AreBuilt}
 use Rattle.plan_laws.specs.Laws.{AreCountable}
 use Rattle.sj_agree.specs.Agrees.{Agrees}
 use Rattle.sj_names.specs.EntryPoints.{AreEntries}

@@ -12,7 +12,7 @@ use Rattle.std.proofs.lemmas.List.Elements.{Contains-append_left, Contains-appen
 use Rattle.std.proofs.lemmas.List.MinMax.{ranks_by}
 use Rattle.std.proofs.lemmas.List.Sorted.{Contains-permutation, IsPermutation-sym}
 use Rattle.std.proofs.lemmas.Map.Keys.{IsDistinct-IsPermutation, IsDistinct-cons}
-use Rattle.piece_rules.specs.Classes.{AreSorted, field_cmp}
+use Rattle.sj_sound.specs.Classes.{AreSorted, field_cmp}
 use Rattle.sj_kept.proofs.Classes.{none-each}
 use Rattle.sj_local.specs.Broken.{FirstBroken, Breaks, all_rules, repeat_place}
 use Rattle.sj_local.specs.Firsts.{FirstRepeat, here, later}

@@ -5,7 +5,10 @@ pub mod Order
 pub mod Picked
 pub mod Sorted
 pub mod Statics
-pub use Rattle.body_rules.proofs.Equal
-pub use Rattle.sj_proper.proofs.Names as ProperNames
-pub use Rattle.sj_proper.proofs.Modules
-pub use Rattle.body_rules.proofs.Plain
+pub use Rattle.sj_sound.proofs.Equal
+pub use Rattle.sj_kept.proofs.SjProperNames as ProperNames
+pub use Rattle.sj_kept.proofs.Modules
+pub use Rattle.sj_sound.proofs.Plain
+pub use Rattle.sj_sound.proofs.Running
+pub use Rattle.sj_sound.proofs.Reflective
+pub use Rattle.sj_sound.proofs.Same

@@ -9,17 +9,17 @@ use Rattle.helper_rules.specs.Words.{kind_class, worded_kinds}
 use Rattle.helper_rules.specs.declared.kinds.Helper.{Helper}
 use Rattle.helper_rules.specs.declared.kinds.Kind.{Kind}
 use Rattle.js_tree.specs.Terms.{Piece}
-use Rattle.body_rules.proofs.Plain.{class_found}
-use Rattle.entry_rules.specs.Entries.{IsLive}
-use Rattle.piece_rules.specs.Classes as classes
-use Rattle.piece_rules.specs.Classes.{AreClassPieces, AreParts, AreInstances, AreReached, AreSorted, AreStatics, HasForm, absent, present, is_own}
-use Rattle.piece_rules.specs.Pieces.{Parts, pieces}
-use Rattle.sj_emit_expr.specs.Templates.{member_name}
+use Rattle.sj_sound.proofs.Plain.{class_found}
+use Rattle.sj_sound.specs.Entries.{IsLive}
+use Rattle.sj_sound.specs.Classes as classes
+use Rattle.sj_sound.specs.Classes.{AreClassPieces, AreParts, AreInstances, AreReached, AreSorted, AreStatics, HasForm, absent, present, is_own}
+use Rattle.sj_sound.specs.Pieces.{Parts, pieces}
+use Rattle.sj_sound.specs.Templates.{member_name}
 use Rattle.sj_infos.specs.declared.forms.BodyForm.{BodyForm}
 use Rattle.sj_infos.specs.declared.forms.BodyForm.TheVariants as forms
 use Rattle.sj_local.specs.Broken.{FirstBroken}
 use Rattle.sj_names.proofs.Same.{impossible}
-use Rattle.sj_proper.specs.Emitted.{EmittedMethod}
+use Rattle.sj_sound.specs.Emitted.{EmittedMethod}
 use Rattle.sj_split.proofs.Unique.{never_both}
 use Rattle.sj_trees.specs.declared.classes.ClassDef.{ClassDef}
 use Rattle.sj_trees.specs.declared.classes.FieldDef.{FieldDef}

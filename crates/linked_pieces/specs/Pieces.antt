@@ -1,17 +1,17 @@
 -- The pieces of a linked world in the order of a module: of each class its own and the functions of its methods, and behind those of `java.lang.Object` the helpers.
 use Rattle.std.specs.Prelude.{◌≡◌, ◌↔◌, List, [], ◌∷◌, ◌++◌, Contains, map, if◌then◌else◌}
 use Rattle.std.specs.List.{flat_map}
-use Rattle.dispatch_laws.specs.Targets.{lookup_in}
+use Rattle.sj_sound.specs.Targets.{lookup_in}
 use Rattle.helper_rules.specs.Helpers.{Above, helper_name, helper_piece, used_helpers}
 use Rattle.helper_rules.specs.Words.{helper, kind_class}
 use Rattle.helper_rules.specs.declared.kinds.Helper.{Helper}
 use Rattle.helper_rules.specs.declared.kinds.Kind.{Kind}
 use Rattle.js_tree.specs.Terms.{Piece}
-use Rattle.piece_rules.specs.Classes.{AreClassPieces}
-use Rattle.sj_desugar.specs.Desugar.{desugared_member}
-use Rattle.sj_emit_expr.specs.Members.{member_piece}
+use Rattle.sj_sound.specs.Classes.{AreClassPieces}
+use Rattle.sj_kept.specs.Desugar.{desugared_member}
+use Rattle.sj_kept.specs.Members.{member_piece}
 use Rattle.sj_names.specs.WellKnown.{is_object}
-use Rattle.sj_proper.specs.Emitted.{EmittedMethod}
+use Rattle.sj_sound.specs.Emitted.{EmittedMethod}
 use Rattle.sj_split.specs.Orders.{IsBefore}
 use Rattle.sj_world.specs.Known.{Name, Classes}
 use Rattle.sj_world.specs.Linked.{Linked}

@@ -1,11 +1,11 @@
 -- What the code of a linked world can use, where the pieces of some of its classes are written.
 use Rattle.std.specs.Prelude.{Bool, true, false, ◌&&◌, ◌||◌, not, List, Option, Some, None}
 use Rattle.std.specs.List.{list_any}
-use Rattle.built_forms.specs.Built.{Usable, is_static, has_kind, has_no_value}
-use Rattle.dispatch_laws.specs.Targets.{lookup_in}
+use Rattle.sj_kept.specs.Built.{Usable, is_static, has_kind, has_no_value}
+use Rattle.sj_sound.specs.Targets.{lookup_in}
 use Rattle.helper_rules.specs.Helpers.{helper_name}
 use Rattle.helper_rules.specs.declared.kinds.Helper.{Helper}
-use Rattle.sj_emit_expr.specs.Tests.{test_name, cast_name}
+use Rattle.sj_sound.specs.Tests.{test_name, cast_name}
 use Rattle.sj_infos.specs.Forms.{forms_in}
 use Rattle.sj_infos.specs.declared.forms.BodyForm.{BodyForm}
 use Rattle.sj_infos.specs.declared.forms.BodyForm.TheVariants.{Test, Cast}
@@ -14,7 +14,7 @@ use Rattle.sj_names.specs.Same.{is_same_text}
 use Rattle.sj_names.specs.declared.method_names.Member.{Member}
 use Rattle.sj_names.specs.declared.method_names.Namespace.{Namespace}
 use Rattle.sj_names.specs.declared.method_names.Namespace.TheVariants.{Public, Private, Constructor}
-use Rattle.sj_proper.specs.Emitted.{EmittedMethod}
+use Rattle.sj_sound.specs.Emitted.{EmittedMethod}
 use Rattle.sj_sound.specs.Linked.{has_function}
 use Rattle.sj_trees.specs.SameTypes.{is_same_type}
 use Rattle.sj_trees.specs.declared.classes.ClassDef.{ClassDef}

@@ -7,3 +7,6 @@ pub mod Reached
 pub mod Circles
 pub mod Running
 pub mod FromLinked
+pub use Rattle.proper_pieces.proofs.Apart
+pub use Rattle.proper_pieces.proofs.Linked
+pub use Rattle.proper_pieces.proofs.Parts

@@ -1,7 +1,7 @@
 -- The world of an accepted folder has what the laws on objects ask.
 use Rattle.accepted_folders.proofs.Plain.{plain_world}
 use Rattle.accepted_folders.proofs.Topped.{topped}
-use Rattle.dispatch_laws.proofs.Running.{targets_run}
+use Rattle.linked_pieces.proofs.Running.{targets_run}
 use Rattle.std.proofs.Common.{◌≡◌, ◌&&◌, Bool, true, List, None, sym, subst, Contains}
 use Rattle.std.proofs.lemmas.Bool.{and_parts}
 use Rattle.std.specs.List.{list_any}

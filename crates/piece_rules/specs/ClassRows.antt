@@ -11,7 +11,7 @@ use Rattle.sj_trees.specs.Erase.{nowhere}
 use Rattle.sj_trees.specs.declared.classes.FieldDef.{FieldDef}
 use Rattle.sj_trees.specs.declared.types.IrType.{IrType}
 use Rattle.sj_trees.specs.declared.types.IrType.TheVariants as Types
-use Rattle.sj_world.specs.declared.linked.MethodEntry.{MethodEntry}
+use Rattle.entry_rules.specs.MethodEntry.{MethodEntry}
 use Rattle.entry_rules.specs.Rules.{public_member}
 use Rattle.piece_rules.specs.Dispatch.{dispatch_piece, reflective_piece}
 use Rattle.piece_rules.specs.Pieces.{all_statics, cast_piece, cell_pieces, class_piece, constants_piece, kind_of_class, test_piece}

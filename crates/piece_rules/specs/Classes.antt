@@ -9,16 +9,16 @@ use Rattle.js_tree.specs.Terms.{Name, Piece}
 use Rattle.sj_names.specs.declared.method_names.Member.{Member}
 use Rattle.sj_trees.specs.declared.classes.FieldDef.{FieldDef}
 use Rattle.sj_trees.specs.declared.classes.MethodDef.{MethodDef}
-use Rattle.sj_infos.specs.Forms.{forms_by}
-use Rattle.sj_infos.specs.declared.forms.BodyForm.{BodyForm}
-use Rattle.sj_infos.specs.declared.forms.BodyForm.TheVariants as forms
-use Rattle.sj_world.specs.Ancestors.{IsAncestor}
-use Rattle.sj_world.specs.Known.{Classes, class_of, is_same}
-use Rattle.sj_world.specs.Linked.{Linked}
-use Rattle.sj_world.specs.Members.{IsMethodOf}
-use Rattle.sj_world.specs.Tables.{AreAncestors}
-use Rattle.sj_world.specs.declared.facts.Fact.{Fact}
-use Rattle.sj_world.specs.declared.facts.Fact.TheVariants as facts
+use Rattle.entry_rules.specs.Forms.{forms_by}
+use Rattle.entry_rules.specs.BodyForm.{BodyForm}
+use Rattle.entry_rules.specs.BodyFormVariants as forms
+use Rattle.entry_rules.specs.Ancestors.{IsAncestor}
+use Rattle.entry_rules.specs.Known.{Classes, class_of, is_same}
+use Rattle.entry_rules.specs.Linked.{Linked}
+use Rattle.entry_rules.specs.Members.{IsMethodOf}
+use Rattle.sj_emit_expr.specs.Tables.{AreAncestors}
+use Rattle.entry_rules.specs.Fact.{Fact}
+use Rattle.entry_rules.specs.FactVariants as facts
 use Rattle.entry_rules.specs.Entries.{IsLive}
 use Rattle.helper_rules.specs.Words.{kind_class, worded_kinds}
 use Rattle.piece_rules.specs.Pieces.{Parts, pieces}

@@ -8,10 +8,10 @@ use Rattle.js_tree.specs.declared.items.Binding.{Binding}
 use Rattle.sj_mangling.specs.Bindings.{method_binding}
 use Rattle.sj_mangling.specs.declared.bindings.MethodBinding.TheVariants.{Dispatch, Reflective}
 use Rattle.sj_names.specs.declared.method_names.MethodName.{MethodName}
-use Rattle.sj_world.specs.declared.facts.Fact.{Fact}
-use Rattle.sj_world.specs.declared.facts.Fact.TheVariants as facts
-use Rattle.sj_world.specs.Known.{Classes}
-use Rattle.sj_world.specs.Calls.{IsProxyTarget}
+use Rattle.entry_rules.specs.Fact.{Fact}
+use Rattle.entry_rules.specs.FactVariants as facts
+use Rattle.entry_rules.specs.Known.{Classes}
+use Rattle.entry_rules.specs.Calls.{IsProxyTarget}
 use Rattle.sj_trees.specs.declared.classes.MethodDef.{MethodDef}
 use Rattle.piece_rules.specs.Pieces.{boxed_result, box_uses}
 use Rattle.sj_emit_expr.specs.Uses.{once_each}

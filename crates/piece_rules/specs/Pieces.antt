@@ -16,8 +16,8 @@ use Rattle.sj_trees.specs.declared.classes.ClassDef.{ClassDef}
 use Rattle.sj_trees.specs.declared.classes.FieldDef.{FieldDef}
 use Rattle.sj_trees.specs.declared.types.IrType.{IrType}
 use Rattle.sj_trees.specs.declared.types.IrType.TheVariants as Types
-use Rattle.sj_world.specs.declared.linked.MethodEntry.{MethodEntry}
-use Rattle.sj_world.specs.Known.{is_same}
+use Rattle.entry_rules.specs.MethodEntry.{MethodEntry}
+use Rattle.entry_rules.specs.Known.{is_same}
 use Rattle.sj_emit_expr.specs.Templates.{member_name}
 use Rattle.sj_emit_expr.specs.Uses.{once_each}
 use Rattle.helper_rules.specs.Helpers.{constants}

@@ -14,7 +14,7 @@ use Rattle.js_tree.specs.Views.{statements_of}
 use Rattle.linked_pieces.specs.PieceRulesPieces.{Parts, pieces, when, constants_piece, class_piece, entry_member, field_start, all_statics, variable_piece, setter_piece, cell_piece, load_piece, store_piece, cell_pieces, test_piece, kind_of_class, cast_piece, constants_of, class_of, module_of, tests_of}
 use Rattle.proper_pieces.specs.Laws.{PiecesAreProper}
 use Rattle.linked_pieces.proofs.Modules.{member_proper}
-use Rattle.dispatch_laws.specs.Targets.{lookup_in}
+use Rattle.linked_pieces.specs.Targets.{lookup_in}
 use Rattle.sj_split.proofs.Members.{cons_cases}
 use Rattle.sj_trees.specs.declared.classes.FieldDef.{FieldDef}
 use Rattle.sj_world.specs.declared.linked.MethodEntry.{MethodEntry}

@@ -3,3 +3,4 @@ pub mod Modules
 pub use Rattle.linked_pieces.specs.Emitted
 pub use Rattle.linked_pieces.specs.Once
 pub use Rattle.linked_pieces.specs.Pieces
+pub use Rattle.linked_pieces.specs.Order

@@ -4,7 +4,7 @@ use Rattle.sj_names.specs.declared.method_names.Member.{Member}
 use Rattle.sj_names.specs.declared.method_names.MethodName.{MethodName}
 use Rattle.sj_names.specs.declared.method_names.Namespace.TheVariants.{Public, PublicStatic}
 use Rattle.sj_trees.specs.declared.classes.ClassDef.{ClassDef}
-use Rattle.sj_world.specs.Known.{Name, Classes, class_of}
+use Rattle.sj_ask.specs.Known.{Name, Classes, class_of}
 use Rattle.reach_rules.specs.Reachable.{Unresolved}
 use Rattle.reach_rules.specs.Refusals.{Refusal, missing_method, no_class, no_member, no_body, no_field, no_class_above, no_interface_above, no_class_made, no_module, no_exception, no_target, no_target_body, no_method, no_hijacked_body, no_dispatched_body, no_dispatched_method, no_reflective_body}
 use Rattle.reach_rules.specs.Rows.{folder, static_call, main_entries, gone, IsToldByItsClassAlone}

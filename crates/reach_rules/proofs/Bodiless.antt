@@ -7,13 +7,13 @@ use Rattle.sj_trees.specs.declared.classes.ClassKind.TheVariants.{Class, Interfa
 use Rattle.sj_trees.specs.declared.classes.MethodDef.{MethodDef}
 use Rattle.sj_trees.specs.declared.types.IrType.TheVariants.{NoType}
 use Rattle.sj_names.specs.declared.method_names.Namespace.TheVariants.{Public, PublicStatic}
-use Rattle.sj_world.specs.Known.{Name, Classes, class_of, object}
-use Rattle.sj_world.specs.Ancestors.{Way, by_path, is_object, IsAncestor, IsParent, parents, IsNext, IsOnChain, next_on_chain}
-use Rattle.sj_world.specs.Calls.{IsNamedBy, IsProxyTarget, narrowest}
-use Rattle.sj_world.specs.Paths.{Path, stay, on}
-use Rattle.sj_world.specs.Resolution.{IsBody, IsDefault, IsDeclaredAt, HasNoBody, Resolves, by_ancestors, declared, abstract, begin, up}
-use Rattle.sj_world.specs.Subtypes.{IsSub, equal}
-use Rattle.sj_world.proofs.Searches.{contains_at}
+use Rattle.sj_ask.specs.Known.{Name, Classes, class_of, object}
+use Rattle.sj_ask.specs.Ancestors.{Way, by_path, is_object, IsAncestor, IsParent, parents, IsNext, IsOnChain, next_on_chain}
+use Rattle.sj_ask.specs.Calls.{IsNamedBy, IsProxyTarget, narrowest}
+use Rattle.sj_ask.specs.Paths.{Path, stay, on}
+use Rattle.sj_ask.specs.Resolution.{IsBody, IsDefault, IsDeclaredAt, HasNoBody, Resolves, by_ancestors, declared, abstract, begin, up}
+use Rattle.sj_ask.specs.Subtypes.{IsSub, equal}
+use Rattle.sj_ask.proofs.Searches.{contains_at}
 use Rattle.worklist.proofs.Inserted.{nothing_in, only_one}
 use Rattle.reach_rules.specs.Rows.{abstract_m, folder, proxy, static_method}
 use Rattle.reach_rules.proofs.Lacking.{boolean, interface, m, same_some, not_some, main_is_not_m}

@@ -4,8 +4,8 @@ use Rattle.sj_names.specs.declared.entry_points.EntryPoint.{EntryPoint}
 use Rattle.sj_names.specs.declared.method_names.Member.{Member}
 use Rattle.sj_names.specs.declared.method_names.MethodName.{MethodName}
 use Rattle.sj_infos.specs.declared.infos.Info.{Info}
-use Rattle.sj_world.specs.Known.{Name, Classes}
-use Rattle.sj_world.specs.declared.facts.Fact.{Fact}
+use Rattle.sj_ask.specs.Known.{Name, Classes}
+use Rattle.sj_ask.specs.Fact.{Fact}
 use Rattle.reach_rules.specs.Rules.{Reads, IsAsked, of_entry, of_new, of_load, of_call, of_throw, IsCalledOn, on_made, on_hijacked, Rule, the_object, entry_class, above, above_hijacked, asked_body, new_needed, new_made, load_needed, load_made, load_used, field_class, field_needed, static_class, resolved_class, resolved_body, call_class, call_hijacked, call, dispatched, reflective, reflective_hijacked, array_made, class_named, throw_needed, throw_made}
 
 pub reads-grow : (w : Classes) (entries : List EntryPoint) (P Q : Fact → Type 0) → ((f : Fact) → P f → Q f) → (i : Info) → Reads w entries P i → Reads w entries Q i

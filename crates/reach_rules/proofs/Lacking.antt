@@ -6,11 +6,11 @@ use Rattle.sj_trees.specs.declared.classes.ClassDef.{ClassDef}
 use Rattle.sj_trees.specs.declared.classes.MethodDef.{MethodDef}
 use Rattle.sj_names.specs.WellKnown.{is_same_text}
 use Rattle.sj_names.specs.declared.method_names.MethodName.{MethodName}
-use Rattle.sj_world.specs.Known.{Name, class_of, object}
-use Rattle.sj_world.specs.Ancestors.{Way, by_path, is_object, IsParent, parents, IsNext, IsOnChain, next_on_chain}
-use Rattle.sj_world.specs.Paths.{Path, stay, on}
-use Rattle.sj_world.specs.Resolution.{IsDefault, IsDeclaredAt, HasNoBody, Resolves, by_ancestors, undeclared, missing}
-use Rattle.sj_world.proofs.Searches.{contains_at}
+use Rattle.sj_ask.specs.Known.{Name, class_of, object}
+use Rattle.sj_ask.specs.Ancestors.{Way, by_path, is_object, IsParent, parents, IsNext, IsOnChain, next_on_chain}
+use Rattle.sj_ask.specs.Paths.{Path, stay, on}
+use Rattle.sj_ask.specs.Resolution.{IsDefault, IsDeclaredAt, HasNoBody, Resolves, by_ancestors, undeclared, missing}
+use Rattle.sj_ask.proofs.Searches.{contains_at}
 use Rattle.worklist.proofs.Inserted.{nothing_in, only_one}
 use Rattle.reach_rules.specs.Rows.{plain_name, folder, static_method}
 

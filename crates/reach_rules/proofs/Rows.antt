@@ -11,14 +11,14 @@ use Rattle.sj_names.specs.declared.method_names.MethodName.{MethodName}
 use Rattle.sj_names.specs.declared.method_names.Namespace.TheVariants.{Public, PublicStatic, Constructor}
 use Rattle.sj_infos.specs.Infos.{asked_in}
 use Rattle.sj_infos.specs.declared.infos.Info.{Info}
-use Rattle.sj_world.specs.Known.{object}
-use Rattle.sj_world.specs.Members.{IsMethod}
-use Rattle.sj_world.specs.Ancestors.{IsAncestor, by_path, is_object}
-use Rattle.sj_world.specs.Calls.{IsNamedBy, IsProxyTarget, narrowest}
-use Rattle.sj_world.specs.Paths.{IsFirst, stay}
-use Rattle.sj_world.specs.Resolution.{IsBody, IsBodyAt, Resolves, by_chain, begin, target}
-use Rattle.sj_world.specs.Subtypes.{IsSub, equal}
-use Rattle.sj_world.specs.declared.facts.Fact.TheVariants as fact
+use Rattle.sj_ask.specs.Known.{object}
+use Rattle.sj_ask.specs.Members.{IsMethod}
+use Rattle.sj_ask.specs.Ancestors.{IsAncestor, by_path, is_object}
+use Rattle.sj_ask.specs.Calls.{IsNamedBy, IsProxyTarget, narrowest}
+use Rattle.sj_ask.specs.Paths.{IsFirst, stay}
+use Rattle.sj_ask.specs.Resolution.{IsBody, IsBodyAt, Resolves, by_chain, begin, target}
+use Rattle.sj_ask.specs.Subtypes.{IsSub, equal}
+use Rattle.sj_ask.specs.FactVariants as fact
 use Rattle.reach_rules.specs.Reachable.{Reachable}
 use Rattle.reach_rules.specs.Refusals.{no_class, no_member, no_body, no_field, no_class_made, no_module, no_target, no_target_body, no_dispatched_method, no_reflective_body}
 use Rattle.reach_rules.specs.Rows.{a_method, class_with_m, new_a, made_and, call_m, call_by_proxy, call_as_a, call_as_i, field_of_a, array_of_ints, is_an_i, quotient, proxy, IsReached, WorkedFacts, plain_name, folder, main_entries, static_method, static_call, static_field, WorkedReachability, WorkedAbstractTargets, abstract_m}

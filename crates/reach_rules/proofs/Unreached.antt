@@ -8,15 +8,15 @@ use Rattle.sj_trees.specs.declared.classes.MethodDef.{MethodDef}
 use Rattle.sj_names.specs.WellKnown.{hijacked, is_same_text}
 use Rattle.sj_names.specs.declared.entry_points.EntryPoint.{EntryPoint}
 use Rattle.sj_names.specs.declared.method_names.Member.{Member}
-use Rattle.sj_world.specs.Members.{IsMethodOf}
+use Rattle.sj_ask.specs.Members.{IsMethodOf}
 use Rattle.sj_ask.proofs.One.{one_method}
 use Rattle.sj_infos.specs.Infos.{asked_by}
 use Rattle.sj_infos.specs.declared.infos.Info.{Info}
-use Rattle.sj_world.specs.Ancestors.{written_above}
-use Rattle.sj_world.specs.Known.{Name, Classes, object}
-use Rattle.sj_world.specs.declared.facts.Fact.{Fact}
-use Rattle.sj_world.specs.declared.facts.Fact.TheVariants as fact
-use Rattle.sj_world.proofs.OnCycles.{among}
+use Rattle.sj_ask.specs.Ancestors.{written_above}
+use Rattle.sj_ask.specs.Known.{Name, Classes, object}
+use Rattle.sj_ask.specs.Fact.{Fact}
+use Rattle.sj_ask.specs.FactVariants as fact
+use Rattle.sj_ask.proofs.OnCycles.{among}
 use Rattle.worklist.proofs.Inserted.{nothing_in, only_one}
 use Rattle.reach_rules.specs.Rows.{folder, static_method, main_entries, unused, IsUnneeded}
 use Rattle.reach_rules.specs.Rules.{entry_member, Reads, IsAsked, of_entry, of_new, of_load, of_call, of_throw, IsCalledOn, on_made, on_hijacked, Rule, the_object, entry_class, above, above_hijacked, asked_body, new_needed, new_made, load_needed, load_made, load_used, field_class, field_needed, static_class, resolved_class, resolved_body, call_class, call_hijacked, call, dispatched, reflective, reflective_hijacked, array_made, class_named, throw_needed, throw_made}

@@ -1,8 +1,8 @@
 -- Laws of reachable facts.
 use Rattle.std.specs.Prelude.{◌≡◌, Bool, true, List}
 use Rattle.sj_names.specs.declared.entry_points.EntryPoint.{EntryPoint}
-use Rattle.sj_world.specs.Known.{Classes}
-use Rattle.sj_world.specs.declared.facts.Fact.{Fact}
+use Rattle.sj_ask.specs.Known.{Classes}
+use Rattle.sj_ask.specs.Fact.{Fact}
 use Rattle.reach_rules.specs.Rules.{Rule}
 use Rattle.reach_rules.specs.Reachable.{Reachable}
 

@@ -1,8 +1,8 @@
 -- What is reachable: what stands at the end of a finite list of facts, each of which follows from those before it.
 use Rattle.std.specs.Prelude.{List, [], ◌∷◌, Contains}
 use Rattle.sj_names.specs.declared.entry_points.EntryPoint.{EntryPoint}
-use Rattle.sj_world.specs.Known.{Classes}
-use Rattle.sj_world.specs.declared.facts.Fact.{Fact}
+use Rattle.sj_ask.specs.Known.{Classes}
+use Rattle.sj_ask.specs.Fact.{Fact}
 use Rattle.reach_rules.specs.Rules.{Rule}
 use Rattle.reach_rules.specs.Refusals.{Refusal, Asks}
 

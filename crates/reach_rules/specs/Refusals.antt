@@ -10,14 +10,14 @@ use Rattle.sj_trees.specs.declared.classes.ClassDef.{ClassDef}
 use Rattle.sj_trees.specs.declared.classes.ClassKind.{ClassKind}
 use Rattle.sj_trees.specs.declared.classes.ClassKind.TheVariants.{Class, ModuleClass, Interface}
 use Rattle.sj_trees.specs.declared.classes.MethodDef.{MethodDef}
-use Rattle.sj_world.specs.Members.{IsField, IsMethod, IsMethodOf}
+use Rattle.sj_ask.specs.Members.{IsField, IsMethod, IsMethodOf}
 use Rattle.sj_infos.specs.declared.infos.Info.TheVariants as info
-use Rattle.sj_world.specs.Calls.{IsProxyTarget}
-use Rattle.sj_world.specs.Known.{Name, Classes, class_of, is_hijacked}
-use Rattle.sj_world.specs.Paths.{HasNone}
-use Rattle.sj_world.specs.Resolution.{Resolves, abstract, missing}
-use Rattle.sj_world.specs.declared.facts.Fact.{Fact}
-use Rattle.sj_world.specs.declared.facts.Fact.TheVariants as fact
+use Rattle.sj_ask.specs.Calls.{IsProxyTarget}
+use Rattle.sj_ask.specs.Known.{Name, Classes, class_of, is_hijacked}
+use Rattle.sj_ask.specs.Paths.{HasNone}
+use Rattle.sj_ask.specs.Resolution.{Resolves, abstract, missing}
+use Rattle.sj_ask.specs.Fact.{Fact}
+use Rattle.sj_ask.specs.FactVariants as fact
 use Rattle.reach_rules.specs.Rules.{Reads, IsAsked, IsCalledOn, public_member}
 
 -- why a folder is refused: 12 to 16, with the place

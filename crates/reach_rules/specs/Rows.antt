@@ -17,13 +17,13 @@ use Rattle.sj_trees.specs.declared.classes.MethodDef.{MethodDef}
 use Rattle.sj_trees.specs.declared.operators.BinaryOp.TheVariants.{IntDivide}
 use Rattle.sj_trees.specs.declared.types.IrType.{IrType}
 use Rattle.sj_trees.specs.declared.types.IrType.TheVariants.{NoType, Any, Int}
-use Rattle.sj_world.specs.Known.{Name, Classes, object}
-use Rattle.sj_world.specs.Rows.{empty_class}
+use Rattle.sj_ask.specs.Known.{Name, Classes, object}
+use Rattle.sj_ask.specs.Rows.{empty_class}
 use Rattle.reach_rules.specs.Refusals.{Refusal, place, missing_class, missing_method, missing_field, wrong_kind, abstract_target}
 use Rattle.reach_rules.specs.Reachable.{Reachable, Unresolved}
 use Rattle.reach_rules.specs.Rules.{plain_constructor, message_constructor, public_member}
-use Rattle.sj_world.specs.declared.facts.Fact.{Fact}
-use Rattle.sj_world.specs.declared.facts.Fact.TheVariants as fact
+use Rattle.sj_ask.specs.Fact.{Fact}
+use Rattle.sj_ask.specs.FactVariants as fact
 
 abbrev pub plain_name : List ℕ → MethodName
 plain_name simple = record { simple = simple; params = []; result = Some reference.Void }

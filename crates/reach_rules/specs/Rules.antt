@@ -7,16 +7,16 @@ use Rattle.sj_names.specs.declared.method_names.MethodName.{MethodName}
 use Rattle.sj_names.specs.declared.method_names.Namespace.TheVariants.{Public, PublicStatic, Constructor}
 use Rattle.sj_names.specs.declared.references.TypeRef.TheVariants as reference
 use Rattle.sj_trees.specs.declared.classes.MethodDef.{MethodDef}
-use Rattle.sj_world.specs.Members.{IsMethodOf}
+use Rattle.sj_ask.specs.Members.{IsMethodOf}
 use Rattle.sj_infos.specs.Infos.{asked_by}
 use Rattle.sj_infos.specs.declared.infos.Info.{Info}
 use Rattle.sj_infos.specs.declared.infos.Info.TheVariants as info
-use Rattle.sj_world.specs.Ancestors.{IsAncestor, IsWritten}
-use Rattle.sj_world.specs.Calls.{IsProxyTarget}
-use Rattle.sj_world.specs.Known.{Name, Classes, is_hijacked, object}
-use Rattle.sj_world.specs.Resolution.{Resolves, target}
-use Rattle.sj_world.specs.declared.facts.Fact.{Fact}
-use Rattle.sj_world.specs.declared.facts.Fact.TheVariants as fact
+use Rattle.sj_ask.specs.Ancestors.{IsAncestor, IsWritten}
+use Rattle.sj_ask.specs.Calls.{IsProxyTarget}
+use Rattle.sj_ask.specs.Known.{Name, Classes, is_hijacked, object}
+use Rattle.sj_ask.specs.Resolution.{Resolves, target}
+use Rattle.sj_ask.specs.Fact.{Fact}
+use Rattle.sj_ask.specs.FactVariants as fact
 
 -- the static method without parameters and result that an entry point names
 abbrev pub entry_member : EntryPoint → Member

@@ -3,3 +3,4 @@ pub mod Chains
 pub mod Defaults
 pub mod Declared
 pub mod Resolves
+pub use Rattle.dispatch_laws.proofs.WorkedOut

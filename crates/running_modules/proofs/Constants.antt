@@ -7,11 +7,11 @@ use Rattle.helper_rules.specs.Words.{kind_class}
 use Rattle.helper_rules.specs.declared.kinds.Helper.{Helper}
 use Rattle.helper_rules.specs.declared.kinds.Helper.TheVariants as helpers
 use Rattle.js_tree.specs.Terms.{Name, Property, object_item, Piece}
-use Rattle.object_folders.specs.Classes.{AreParts}
-use Rattle.object_folders.specs.Emitted.{EmittedMethod}
-use Rattle.object_folders.specs.PieceRulesPieces.{Parts, pieces, class_piece}
-use Rattle.object_folders.specs.Pieces.{AreLinkedPieces}
-use Rattle.object_folders.proofs.Plain.{class_found}
+use Rattle.declared_files.specs.Classes.{AreParts}
+use Rattle.sj_proper.specs.Emitted.{EmittedMethod}
+use Rattle.declared_files.specs.Pieces.{Parts, pieces, class_piece}
+use Rattle.module_files.specs.Pieces.{AreLinkedPieces}
+use Rattle.sj_proper.proofs.Plain.{class_found}
 use Rattle.sj_world.specs.Linked.{Linked}
 use Rattle.sj_world.specs.Tables.{AreAncestors}
 use Rattle.running_modules.proofs.Each.{each_own}

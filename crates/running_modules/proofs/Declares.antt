@@ -16,8 +16,8 @@ use Rattle.closed_pieces.proofs.Fields.{class_named}
 use Rattle.closed_pieces.proofs.Order.{pieces_are_declarations}
 use Rattle.closed_pieces.proofs.Worlds.{judged}
 use Rattle.closed_pieces.specs.Closed.{IsClosed, items_of}
-use Rattle.file_declarations.specs.Declarations.{declare}
-use Rattle.file_declarations.specs.Declared.{is_covered}
+use Rattle.declared_files.specs.Declarations.{declare}
+use Rattle.declared_files.specs.FileDeclarationsDeclared.{is_covered}
 use Rattle.file_listings.specs.Listed.{AreBytes}
 use Rattle.helper_rules.specs.declared.kinds.Helper.{Helper}
 use Rattle.js_mean.specs.Files.{module_among, items_in, owner, running_order}
@@ -25,7 +25,7 @@ use Rattle.js_mean.specs.Proper.{is_among, are_distinct}
 use Rattle.js_mean.specs.States.{Program}
 use Rattle.js_tree.specs.Terms.{Name, Property, Item, const_item, object_item, let_item, expression_item, function_item, class_item, subclass_item, Piece}
 use Rattle.js_tree.specs.declared.items.Binding.{Binding}
-use Rattle.linked_pieces.specs.Order.{AreInOrder}
+use Rattle.module_files.specs.Order.{AreInOrder}
 use Rattle.module_files.proofs.Found.{among_is, same_owner, use_owned}
 use Rattle.module_files.proofs.Reached.{all_reached, line_source, source_file}
 use Rattle.module_files.proofs.Running.{imports_run_first}
@@ -36,16 +36,16 @@ use Rattle.module_rules.proofs.Chosen.{this_is, is_it}
 use Rattle.module_rules.proofs.Lines.{Stands, in_module, stands_somewhere}
 use Rattle.module_rules.specs.Laws.{AreClosed, HasFile, IsDeclared, IsSource, IsUse, Uses, by_piece}
 use Rattle.module_rules.specs.Modules.{file_with, is_owned_in, item_of}
-use Rattle.object_folders.specs.Accepted.{IsAccepted}
-use Rattle.object_folders.specs.Emitted.{EmittedMethod}
-use Rattle.object_folders.specs.Pieces.{AreLinkedPieces}
-use Rattle.object_folders.specs.Reachable.{Reachable}
+use Rattle.closed_pieces.specs.Accepted.{IsAccepted}
+use Rattle.sj_proper.specs.Emitted.{EmittedMethod}
+use Rattle.module_files.specs.Pieces.{AreLinkedPieces}
+use Rattle.closed_pieces.specs.Reachable.{Reachable}
 use Rattle.plan_laws.specs.Laws.{KeepsNamesApart}
-use Rattle.proper_pieces.proofs.Apart.{told_apart}
-use Rattle.proper_pieces.proofs.Linked.{linked_differ, names_distinct}
-use Rattle.proper_pieces.proofs.Parts.{HaveOwnNames}
-use Rattle.proper_pieces.specs.Laws.{AreNamed}
-use Rattle.proper_pieces.specs.Modules.{is_owned}
+use Rattle.module_files.proofs.Apart.{told_apart}
+use Rattle.module_files.proofs.Linked.{linked_differ, names_distinct}
+use Rattle.module_files.proofs.Parts.{HaveOwnNames}
+use Rattle.module_files.specs.ProperPiecesLaws.{AreNamed}
+use Rattle.module_files.specs.Modules.{is_owned}
 use Rattle.sj_graph.specs.References.{IsGraph}
 use Rattle.sj_graph.specs.declared.graphs.Graph.{Graph}
 use Rattle.sj_names.specs.EntryPoints.{AreEntries}

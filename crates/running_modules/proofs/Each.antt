@@ -3,7 +3,7 @@ use Rattle.std.proofs.Common.{◌||◌, ◌++◌, Bool, true, false, List, [], �
 use Rattle.std.proofs.lemmas.List.Elements.{Contains-append_cases}
 use Rattle.helper_rules.specs.Words.{all_kinds}
 use Rattle.js_tree.specs.Terms.{Name, Piece}
-use Rattle.object_folders.specs.PieceRulesPieces.{Parts, pieces, when, constants_piece, class_piece, variable_piece, setter_piece, cell_piece, load_piece, store_piece, cell_pieces, all_statics, test_piece, kind_of_class, cast_piece, constants_of, class_of, module_of, tests_of}
+use Rattle.declared_files.specs.Pieces.{Parts, pieces, when, constants_piece, class_piece, variable_piece, setter_piece, cell_piece, load_piece, store_piece, cell_pieces, all_statics, test_piece, kind_of_class, cast_piece, constants_of, class_of, module_of, tests_of}
 use Rattle.sj_split.proofs.Members.{cons_cases}
 use Rattle.sj_trees.specs.declared.classes.FieldDef.{FieldDef}
 use Rattle.worklist.proofs.Inserted.{nothing_in}

@@ -12,3 +12,7 @@ pub use Rattle.closed_pieces.proofs.Places
 pub use Rattle.closed_pieces.proofs.Uses
 pub use Rattle.declared_files.proofs.Once
 pub use Rattle.declared_files.proofs.Whole
+pub use Rattle.closed_pieces.proofs.Edits
+pub use Rattle.closed_pieces.proofs.Links
+pub use Rattle.closed_pieces.proofs.One
+pub use Rattle.closed_pieces.proofs.Names

@@ -4,11 +4,11 @@ use Rattle.std.specs.Prelude.{◌⊎◌, filter}
 use Rattle.std.proofs.lemmas.Bool.{and_parts, or_cases}
 use Rattle.std.proofs.lemmas.Slice.Eq.{bytes_eq-Decides}
 use Rattle.declared_files.specs.Placed.{is_class}
-use Rattle.file_declarations.specs.Declarations.{with_class, declares, declare}
+use Rattle.declared_files.specs.Declarations.{with_class, declares, declare}
 use Rattle.js_mean.specs.Proper.{is_among, item_names}
 use Rattle.js_tree.specs.Names.{is_same_text}
 use Rattle.js_tree.specs.Terms.{Name, Item, const_item, object_item, let_item, expression_item, function_item, class_item, subclass_item, Piece}
-use Rattle.proper_pieces.specs.Modules.{item_of}
+use Rattle.module_files.specs.Modules.{item_of}
 use Rattle.sj_names.proofs.Same.{impossible}
 use Rattle.sj_split.proofs.Members.{at_first, further}
 

@@ -2,16 +2,16 @@
 use Rattle.std.proofs.Common.{◌≡◌, true, List, Option, Some, None, refl, subst, Contains}
 use Rattle.closed_pieces.proofs.Places.{Stands, own, method, helps, stands}
 use Rattle.closed_pieces.proofs.Parts.{uses_superclass}
-use Rattle.file_declarations.specs.Declared.{is_covered}
+use Rattle.declared_files.specs.FileDeclarationsDeclared.{is_covered}
 use Rattle.helper_rules.specs.Helpers.{Above, helper_piece}
 use Rattle.helper_rules.specs.Words.{bound, class_name}
 use Rattle.helper_rules.specs.declared.kinds.Helper.{Helper}
 use Rattle.helper_rules.specs.declared.kinds.Helper.TheVariants as helpers
 use Rattle.js_tree.specs.Terms.{Name, Item, Piece, subclass_item}
 use Rattle.js_tree.specs.declared.items.Binding.{Binding}
-use Rattle.object_folders.specs.Emitted.{EmittedMethod}
-use Rattle.object_folders.specs.PieceRulesPieces.{Parts, pieces, class_piece}
-use Rattle.object_folders.specs.Pieces.{AreLinkedPieces}
+use Rattle.sj_proper.specs.Emitted.{EmittedMethod}
+use Rattle.declared_files.specs.Pieces.{Parts, pieces, class_piece}
+use Rattle.module_files.specs.Pieces.{AreLinkedPieces}
 use Rattle.sj_names.proofs.Same.{impossible}
 use Rattle.sj_world.specs.Linked.{Linked}
 use Rattle.running_modules.proofs.Each.{each_own}

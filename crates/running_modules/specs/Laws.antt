@@ -2,7 +2,7 @@
 use Rattle.std.specs.Prelude.{◌≡◌, true, List, [], ◌∷◌, ◌++◌, Contains, map, filter}
 use Rattle.declared_files.specs.Declared.{AreConstants}
 use Rattle.declared_files.specs.Placed.{placed, items_until, declare}
-use Rattle.file_declarations.specs.Declared.{is_covered}
+use Rattle.declared_files.specs.FileDeclarationsDeclared.{is_covered}
 use Rattle.file_listings.specs.Listed.{AreBytes}
 use Rattle.helper_rules.specs.declared.kinds.Helper.{Helper}
 use Rattle.ir_mean.specs.Shows.{initializers}
@@ -13,10 +13,10 @@ use Rattle.module_files.specs.Files.{program_of}
 use Rattle.module_names.specs.Names.{Key, Digest}
 use Rattle.module_rules.specs.Laws.{AreClosed, IsSource}
 use Rattle.module_rules.specs.Modules.{file_with, is_owned_in, item_of}
-use Rattle.object_folders.specs.Accepted.{IsAccepted}
-use Rattle.object_folders.specs.Emitted.{EmittedMethod}
-use Rattle.object_folders.specs.Pieces.{AreLinkedPieces}
-use Rattle.object_folders.specs.Reachable.{Reachable}
+use Rattle.closed_pieces.specs.Accepted.{IsAccepted}
+use Rattle.sj_proper.specs.Emitted.{EmittedMethod}
+use Rattle.module_files.specs.Pieces.{AreLinkedPieces}
+use Rattle.closed_pieces.specs.Reachable.{Reachable}
 use Rattle.plan_laws.specs.Laws.{KeepsNamesApart}
 use Rattle.sj_graph.specs.References.{IsGraph}
 use Rattle.sj_graph.specs.declared.graphs.Graph.{Graph}

@@ -6,3 +6,5 @@ pub mod Running
 pub mod Said
 pub mod SameRuns
 pub mod Searched
+pub use Rattle.sj_world.proofs.OnCycles
+pub use Rattle.sj_world.proofs.Searches

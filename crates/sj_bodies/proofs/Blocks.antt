@@ -6,16 +6,16 @@ use Rattle.outcomes.specs.Outcome.{Out, done}
 use Rattle.outcomes.specs.Agreement.{Sim}
 use Rattle.outcomes.proofs.Sequence.{then_do-right}
 use Rattle.outcomes.proofs.Simulation.{sim_done, sim_then}
-use Rattle.ir_mean.specs.States as ir
+use Rattle.sj_plain.specs.States as ir
 use Rattle.js_mean.specs.Meaning as js_meaning
 use Rattle.js_mean.specs.Proper.{is_among, declared}
 use Rattle.js_mean.specs.States as js
 use Rattle.js_tree.specs.Terms as tree
 use Rattle.js_tree.specs.Terms.{Name}
 use Rattle.sj_core.specs.Terms as core
-use Rattle.sj_desugar.specs.Desugar.{target_of}
-use Rattle.sj_desugar.specs.Spill.{Destination, Code}
-use Rattle.sj_emit_expr.specs.Templates.{statement_templates}
+use Rattle.sj_proper.specs.Desugar.{target_of}
+use Rattle.sj_proper.specs.Spill.{Destination, Code}
+use Rattle.sj_proper.specs.Templates.{statement_templates}
 use Rattle.sj_plain.specs.Settings.{Receiving, Setting, run, Lawful, Holding, OfNoVariable, usable}
 use Rattle.sj_trees.specs.declared.types.IrType.{IrType}
 use Rattle.sj_bodies.proofs.Contexts.{Context, Writes, Sound, Ahead, Ready, Keeps, Less, Arrives, let_go, stored, returned, Came, gave, left, threw, stopped}

@@ -1,16 +1,16 @@
 -- What a tree is written in: the locals in scope, the variables that may be written, those that keep what they hold, and the labels.
 use Rattle.std.proofs.Common.{◌≡◌, ℕ, ◌≤◌, Bool, true, false, List, refl, sym, ap, ◌∙◌, subst, if◌then◌else◌}
-use Rattle.ir_mean.specs.States as ir
+use Rattle.sj_plain.specs.States as ir
 use Rattle.js_mean.specs.Meaning as js_meaning
 use Rattle.js_mean.specs.States as js
 use Rattle.sj_bodies.specs.Fine.{Around}
-use Rattle.body_rules.proofs.Equal.{differs, equals}
+use Rattle.sj_proper.proofs.Equal.{differs, equals}
 use Rattle.sj_core.specs.Terms as core
-use Rattle.sj_desugar.specs.Desugar.{Targets, target_of}
-use Rattle.sj_desugar.specs.Spill.{Destination, discard, to_variable, to_result}
+use Rattle.sj_proper.specs.Desugar.{Targets, target_of}
+use Rattle.sj_proper.specs.Spill.{Destination, discard, to_variable, to_result}
 use Rattle.sj_trees.specs.declared.types.IrType.{IrType}
 use Rattle.sj_trees.specs.declared.types.IrType.TheVariants.{Any}
-use Rattle.body_rules.specs.Locals.{Scope}
+use Rattle.sj_proper.specs.Locals.{Scope}
 use Rattle.sj_plain.specs.Settings.{Place, Code, Receiving, Setting, SameState, Inside, Lawful, Holding, Sees}
 use Rattle.sj_plain.proofs.Plain.{sees-lift}
 use Rattle.sj_plain.proofs.Worlds.{World, Grows, SameValue}

@@ -6,24 +6,24 @@ use Rattle.outcomes.specs.Outcome.{Out, done, then_do}
 use Rattle.outcomes.specs.Agreement.{Sim}
 use Rattle.outcomes.proofs.Sequence.{then_do-right}
 use Rattle.outcomes.proofs.Simulation.{sim_done, sim_wrong, sim_then, sim_weaken, sim_says}
-use Rattle.ir_mean.specs.Meaning as ir_meaning
-use Rattle.ir_mean.specs.States as ir
+use Rattle.sj_plain.specs.Meaning as ir_meaning
+use Rattle.sj_plain.specs.States as ir
 use Rattle.js_mean.specs.Meaning as js_meaning
 use Rattle.js_mean.specs.States as js
 use Rattle.sj_core.specs.Terms as core
-use Rattle.sj_desugar.specs.Coercions.{is_char, coerced}
-use Rattle.sj_desugar.specs.Desugar.{target_of, first_of, finish, operand, branches}
-use Rattle.sj_desugar.specs.Spill.{Destination, discard, to_variable, to_result, Code, one, put_first, then_use, spill}
-use Rattle.sj_emit_expr.specs.Templates.{statement_templates}
+use Rattle.sj_proper.specs.Coercions.{is_char, coerced}
+use Rattle.sj_proper.specs.Desugar.{target_of, first_of, finish, operand, branches}
+use Rattle.sj_proper.specs.Spill.{Destination, discard, to_variable, to_result, Code, one, put_first, then_use, spill}
+use Rattle.sj_proper.specs.Templates.{statement_templates}
 use Rattle.sj_trees.specs.declared.positions.Position.{Position}
 use Rattle.sj_trees.specs.declared.types.IrType.{IrType}
-use Rattle.body_rules.specs.Locals.{Scope, with_local}
+use Rattle.sj_proper.specs.Locals.{Scope, with_local}
 use Rattle.sj_trees.specs.declared.types.IrType.TheVariants.{NoType}
 use Rattle.sj_plain.specs.Settings.{Receiving, Setting, shown, run, SameState, Inside, Valued, valued, Lawful, Holding, holding, Sees, usable}
 use Rattle.sj_plain.proofs.Boxes.{StandsFor, stood, stood-fits, operand_stood, operand_coerced}
 use Rattle.sj_bodies.proofs.Blocks.{Outside, Undeclared, block_alike}
 use Rattle.sj_bodies.proofs.Contexts.{Context, Writes, Sound, Ahead, IsOpen, Ready, ready-lift, Keeps, Goes, Less, keeps-less, less-trans, keeps-fewer, keeps-refl, keeps-trans, Arrives, let_go, stored, Came, gave, left, threw, stopped, started-here, started-other, started-inside, started-ready, started-keeps}
-use Rattle.body_rules.proofs.Equal.{equals, is-equal}
+use Rattle.sj_proper.proofs.Equal.{equals, is-equal}
 use Rattle.sj_bodies.specs.Fine.{FitsIn}
 use Rattle.sj_names.proofs.Same.{impossible}
 use Rattle.sj_plain.proofs.Orders.{OperandAlike, OperandsAlike, no_operands, more_operands, in_order_alike, ActsAlike}

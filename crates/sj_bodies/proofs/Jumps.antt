@@ -6,20 +6,20 @@ use Rattle.outcomes.specs.Outcome.{Out, done, then_do}
 use Rattle.outcomes.specs.Agreement.{Sim}
 use Rattle.outcomes.proofs.Sequence.{then_do-right}
 use Rattle.outcomes.proofs.Simulation.{sim_done, sim_then}
-use Rattle.ir_mean.specs.Meaning as ir_meaning
-use Rattle.ir_mean.specs.States as ir
+use Rattle.sj_plain.specs.Meaning as ir_meaning
+use Rattle.sj_plain.specs.States as ir
 use Rattle.js_mean.specs.Meaning as js_meaning
 use Rattle.js_mean.specs.States as js
 use Rattle.sj_core.specs.Terms as core
-use Rattle.sj_desugar.specs.Desugar.{target_of, labeled_code, leaving_code}
-use Rattle.sj_desugar.specs.Spill.{Destination, discard, to_variable, to_result, Code}
-use Rattle.sj_emit_expr.specs.Templates.{statement_templates}
+use Rattle.sj_proper.specs.Desugar.{target_of, labeled_code, leaving_code}
+use Rattle.sj_proper.specs.Spill.{Destination, discard, to_variable, to_result, Code}
+use Rattle.sj_proper.specs.Templates.{statement_templates}
 use Rattle.sj_trees.specs.declared.positions.Position.{Position}
 use Rattle.sj_trees.specs.declared.types.IrType.{IrType}
 use Rattle.sj_plain.specs.Settings.{Setting, run, SameState, Lawful, usable}
 use Rattle.sj_bodies.proofs.Blocks.{Undeclared, block_alike}
 use Rattle.sj_bodies.proofs.Contexts.{Context, Writes, Sound, Ready, Keeps, Less, Arrives, let_go, stored, returned, Came, gave, left, threw, stopped}
-use Rattle.body_rules.proofs.Equal.{differs, equals, is-equal}
+use Rattle.sj_proper.proofs.Equal.{differs, equals, is-equal}
 use Rattle.sj_names.proofs.Same.{impossible}
 use Rattle.sj_bodies.proofs.Statements.{run-followed, leaves_on, ends-one, Ends}
 use Rattle.sj_plain.proofs.Worlds.{World, SameValue}

@@ -11,3 +11,23 @@ pub mod Statements
 pub mod Trees
 pub mod Turns
 pub mod ObjectTrees
+pub use Rattle.sj_proper.proofs.Equal
+pub use Rattle.sj_proper.proofs.Fitting
+pub use Rattle.sj_proper.proofs.InWorld
+pub use Rattle.sj_proper.proofs.Lists
+pub use Rattle.sj_proper.proofs.Mutable
+pub use Rattle.sj_proper.proofs.RulesGive
+pub use Rattle.sj_proper.proofs.BuiltFormsStatics as Statics
+pub use Rattle.sj_plain.proofs.Boxes
+pub use Rattle.sj_plain.proofs.Divisions
+pub use Rattle.sj_plain.proofs.Heaps
+pub use Rattle.sj_plain.proofs.Objects
+pub use Rattle.sj_plain.proofs.Operators
+pub use Rattle.sj_plain.proofs.Orders
+pub use Rattle.sj_plain.proofs.Shifts
+pub use Rattle.sj_plain.proofs.Standing
+pub use Rattle.sj_plain.proofs.Templates
+pub use Rattle.sj_plain.proofs.Tests
+pub use Rattle.sj_plain.proofs.Worlds
+pub use Rattle.sj_proper.proofs.Declared
+pub use Rattle.sj_proper.proofs.Names

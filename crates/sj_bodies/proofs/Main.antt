@@ -5,24 +5,24 @@ use mathlib.Core.Path.{fun_ext}
 use Rattle.outcomes.specs.Outcome.{done}
 use Rattle.outcomes.specs.Agreement.{Sim}
 use Rattle.outcomes.proofs.Simulation.{sim_wrong, sim_then, sim_weaken}
-use Rattle.ir_mean.specs.Meaning as ir_meaning
-use Rattle.ir_mean.specs.States as ir
+use Rattle.sj_plain.specs.Meaning as ir_meaning
+use Rattle.sj_plain.specs.States as ir
 use Rattle.js_mean.specs.States as js
 use Rattle.sj_core.specs.Terms as core
 use Rattle.sj_core.specs.Views.{expressions_of}
-use Rattle.sj_desugar.specs.Coercions.{is_char, coerced, coerced_arguments, coerced_receiver}
-use Rattle.sj_desugar.specs.Desugar.{target_of, member, types_of, into, block, receiver, operands, first_of, second_of, rest_of, finish, branches, cases, switch_code}
-use Rattle.sj_desugar.specs.Spill.{Destination, discard, to_variable, to_result, Code, one, spill, then_use}
+use Rattle.sj_proper.specs.Coercions.{is_char, coerced, coerced_arguments, coerced_receiver}
+use Rattle.sj_proper.specs.Desugar.{target_of, member, types_of, into, block, receiver, operands, first_of, second_of, rest_of, finish, branches, cases, switch_code}
+use Rattle.sj_proper.specs.Spill.{Destination, discard, to_variable, to_result, Code, one, spill, then_use}
 use Rattle.sj_trees.specs.Term.{Term, Terms, no_terms, more_terms, Cases, no_cases, more_cases, var_def, skip, block_of, labeled, assign, return_to, if_then, while_loop, do_while, throw, match_on, new_object, select, select_static, apply, apply_statically, this_ref, apply_static, unary_op, binary_op, is_instance_of, as_instance_of, undefined_literal, null_literal, boolean_literal, char_literal, byte_literal, short_literal, int_literal, long_literal, string_literal, var_ref, log_line}
 use Rattle.sj_trees.specs.TypeOf.{type_of_term, type_of_last, unary_result, binary_result}
 use Rattle.sj_trees.specs.declared.operators.BinaryOp.{BinaryOp}
 use Rattle.sj_trees.specs.declared.operators.UnaryOp.{UnaryOp}
 use Rattle.sj_trees.specs.declared.positions.Position.{Position}
 use Rattle.sj_trees.specs.declared.types.IrType.{IrType}
-use Rattle.typing_rules.specs.Rules.{left_operand, unary_operand}
-use Rattle.body_rules.specs.Operators.{Operates, DividesBy}
-use Rattle.body_rules.specs.Locals.{Scope, Mutable, with_local, parameters_of, HasValue, Own, OwnAll, OwnCases}
-use Rattle.sj_desugar.specs.Texts.{operand_of}
+use Rattle.sj_proper.specs.Rules.{left_operand, unary_operand}
+use Rattle.sj_proper.specs.Operators.{Operates, DividesBy}
+use Rattle.sj_proper.specs.Locals.{Scope, Mutable, with_local, parameters_of, HasValue, Own, OwnAll, OwnCases}
+use Rattle.sj_proper.specs.Texts.{operand_of}
 use Rattle.sj_plain.specs.Settings.{Setting, run, SameState, Lawful, usable}
 use Rattle.sj_bodies.proofs.Blocks.{Outside, undeclared}
 use Rattle.sj_bodies.proofs.Contexts.{around, Context, Writes, Sound, Ahead, Ready, Keeps, keeps-refl, Came}
@@ -30,29 +30,29 @@ use Rattle.sj_bodies.specs.Fine.{IsDiscard, is_discard, FitsIn, FineOperand, Ami
 use Rattle.sj_plain.proofs.Boxes.{StandsFor, stood, stood-fits, operand_stood, stands-for, stand-for-all}
 use Rattle.sj_plain.proofs.Tests.{test_alike, cast_alike}
 use Rattle.sj_plain.proofs.Received.{may_be_checked, value_or_nothing, Received, received, Constructed, constructed}
-use Rattle.built_forms.proofs.Statics.{read_static, set_static}
-use Rattle.built_forms.proofs.Targets.{target_goal}
-use Rattle.built_forms.specs.Boxes.{Goal, goal_of, goals_of, is_boxed, any_is_boxed, operands_are_boxed, is_boxed_at, boxes_as_text, boxes, last_boxes, operand_boxes, operands_box, cases_box}
-use Rattle.built_forms.specs.Built.{can_box, may_make, can_cast}
+use Rattle.sj_proper.proofs.BuiltFormsStatics.{read_static, set_static}
+use Rattle.sj_proper.proofs.Targets.{target_goal}
+use Rattle.sj_proper.specs.Boxes.{Goal, goal_of, goals_of, is_boxed, any_is_boxed, operands_are_boxed, is_boxed_at, boxes_as_text, boxes, last_boxes, operand_boxes, operands_box, cases_box}
+use Rattle.sj_proper.specs.Built.{can_box, may_make, can_cast}
 use Rattle.std.proofs.lemmas.Bool.{and_parts}
 use Rattle.sure_receivers.specs.Sure.{is_sure}
 use Rattle.sj_names.specs.declared.method_names.MethodName.{MethodName}
 use Rattle.sj_names.specs.declared.method_names.Namespace.{Namespace}
 use Rattle.sj_names.specs.declared.method_names.Namespace.TheVariants.{Public, Private, Constructor}
-use Rattle.body_rules.specs.Typing.{Scene, in_label, Typed, TypedBlock, TypedAll, TypedCases, may_check}
-use Rattle.body_rules.proofs.Direct.{Direct, direct}
-use Rattle.ir_mean.proofs.HijackedCalls.{hijacked_call}
-use Rattle.body_rules.proofs.Mutable.{of_first, of_second, of_definition, front, front_cases}
+use Rattle.sj_proper.specs.Typing.{Scene, in_label, Typed, TypedBlock, TypedAll, TypedCases, may_check}
+use Rattle.sj_proper.proofs.Direct.{Direct, direct}
+use Rattle.sj_plain.proofs.HijackedCalls.{hijacked_call}
+use Rattle.sj_proper.proofs.Mutable.{of_first, of_second, of_definition, front, front_cases}
 use Rattle.sj_plain.specs.Conditions.{IsNoConstruction, Plain}
-use Rattle.sj_desugar.specs.Plain.{is_plain, mutable_in, mutable_in_all, mutable_in_cases}
+use Rattle.sj_proper.specs.Plain.{is_plain, mutable_in, mutable_in_all, mutable_in_cases}
 use Rattle.sj_bodies.proofs.Parts.{plain_at, tree_in, operand_in, operand_by, amid-behind, amid-inside, one_mutable, other_mutable, given_up, fits, fits-value, yields, asks-left, asks-right}
-use Rattle.body_rules.proofs.Fitting.{fits-unary, fits-dividend, operates, unary-value, binary-value, cast-value, unary-operand-value, left-operand-value}
-use Rattle.body_rules.proofs.Locals.{there, typed-there, local-value}
-use Rattle.body_rules.proofs.RulesGive.{Takes, FitsType, ArgumentsFit, class_has_value, each_made, fits_there, arguments_there, operation, result_is}
+use Rattle.sj_proper.proofs.Fitting.{fits-unary, fits-dividend, operates, unary-value, binary-value, cast-value, unary-operand-value, left-operand-value}
+use Rattle.sj_proper.proofs.Locals.{there, typed-there, local-value}
+use Rattle.sj_proper.proofs.RulesGive.{Takes, FitsType, ArgumentsFit, class_has_value, each_made, fits_there, arguments_there, operation, result_is}
 use Rattle.sj_names.specs.declared.references.TypeRef.{TypeRef}
 use Rattle.sj_trees.specs.Types.{class_type, reference_type}
 use Rattle.sj_trees.specs.declared.types.IrType.TheVariants.{Any, NoType, Undefined, Null, Boolean, Char, Byte, Short, Int, Long, String}
-use Rattle.sj_world.specs.Subtypes.{IsSub}
+use Rattle.sj_plain.specs.Subtypes.{IsSub}
 use Rattle.sj_bodies.proofs.Forms.{of_operands, one_final, two_final, silent, assign_final, log_final, if_final, came-narrow, rebased, ahead-later, OneFinal, TwoFinal}
 use Rattle.sj_bodies.proofs.Jumps.{labelling, sound-labelling, labeled_alike, return_alike}
 use Rattle.sj_bodies.proofs.Matches.{settled, sound-settled, ahead-settled, outside-settled, undeclared-settled, undeclared-case, CasesAlike, no_case, without_keys, with_keys, match_final}

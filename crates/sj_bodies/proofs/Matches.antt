@@ -8,17 +8,17 @@ use Rattle.outcomes.specs.Outcome.{Out, done, then_do}
 use Rattle.outcomes.specs.Agreement.{Sim}
 use Rattle.outcomes.proofs.Sequence.{then_do-right, then_do-associative}
 use Rattle.outcomes.proofs.Simulation.{sim_done, sim_wrong, sim_then}
-use Rattle.ir_mean.specs.Meaning as ir_meaning
-use Rattle.ir_mean.specs.States as ir
+use Rattle.sj_plain.specs.Meaning as ir_meaning
+use Rattle.sj_plain.specs.States as ir
 use Rattle.js_mean.specs.Meaning as js_meaning
 use Rattle.js_mean.specs.States as js
 use Rattle.js_tree.specs.Terms as tree
 use Rattle.sj_core.specs.Terms as core
 use Rattle.sj_core.specs.Terms.{followed}
-use Rattle.sj_desugar.specs.Coercions.{is_char}
-use Rattle.sj_desugar.specs.Desugar.{target_of, first_of, Branches, switch_code}
-use Rattle.sj_desugar.specs.Spill.{Destination, discard, to_variable, to_result, Code}
-use Rattle.sj_emit_expr.specs.Templates.{statement_templates, case_templates}
+use Rattle.sj_proper.specs.Coercions.{is_char}
+use Rattle.sj_proper.specs.Desugar.{target_of, first_of, Branches, switch_code}
+use Rattle.sj_proper.specs.Spill.{Destination, discard, to_variable, to_result, Code}
+use Rattle.sj_proper.specs.Templates.{statement_templates, case_templates}
 use Rattle.sj_trees.specs.declared.positions.Position.{Position}
 use Rattle.sj_plain.specs.Settings.{Setting, shown, run, SameState, Lawful, usable}
 use Rattle.sj_bodies.proofs.Blocks.{Outside, Undeclared, scoped_alike}

@@ -5,25 +5,25 @@ use Rattle.outcomes.specs.Agreement.{Sim}
 use Rattle.outcomes.proofs.Sequence.{then_do-right}
 use Rattle.outcomes.proofs.Simulation.{sim_done, sim_wrong, sim_then}
 use Rattle.sj_plain.proofs.Runs.{Ran, ran, ran_out, constructor_runs}
-use Rattle.ir_mean.specs.Meaning as ir_meaning
-use Rattle.ir_mean.specs.States as ir
-use Rattle.ir_mean.specs.World as ir_world
+use Rattle.sj_plain.specs.Meaning as ir_meaning
+use Rattle.sj_plain.specs.States as ir
+use Rattle.sj_plain.specs.World as ir_world
 use Rattle.js_mean.specs.Meaning as js_meaning
 use Rattle.js_mean.specs.Objects as js_objects
 use Rattle.js_mean.specs.States as js
 use Rattle.sj_core.specs.declared.callees.Callee.TheVariants as callees
 use Rattle.sj_core.specs.Terms as core
 use Rattle.sj_core.specs.Views.{expressions_of}
-use Rattle.sj_desugar.specs.Coercions.{coerced, coerced_arguments, coerced_receiver, is_char}
-use Rattle.sj_desugar.specs.Desugar.{Targets, into, operand, receiver, received, expression_of, first_of, second_of, rest_of, finish, member, types_of, position_of, has_no_value}
-use Rattle.sj_desugar.specs.Plain.{is_plain}
-use Rattle.sj_desugar.specs.Spill.{Destination, discard, to_variable, Code, one, Operand, spill, spill_case, then_use}
-use Rattle.sj_emit_expr.specs.Templates.{called_member, check_name, property_name}
+use Rattle.sj_proper.specs.Coercions.{coerced, coerced_arguments, coerced_receiver, is_char}
+use Rattle.sj_proper.specs.Desugar.{Targets, into, operand, receiver, received, expression_of, first_of, second_of, rest_of, finish, member, types_of, position_of, has_no_value}
+use Rattle.sj_proper.specs.Plain.{is_plain}
+use Rattle.sj_proper.specs.Spill.{Destination, discard, to_variable, Code, one, Operand, spill, spill_case, then_use}
+use Rattle.sj_proper.specs.Templates.{called_member, check_name, property_name}
 use Rattle.sj_names.proofs.Same.{impossible}
 use Rattle.sj_names.specs.declared.method_names.MethodName.{MethodName}
 use Rattle.sj_names.specs.declared.method_names.Namespace.{Namespace}
 use Rattle.sj_names.specs.declared.method_names.Namespace.TheVariants.{Constructor}
-use Rattle.sj_world.specs.Known.{is_hijacked}
+use Rattle.sj_plain.specs.Known.{is_hijacked}
 use Rattle.sj_trees.specs.Term.{Term, Terms, assign, apply_statically, new_object, select, throw, this_ref}
 use Rattle.sj_trees.specs.TypeOf.{type_of_term}
 use Rattle.sj_trees.specs.Types.{class_type}
@@ -31,21 +31,21 @@ use Rattle.sj_trees.specs.declared.positions.Position.{Position}
 use Rattle.sj_trees.specs.declared.types.IrType.{IrType}
 use Rattle.sj_trees.specs.declared.types.IrType.TheVariants.{Any, Nothing, NoType}
 use Rattle.sure_receivers.specs.Sure.{is_sure}
-use Rattle.body_rules.specs.Standing.{Fits, types_referred, call_type}
+use Rattle.sj_proper.specs.Standing.{Fits, types_referred, call_type}
 use Rattle.sj_plain.specs.Settings.{Setting, shown, SameState, Valued, Lawful, Inside, Receiving, no_receiver, on_receiver, Sees, usable}
 use Rattle.sj_plain.proofs.Objects.{null_act, select_alike, setter_text, static_set_alike, field_written, new_alike, received_call_alike, checked_alike}
 use Rattle.sj_plain.proofs.Told.{tells}
 use Rattle.sj_plain.proofs.Orders.{OperandAlike, OperandsAlike, text_of, no_operands, more_operands}
-use Rattle.body_rules.proofs.Fitting.{stands-same}
-use Rattle.body_rules.proofs.Standing.{fits-same}
-use Rattle.built_forms.specs.Built.{can_box}
+use Rattle.sj_proper.proofs.Fitting.{stands-same}
+use Rattle.sj_proper.proofs.Standing.{fits-same}
+use Rattle.sj_proper.specs.Built.{can_box}
 use Rattle.sj_plain.proofs.Boxes.{StandsFor, StandForAll, stood, stood-fits, stood_alike, stood_told, all_stood, all-stood-fit, operand_coerced, operands_coerced, receiver-coerced}
 use Rattle.sj_plain.proofs.Worlds.{World, Grows, grows-refl, grows-trans, SameValue, Stands, same_reference, value-lift, value-fits}
 use Rattle.sj_bodies.specs.Fine.{FitsIn, FineOperand}
 use Rattle.sj_plain.specs.Conditions.{Plain}
-use Rattle.body_rules.specs.Locals.{Scope}
+use Rattle.sj_proper.specs.Locals.{Scope}
 use Rattle.sj_bodies.proofs.Blocks.{Outside}
-use Rattle.body_rules.specs.Locals.{Own}
+use Rattle.sj_proper.specs.Locals.{Own}
 use Rattle.sj_plain.proofs.Plain.{plain_alike, as_operand}
 use Rattle.sj_bodies.proofs.Contexts.{Context, Writes, Sound, Ahead, Ready, ready-lift, Keeps, keeps-refl, keeps-less, let_go, Came, gave, threw}
 use Rattle.sj_bodies.proofs.Forms.{sound-writing, ahead-writing, outside-writing, of_operands, one_final, act_alike, quiet_alike, OneFinal}

@@ -3,40 +3,40 @@ use Rattle.std.proofs.Common.{◌≡◌, ℕ, Bool, true, false, List, ◌∷◌
 use Rattle.std.specs.Prelude.{nat_eq, ◌||◌}
 use Rattle.std.specs.Cmp.Lexicographic.{pointwise}
 use Rattle.sj_core.specs.Terms as core
-use Rattle.sj_desugar.specs.Desugar.{Targets, target_of}
-use Rattle.sj_desugar.specs.Plain.{is_plain, is_fixed, mutable_in}
-use Rattle.sj_desugar.specs.Spill.{Destination, discard, to_variable, to_result}
+use Rattle.sj_proper.specs.Desugar.{Targets, target_of}
+use Rattle.sj_proper.specs.Plain.{is_plain, is_fixed, mutable_in}
+use Rattle.sj_proper.specs.Spill.{Destination, discard, to_variable, to_result}
 use Rattle.sj_trees.specs.Term.{Term, var_def, undefined_literal, null_literal, boolean_literal, char_literal, byte_literal, short_literal, int_literal, long_literal, string_literal, var_ref, this_ref}
 use Rattle.sj_trees.specs.TypeOf.{type_of_term}
 use Rattle.sj_trees.specs.declared.operators.BinaryOp.{BinaryOp}
 use Rattle.sj_trees.specs.declared.positions.Position.{Position}
 use Rattle.sj_trees.specs.declared.types.IrType.{IrType}
 use Rattle.sj_trees.specs.declared.types.IrType.TheVariants.{NoType}
-use Rattle.typing_rules.specs.Rules.{left_operand, right_operand, IsText, Yields}
-use Rattle.typing_rules.specs.Rules as rules
+use Rattle.sj_proper.specs.Rules.{left_operand, right_operand, IsText, Yields}
+use Rattle.sj_proper.specs.Rules as rules
 use Rattle.sj_plain.specs.Conditions.{IsNoConstruction, Plain}
 use Rattle.sj_plain.specs.Settings.{Code}
 use Rattle.sj_plain.proofs.Boxes.{takes-below}
 use Rattle.sj_plain.proofs.Received.{value_none, not_none, value_below, value_apart}
-use Rattle.built_forms.specs.Boxes.{is_boxed, brought_to, goal_of, goals_of, is_boxed_at, boxes_as_text, boxes, operand_boxes}
-use Rattle.built_forms.specs.Built.{Usable, may_make}
-use Rattle.body_rules.specs.Locals.{Scope, Mutable, with_local, HasValue}
-use Rattle.body_rules.specs.Standing.{MayStand}
-use Rattle.body_rules.proofs.Fitting.{value-not, not_no_type, left-operand-value, right-operand-value}
+use Rattle.sj_proper.specs.Boxes.{is_boxed, brought_to, goal_of, goals_of, is_boxed_at, boxes_as_text, boxes, operand_boxes}
+use Rattle.sj_proper.specs.Built.{Usable, may_make}
+use Rattle.sj_proper.specs.Locals.{Scope, Mutable, with_local, HasValue}
+use Rattle.sj_proper.specs.Standing.{MayStand}
+use Rattle.sj_proper.proofs.Fitting.{value-not, not_no_type, left-operand-value, right-operand-value}
 use Rattle.sj_proper.specs.Once.{Once}
-use Rattle.body_rules.proofs.Locals.{values-behind, mutable-behind}
+use Rattle.sj_proper.proofs.Locals.{values-behind, mutable-behind}
 use Rattle.sj_bodies.specs.Fine.{Around, with_label, IsDiscard, is_discard, FitsIn, FineOperand, Fine, Amid, Asks}
 use Rattle.sj_names.proofs.Same.{impossible}
-use Rattle.body_rules.specs.Subtyping.{IsSubtyping}
-use Rattle.body_rules.specs.Typing.{Scene, IsResult, in_label, Typed}
-use Rattle.body_rules.proofs.RulesGive.{Takes, its_types, texts, of_division, of_identity, each_made}
-use Rattle.sj_world.specs.Known.{Classes}
-use Rattle.sj_world.specs.Subtypes.{IsSub}
-use Rattle.typing_rules.specs.declared.labels.Label.{Label}
-use Rattle.typing_rules.specs.Labels.{type_of_label}
-use Rattle.typing_rules.specs.Nodes.{inside}
-use Rattle.built_forms.proofs.Around.{type_inside}
-use Rattle.body_rules.proofs.Mutable.{of_first, of_second, of_value, front}
+use Rattle.sj_proper.specs.Subtyping.{IsSubtyping}
+use Rattle.sj_proper.specs.Typing.{Scene, IsResult, in_label, Typed}
+use Rattle.sj_proper.proofs.RulesGive.{Takes, its_types, texts, of_division, of_identity, each_made}
+use Rattle.sj_plain.specs.Known.{Classes}
+use Rattle.sj_plain.specs.Subtypes.{IsSub}
+use Rattle.sj_proper.specs.Label.{Label}
+use Rattle.sj_proper.specs.Labels.{type_of_label}
+use Rattle.sj_proper.specs.Nodes.{inside}
+use Rattle.sj_proper.proofs.Around.{type_inside}
+use Rattle.sj_proper.proofs.Mutable.{of_first, of_second, of_value, front}
 
 -- what isn't plain isn't fixed
 pub not_fixed : (is_mutable : List ℕ → Bool) (t : Term) → is_plain t ≡ false → is_fixed is_mutable t ≡ false

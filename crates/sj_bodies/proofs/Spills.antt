@@ -6,21 +6,21 @@ use Rattle.outcomes.specs.Outcome.{Out, done, wrong, then_do}
 use Rattle.outcomes.specs.Agreement.{Sim}
 use Rattle.outcomes.proofs.Sequence.{then_do-associative}
 use Rattle.outcomes.proofs.Simulation.{sim_done, sim_wrong, sim_then}
-use Rattle.ir_mean.specs.Meaning as ir_meaning
-use Rattle.ir_mean.specs.States as ir
+use Rattle.sj_plain.specs.Meaning as ir_meaning
+use Rattle.sj_plain.specs.States as ir
 use Rattle.js_mean.specs.Files.{owner}
 use Rattle.js_mean.specs.Meaning as js_meaning
 use Rattle.js_mean.specs.States as js
 use Rattle.sj_core.specs.Terms as core
 use Rattle.sj_core.specs.Terms.{followed}
-use Rattle.sj_desugar.specs.Coercions.{is_char}
-use Rattle.sj_desugar.specs.Desugar.{into, operands, expression_of, target_of}
-use Rattle.sj_desugar.specs.Plain.{is_fixed}
-use Rattle.sj_desugar.specs.Spill.{Destination, to_variable, Code, Operand, all_plain, texts, spill, spill_case, then_use}
+use Rattle.sj_proper.specs.Coercions.{is_char}
+use Rattle.sj_proper.specs.Desugar.{into, operands, expression_of, target_of}
+use Rattle.sj_proper.specs.Plain.{is_fixed}
+use Rattle.sj_proper.specs.Spill.{Destination, to_variable, Code, Operand, all_plain, texts, spill, spill_case, then_use}
 use Rattle.sj_trees.specs.Term.{Term, undefined_literal, null_literal, boolean_literal, char_literal, byte_literal, short_literal, int_literal, long_literal, string_literal, var_ref, this_ref}
 use Rattle.sj_trees.specs.declared.positions.Position.{Position}
 use Rattle.sj_trees.specs.declared.types.IrType.{IrType}
-use Rattle.body_rules.proofs.Locals.{there}
+use Rattle.sj_proper.proofs.Locals.{there}
 use Rattle.sj_trees.specs.Types.{class_type}
 use Rattle.sj_plain.specs.Conditions.{Plain}
 use Rattle.sj_plain.specs.Settings.{Receiving, no_receiver, on_receiver, Setting, shown, run, SameState, Valued, valued, thrown, Lawful, Holding, holding, Sees, usable}

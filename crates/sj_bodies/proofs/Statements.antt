@@ -7,18 +7,18 @@ use Rattle.outcomes.specs.Outcome.{Out, done, then_do}
 use Rattle.outcomes.specs.Agreement.{Sim}
 use Rattle.outcomes.proofs.Sequence.{then_do-right, then_do-associative}
 use Rattle.outcomes.proofs.Simulation.{sim_done, sim_then}
-use Rattle.ir_mean.specs.States as ir
+use Rattle.sj_plain.specs.States as ir
 use Rattle.js_mean.specs.Meaning as js_meaning
 use Rattle.js_mean.specs.States as js
 use Rattle.sj_core.specs.Terms as core
 use Rattle.sj_core.specs.Terms.{followed}
-use Rattle.sj_desugar.specs.Coercions.{coerced}
-use Rattle.sj_desugar.specs.Desugar.{finish, target_of}
-use Rattle.sj_desugar.specs.Spill.{Destination, discard, to_variable, to_result, Code, one}
-use Rattle.sj_emit_expr.specs.Templates.{statement_template}
+use Rattle.sj_proper.specs.Coercions.{coerced}
+use Rattle.sj_proper.specs.Desugar.{finish, target_of}
+use Rattle.sj_proper.specs.Spill.{Destination, discard, to_variable, to_result, Code, one}
+use Rattle.sj_proper.specs.Templates.{statement_template}
 use Rattle.sj_trees.specs.declared.positions.Position.{Position}
 use Rattle.sj_trees.specs.declared.types.IrType.{IrType}
-use Rattle.body_rules.specs.Locals.{Scope}
+use Rattle.sj_proper.specs.Locals.{Scope}
 use Rattle.sj_bodies.specs.Fine.{FitsIn}
 use Rattle.sj_trees.specs.declared.types.IrType.TheVariants.{Any}
 use Rattle.sj_plain.specs.Settings.{Receiving, Setting, shown, run, SameState, Valued, valued, thrown, Lawful, Holding, Sees, usable}

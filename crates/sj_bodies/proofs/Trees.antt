@@ -5,17 +5,17 @@ use mathlib.Core.Path.{fun_ext}
 use Rattle.outcomes.specs.Outcome.{Out, done, then_do}
 use Rattle.outcomes.specs.Agreement.{Sim}
 use Rattle.outcomes.proofs.Sequence.{then_do-right}
-use Rattle.ir_mean.specs.Meaning as ir_meaning
-use Rattle.ir_mean.specs.States as ir
-use Rattle.ir_mean.specs.World as ir_world
+use Rattle.sj_plain.specs.Meaning as ir_meaning
+use Rattle.sj_plain.specs.States as ir
+use Rattle.sj_plain.specs.World as ir_world
 use Rattle.js_mean.specs.States as js
 use Rattle.sj_core.specs.Terms as core
 use Rattle.sj_core.specs.Views.{expressions_of}
-use Rattle.sj_desugar.specs.Coercions.{coerced_arguments}
-use Rattle.sj_desugar.specs.Desugar.{Targets, into, operands, operand, expression_of, first_of, second_of, finish, member, types_of, cases}
-use Rattle.sj_desugar.specs.Plain.{is_plain, is_fixed}
-use Rattle.sj_desugar.specs.Spill.{Destination, discard, to_variable, Code, Operand, all_plain, spill, spill_case, then_use}
-use Rattle.sj_emit_expr.specs.Templates.{statement_templates}
+use Rattle.sj_proper.specs.Coercions.{coerced_arguments}
+use Rattle.sj_proper.specs.Desugar.{Targets, into, operands, operand, expression_of, first_of, second_of, finish, member, types_of, cases}
+use Rattle.sj_proper.specs.Plain.{is_plain, is_fixed}
+use Rattle.sj_proper.specs.Spill.{Destination, discard, to_variable, Code, Operand, all_plain, spill, spill_case, then_use}
+use Rattle.sj_proper.specs.Templates.{statement_templates}
 use Rattle.sj_names.specs.declared.method_names.MethodName.{MethodName}
 use Rattle.sj_names.specs.declared.method_names.Namespace.{Namespace}
 use Rattle.sj_trees.specs.Term.{Term, Terms, no_terms, more_terms, var_def, apply_static, binary_op, int_literal, long_literal, Cases}
@@ -23,17 +23,17 @@ use Rattle.sj_trees.specs.TypeOf.{type_of_term, binary_result}
 use Rattle.sj_trees.specs.declared.operators.BinaryOp.{BinaryOp}
 use Rattle.sj_trees.specs.declared.positions.Position.{Position}
 use Rattle.sj_trees.specs.declared.types.IrType.{IrType}
-use Rattle.typing_rules.specs.Rules.{left_operand}
-use Rattle.body_rules.specs.Operators.{DividesBy, by_int, by_long}
+use Rattle.sj_proper.specs.Rules.{left_operand}
+use Rattle.sj_proper.specs.Operators.{DividesBy, by_int, by_long}
 use Rattle.sj_plain.specs.Conditions.{Plain}
-use Rattle.body_rules.specs.Standing.{Fits, types_referred, call_type}
-use Rattle.sj_desugar.specs.Texts.{operand_of}
+use Rattle.sj_proper.specs.Standing.{Fits, types_referred, call_type}
+use Rattle.sj_proper.specs.Texts.{operand_of}
 use Rattle.sj_plain.specs.Settings.{Setting, shown, SameState, Valued, Lawful, Holding, holding, usable}
 use Rattle.sj_bodies.proofs.Blocks.{Outside}
 use Rattle.sj_plain.proofs.Boxes.{StandForAll, stands-for, operands_coerced, all_stood, all-stood-fit}
 use Rattle.sj_plain.proofs.Divisions.{divisor_of, division_act, division_alike, dividend_alone}
 use Rattle.sj_bodies.proofs.Contexts.{around, Context, Writes, Sound, Ahead, Ready, Came}
-use Rattle.body_rules.specs.Locals.{Own, with_local}
+use Rattle.sj_proper.specs.Locals.{Own, with_local}
 use Rattle.sj_bodies.specs.Fine.{FitsIn, FineOperand, Fine}
 use Rattle.sj_bodies.proofs.Forms.{sound-writing, ahead-writing, outside-writing, of_operands, one_final, quiet_alike, defining, sound-defining, ahead-defining, define_alike, OneFinal}
 use Rattle.sj_proper.specs.Once.{Once, OnceCases}

@@ -2,32 +2,32 @@
 use Rattle.std.proofs.Common.{◌≡◌, ℕ, true, false, List, [], ◌∷◌, Some, refl, sym, ap, subst, ◌⊎◌, inl, inr, ⊎_elim}
 use Rattle.outcomes.specs.Agreement.{Sim}
 use Rattle.outcomes.proofs.Simulation.{sim_then}
-use Rattle.ir_mean.specs.Meaning as ir_meaning
-use Rattle.ir_mean.specs.States as ir
+use Rattle.sj_plain.specs.Meaning as ir_meaning
+use Rattle.sj_plain.specs.States as ir
 use Rattle.js_mean.specs.States as js
 use Rattle.sj_core.specs.Terms as core
-use Rattle.sj_desugar.specs.Desugar.{into, operand, expression_of, first_of, wrapped, break_unless}
-use Rattle.sj_desugar.specs.Plain.{is_plain}
-use Rattle.sj_desugar.specs.Spill.{Destination, discard, to_variable, Code, one, put_first, no_code, spill, then_use, then_code}
-use Rattle.sj_emit_expr.specs.Templates.{statement_templates}
+use Rattle.sj_proper.specs.Desugar.{into, operand, expression_of, first_of, wrapped, break_unless}
+use Rattle.sj_proper.specs.Plain.{is_plain}
+use Rattle.sj_proper.specs.Spill.{Destination, discard, to_variable, Code, one, put_first, no_code, spill, then_use, then_code}
+use Rattle.sj_proper.specs.Templates.{statement_templates}
 use Rattle.sj_trees.specs.Term.{Term, while_loop, do_while, boolean_literal}
 use Rattle.sj_trees.specs.TypeOf.{type_of_term}
 use Rattle.sj_trees.specs.declared.positions.Position.{Position}
 use Rattle.sj_plain.specs.Settings.{Setting, run, SameState, Lawful, usable}
 use Rattle.sj_bodies.proofs.Blocks.{Outside, Undeclared, undeclared}
 use Rattle.sj_bodies.proofs.Contexts.{around, Context, Writes, Sound, Ahead, Ready, Came}
-use Rattle.body_rules.proofs.RulesGive.{each_made}
-use Rattle.body_rules.specs.Locals.{Own}
-use Rattle.built_forms.specs.Boxes.{Goal, goals_of, boxes, operand_boxes}
+use Rattle.sj_proper.proofs.RulesGive.{each_made}
+use Rattle.sj_proper.specs.Locals.{Own}
+use Rattle.sj_proper.specs.Boxes.{Goal, goals_of, boxes, operand_boxes}
 use Rattle.sj_bodies.specs.Fine.{IsDiscard, is_discard, FineOperand, Fine, Asks}
-use Rattle.body_rules.specs.Typing.{IsTrueLiteral, true_literal}
+use Rattle.sj_proper.specs.Typing.{IsTrueLiteral, true_literal}
 use Rattle.sj_bodies.proofs.Forms.{of_operands, one_final, silent, rebased, ahead-later}
 use Rattle.sj_bodies.proofs.Loops.{in_turn, stop, Alike, sound-turn, ahead-turn, while_alike, forever_alike, test_final}
 use Rattle.sj_proper.specs.Once.{Once}
 use Rattle.sj_bodies.proofs.Trees.{written, LowAlike, outside-part, TreeDoes, piece, operand_does}
 use Rattle.sj_proper.proofs.Trees.{good, while_good, do_good, emitted_alike}
 use Rattle.sj_bodies.proofs.Parts.{tree_in, operand_in, given_up, one_mutable, other_mutable}
-use Rattle.body_rules.proofs.Fitting.{true-or-none}
+use Rattle.sj_proper.proofs.Fitting.{true-or-none}
 use Rattle.sj_trees.specs.declared.types.IrType.TheVariants.{Boolean}
 use Rattle.sj_plain.proofs.Plain.{plain_alike, as_operand}
 use Rattle.sj_bodies.proofs.Spills.{Does}

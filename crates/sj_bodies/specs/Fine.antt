@@ -2,9 +2,9 @@
 -- may be brought to its destination.
 use Rattle.std.specs.Prelude.{◌≡◌, ℕ, Bool, true, false, List, [], ◌∷◌, ◌⊎◌, Some}
 use Rattle.sj_core.specs.Terms as core
-use Rattle.sj_desugar.specs.Desugar.{Targets, target_of, has_no_value}
-use Rattle.sj_desugar.specs.Plain.{is_plain, is_fixed, mutable_in}
-use Rattle.sj_desugar.specs.Spill.{Destination, discard, to_variable, to_result}
+use Rattle.sj_proper.specs.Desugar.{Targets, target_of, has_no_value}
+use Rattle.sj_proper.specs.Plain.{is_plain, is_fixed, mutable_in}
+use Rattle.sj_proper.specs.Spill.{Destination, discard, to_variable, to_result}
 use Rattle.sj_trees.specs.Term.{Term}
 use Rattle.sj_trees.specs.TypeOf.{type_of_term}
 use Rattle.sj_trees.specs.declared.types.IrType.{IrType}
@@ -12,15 +12,15 @@ use Rattle.sj_trees.specs.declared.types.IrType.TheVariants.{NoType}
 use Rattle.sj_plain.specs.Conditions.{InScope, Plain}
 use Rattle.sj_plain.specs.Settings.{Code}
 use Rattle.sj_proper.specs.Once.{Once}
-use Rattle.body_rules.specs.Locals.{HaveValues, AreMutable, Mutable, Scope}
-use Rattle.body_rules.specs.Standing.{MayStand}
+use Rattle.sj_proper.specs.Locals.{HaveValues, AreMutable, Mutable, Scope}
+use Rattle.sj_proper.specs.Standing.{MayStand}
 use Rattle.sj_plain.specs.Standing.{Takes}
-use Rattle.built_forms.specs.Boxes.{boxes, goal_of, goals_of}
-use Rattle.built_forms.specs.Built.{Usable, may_make}
-use Rattle.body_rules.specs.Typing.{Scene, Typed}
-use Rattle.sj_world.specs.Known.{Classes}
-use Rattle.sj_world.specs.Subtypes.{IsSub}
-use Rattle.typing_rules.specs.Labels.{type_of_label}
+use Rattle.sj_proper.specs.Boxes.{boxes, goal_of, goals_of}
+use Rattle.sj_proper.specs.Built.{Usable, may_make}
+use Rattle.sj_proper.specs.Typing.{Scene, Typed}
+use Rattle.sj_plain.specs.Known.{Classes}
+use Rattle.sj_plain.specs.Subtypes.{IsSub}
+use Rattle.sj_proper.specs.Labels.{type_of_label}
 
 pub data IsDiscard : Destination → Type 0 where
   is_discard : IsDiscard discard

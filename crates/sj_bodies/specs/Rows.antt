@@ -2,12 +2,12 @@
 use Rattle.std.specs.Prelude.{ℕ, [], ◌∷◌, ℤ, codes, Some}
 use Rattle.js_tree.specs.Terms.{call_of, no_expressions, expression, number_literal, function_item}
 use Rattle.outcomes.specs.Outcome.{Out}
-use Rattle.ir_mean.specs.Rows.{int_method}
+use Rattle.sj_plain.specs.Rows.{int_method}
 use Rattle.js_mean.specs.Meaning as js_meaning
 use Rattle.js_mean.specs.States as js
 use Rattle.sj_core.specs.Lookup.{own_targets}
-use Rattle.sj_desugar.specs.Desugar.{desugared, names_of}
-use Rattle.sj_emit_expr.specs.Templates.{parameter_names, body_template}
+use Rattle.sj_proper.specs.Desugar.{desugared, names_of}
+use Rattle.sj_proper.specs.Templates.{parameter_names, body_template}
 use Rattle.sj_trees.specs.Term.{Term}
 
 -- the file `main.js` with the function `f` of the parameter `p` and the statements of this body

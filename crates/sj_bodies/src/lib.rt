@@ -7,10 +7,10 @@
 
 ghost use Rattle.std.specs.Prelude.{◌≡◌, [], ◌∷◌, pos, negsuc};
 ghost use Rattle.outcomes.specs.Outcome.{done, going};
-ghost use Rattle.ir_mean.specs.Rows.{object_with, int_method, int_result, triples, triples_first, leaves_loop, matches, reads_then_writes};
-ghost use Rattle.ir_mean.specs.Shows.{outside};
-ghost use Rattle.ir_mean.specs.States as ir;
-ghost use Rattle.ir_mean.specs.World as ir_world;
+ghost use Rattle.sj_plain.specs.Rows.{object_with, int_method, int_result, triples, triples_first, leaves_loop, matches, reads_then_writes};
+ghost use Rattle.sj_plain.specs.Shows.{outside};
+ghost use Rattle.sj_plain.specs.States as ir;
+ghost use Rattle.sj_plain.specs.World as ir_world;
 ghost use Rattle.js_mean.specs.Meaning as js_meaning;
 ghost use Rattle.js_mean.specs.States as js;
 ghost use Rattle.sj_bodies.specs.Rows.{int_program, int_function_result};

@@ -2,16 +2,16 @@
 use Rattle.std.proofs.Common.{◌≡◌, ℕ, Bool, true, false, ◌&&◌, ◌||◌, List, [], ◌∷◌, map, slice_get, Option, Some, refl, ap, ◌∙◌}
 use Rattle.std.specs.Prelude.{codes, pos}
 use Rattle.std.proofs.lemmas.Bool.{and_from}
-use Rattle.ir_mean.specs.Dispatch.{chain_of}
-use Rattle.ir_mean.specs.States as ir
+use Rattle.dispatch_laws.specs.Dispatch.{chain_of}
+use Rattle.dispatch_laws.specs.States as ir
 use Rattle.js_mean.specs.Objects.{is_below, stored_below, is_instance, property, stored_property, or_value, value_on, method_on}
 use Rattle.js_mean.specs.Operators.{is_same_class}
 use Rattle.js_mean.specs.States as js
 use Rattle.js_tree.specs.Terms.{Name}
 use Rattle.sj_names.proofs.Same.{impossible, text-refl}
 use Rattle.sj_names.specs.Same.{is_same_text}
-use Rattle.sj_plain.specs.Settings.{Place, SameState, SameStored, same_object, link_of, box_link}
-use Rattle.sj_plain.proofs.Worlds.{World, IsBox, Stands, same_undefined, same_null, same_boolean, same_char, same_box, same_number, same_long, same_text, same_reference}
+use Rattle.sj_bodies.specs.Settings.{Place, SameState, SameStored, same_object, link_of, box_link}
+use Rattle.sj_bodies.proofs.Worlds.{World, IsBox, Stands, same_undefined, same_null, same_boolean, same_char, same_box, same_number, same_long, same_text, same_reference}
 
 -- the value is a char
 abbrev pub is_unit : ir.Value → Bool

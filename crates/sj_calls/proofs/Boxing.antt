@@ -1,10 +1,10 @@
 -- `new $C` of a char: where the class stands in the program, it makes an object that holds the char.
 use Rattle.std.specs.Prelude.{◌≤◌, ◌<◌, ◌^◌, codes, pos}
 use Rattle.std.proofs.Common.{◌≡◌, ℕ, zero, suc, Bool, true, false, List, [], ◌∷◌, Option, Some, refl, sym, ap, ◌∙◌, subst, arith}
-use Rattle.helper_rules.specs.Helpers.{helper_name, box_constructor, set_from}
-use Rattle.helper_rules.specs.declared.kinds.Helper.TheVariants.{BoxedChar, ConstantsOf}
-use Rattle.helper_rules.specs.declared.kinds.Kind.TheVariants as kinds
-use Rattle.ir_mean.specs.States as ir
+use Rattle.class_casts.specs.Helpers.{helper_name, box_constructor, set_from}
+use Rattle.class_casts.specs.HelperVariants.{BoxedChar, ConstantsOf}
+use Rattle.class_casts.specs.KindVariants as kinds
+use Rattle.dispatch_laws.specs.States as ir
 use Rattle.js_mean.specs.Classes.{members_of}
 use Rattle.js_mean.specs.Files.{owner}
 use Rattle.js_mean.specs.Meaning as js_meaning
@@ -15,12 +15,12 @@ use Rattle.js_tree.specs.Views.{statements_of}
 use Rattle.outcomes.specs.Agreement.{Direction, forward, backward, Sim}
 use Rattle.outcomes.specs.Outcome.{Out, done, going, then_do}
 use Rattle.outcomes.proofs.Simulation.{sim_done, sim_going}
-use Rattle.sj_desugar.specs.Coercions.{is_char}
-use Rattle.sj_plain.specs.Settings.{Place, Setting, a_helper, box_link, HoldsCharConstants, SameState, Valued, valued, BoxesAlike}
-use Rattle.sj_plain.specs.Standing.{suits}
-use Rattle.sj_plain.proofs.Boxes.{more_owned, state-owns, grows-owned, owned-there}
-use Rattle.sj_plain.proofs.Heaps.{owned-still}
-use Rattle.sj_plain.proofs.Worlds.{World, IsBox, same_box}
+use Rattle.sj_bodies.specs.Coercions.{is_char}
+use Rattle.sj_bodies.specs.Settings.{Place, Setting, a_helper, box_link, HoldsCharConstants, SameState, Valued, valued, BoxesAlike}
+use Rattle.sj_bodies.specs.SjPlainStanding.{suits}
+use Rattle.sj_bodies.proofs.Boxes.{more_owned, state-owns, grows-owned, owned-there}
+use Rattle.sj_bodies.proofs.Heaps.{owned-still}
+use Rattle.sj_bodies.proofs.Worlds.{World, IsBox, same_box}
 use Rattle.sj_trees.specs.declared.types.IrType.{IrType}
 use Rattle.sj_calls.specs.Helpers.{BoxStands, box_properties}
 use Rattle.sj_calls.proofs.Making.{same_top, name_at_top, sets}

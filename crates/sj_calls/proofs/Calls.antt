@@ -5,45 +5,45 @@ use Rattle.std.specs.Cmp.Lexicographic.{pointwise}
 use Rattle.outcomes.specs.Outcome.{Out, done, then_do}
 use Rattle.outcomes.specs.Agreement.{Direction, Sim}
 use Rattle.outcomes.proofs.Simulation.{sim_done, sim_wrong, sim_then}
-use Rattle.ir_mean.specs.Meaning as ir_meaning
-use Rattle.ir_mean.specs.States as ir
+use Rattle.dispatch_laws.specs.Meaning as ir_meaning
+use Rattle.dispatch_laws.specs.States as ir
 use Rattle.sure_receivers.specs.Sure.{sure_locals}
-use Rattle.ir_mean.specs.World.{member_of}
+use Rattle.dispatch_laws.specs.World.{member_of}
 use Rattle.js_mean.specs.Meaning as js_meaning
 use Rattle.js_mean.specs.Proper.{is_among, declared}
 use Rattle.js_mean.specs.States as js
 use Rattle.js_tree.specs.Terms.{Name}
 use Rattle.sj_core.specs.Lookup.{Lookup}
 use Rattle.sj_core.specs.Terms as core
-use Rattle.sj_desugar.specs.Desugar.{is_mutable_in, result_destination, names_of, desugared}
-use Rattle.sj_desugar.specs.Plain.{is_no_type}
-use Rattle.sj_desugar.specs.Spill.{Destination, discard, to_result}
-use Rattle.sj_emit_expr.specs.Templates.{statement_templates}
+use Rattle.sj_bodies.specs.Desugar.{is_mutable_in, result_destination, names_of, desugared}
+use Rattle.sj_bodies.specs.Plain.{is_no_type}
+use Rattle.sj_bodies.specs.Spill.{Destination, discard, to_result}
+use Rattle.dispatch_laws.specs.Templates.{statement_templates}
 use Rattle.sj_names.specs.declared.method_names.Member.{Member}
 use Rattle.sj_trees.specs.declared.classes.ParamDef.{ParamDef}
 use Rattle.sj_trees.specs.declared.types.IrType.{IrType}
 use Rattle.sj_trees.specs.declared.types.IrType.TheVariants.{NoType}
-use Rattle.body_rules.specs.Locals.{Own, IsParameter, parameters_of, with_local, Scope}
-use Rattle.sj_plain.specs.Settings.{Place, Code, no_receiver, Setting, SameState, Valued, valued, thrown, NamesDiffer, OfNoVariable, Holding, holding, a_function, function_call}
+use Rattle.sj_bodies.specs.Locals.{Own, IsParameter, parameters_of, with_local, Scope}
+use Rattle.sj_bodies.specs.Settings.{Place, Code, no_receiver, Setting, SameState, Valued, valued, thrown, NamesDiffer, OfNoVariable, Holding, holding, a_function, function_call}
 use Rattle.sj_bodies.proofs.Blocks.{Outside, bind-undeclared}
 use Rattle.sj_bodies.proofs.Contexts.{Context, Writes, Sound, Ahead, Ready, let_go, returned, Came, gave, left, threw, stopped}
-use Rattle.body_rules.proofs.Equal.{differs, equals, is-equal}
-use Rattle.sj_proper.proofs.Declared.{declared-named}
+use Rattle.sj_bodies.proofs.Equal.{differs, equals, is-equal}
+use Rattle.sj_bodies.proofs.Declared.{declared-named}
 use Rattle.sj_names.proofs.Same.{impossible}
 use Rattle.sj_bodies.proofs.Trees.{LowAlike}
-use Rattle.sj_plain.proofs.Worlds.{World, SameValue, same_undefined, SameValues, no_values, one_more}
+use Rattle.sj_bodies.proofs.Worlds.{World, SameValue, same_undefined, SameValues, no_values, one_more}
 use Rattle.sj_calls.specs.Methods.{parameters_in, function_of, Linked}
-use Rattle.sj_proper.specs.Methods.{HaveTypes, scene_of, KeepsRules}
+use Rattle.sj_bodies.specs.Methods.{HaveTypes, scene_of, KeepsRules}
 use Rattle.sj_names.specs.declared.references.TypeRef.{TypeRef}
-use Rattle.body_rules.specs.Standing.{types_referred, call_type}
-use Rattle.body_rules.proofs.Mutable.{mutable-known, parameter-known}
-use Rattle.built_forms.specs.Built.{Usable}
+use Rattle.sj_bodies.specs.Standing.{types_referred, call_type}
+use Rattle.sj_bodies.proofs.Mutable.{mutable-known, parameter-known}
+use Rattle.sj_bodies.specs.Built.{Usable}
 use Rattle.sj_bodies.specs.Fine.{Fine, Asks, no_labels}
 use Rattle.sj_trees.specs.Term.{Term}
 use Rattle.sj_trees.specs.declared.classes.MethodDef.{MethodDef}
 use Rattle.sj_trees.specs.TypeOf.{type_of_term}
-use Rattle.sj_world.specs.Known.{Classes}
-use Rattle.typing_rules.specs.Rules.{Yields, nothing_wanted, fitting}
+use Rattle.dispatch_laws.specs.Known.{Classes}
+use Rattle.sj_bodies.specs.Rules.{Yields, nothing_wanted, fitting}
 
 pub named_parameter : (ds : List ParamDef) (x : List ℕ) (t : IrType) → parameters_of ds x t → IsParameter ds x
 named_parameter [] x t h = h

@@ -9,26 +9,26 @@ use Rattle.class_casts.proofs.Kinded.{casts_tell}
 use Rattle.class_casts.proofs.Shortly.{short_casts_go}
 use Rattle.class_casts.specs.Kinds as casts
 use Rattle.class_casts.specs.Kinds.{CastStands, passes, unboxed_value}
-use Rattle.helper_rules.specs.Helpers.{helper_name, init_name, kind_word, raise}
-use Rattle.helper_rules.specs.Words.{class_name}
-use Rattle.helper_rules.specs.declared.kinds.Failure.TheVariants.{Cast}
-use Rattle.helper_rules.specs.declared.kinds.Helper.TheVariants.{CastTo, Throws}
-use Rattle.helper_rules.specs.declared.kinds.Kind.{Kind}
-use Rattle.helper_rules.specs.declared.kinds.Kind.TheVariants as kinds
-use Rattle.ir_mean.specs.Meaning as ir_meaning
-use Rattle.ir_mean.specs.Operators.{answers}
-use Rattle.ir_mean.specs.States as ir
-use Rattle.ir_mean.specs.World as ir_world
+use Rattle.class_casts.specs.Helpers.{helper_name, init_name, kind_word, raise}
+use Rattle.class_casts.specs.Words.{class_name}
+use Rattle.class_casts.specs.FailureVariants.{Cast}
+use Rattle.class_casts.specs.HelperVariants.{CastTo, Throws}
+use Rattle.class_casts.specs.Kind.{Kind}
+use Rattle.class_casts.specs.KindVariants as kinds
+use Rattle.dispatch_laws.specs.Meaning as ir_meaning
+use Rattle.dispatch_laws.specs.Operators.{answers}
+use Rattle.dispatch_laws.specs.States as ir
+use Rattle.dispatch_laws.specs.World as ir_world
 use Rattle.js_mean.specs.Files.{owner}
 use Rattle.js_mean.specs.Meaning as js_meaning
 use Rattle.js_mean.specs.States as js
 use Rattle.js_tree.specs.Terms.{Name, name_use, text_literal}
-use Rattle.sj_desugar.specs.Coercions.{is_char}
-use Rattle.sj_emit_expr.specs.Tests.{cast_name}
+use Rattle.sj_bodies.specs.Coercions.{is_char}
+use Rattle.dispatch_laws.specs.Tests.{cast_name}
 use Rattle.sj_names.proofs.Same.{impossible}
-use Rattle.sj_plain.specs.Settings.{Place, SameState, Valued, valued, thrown, a_cast, a_helper, top_function, top_call}
-use Rattle.sj_plain.specs.Standing.{suits}
-use Rattle.sj_plain.proofs.Worlds.{World, grows-refl, SameValue, Stands, same_undefined, same_null, same_boolean, same_char, same_box, same_number, same_long, same_text, same_reference}
+use Rattle.sj_bodies.specs.Settings.{Place, SameState, Valued, valued, thrown, a_cast, a_helper, top_function, top_call}
+use Rattle.sj_bodies.specs.SjPlainStanding.{suits}
+use Rattle.sj_bodies.proofs.Worlds.{World, grows-refl, SameValue, Stands, same_undefined, same_null, same_boolean, same_char, same_box, same_number, same_long, same_text, same_reference}
 use Rattle.sj_trees.specs.declared.types.IrType.{IrType}
 use Rattle.sj_trees.specs.declared.types.IrType.TheVariants.{Any, Undefined, Boolean, Char, Byte, Short, Int, Long, String, Nothing}
 use Rattle.sj_calls.specs.Helpers.{HelperStands, Failed, failed_so, failing_code, helper_code, kind_of}

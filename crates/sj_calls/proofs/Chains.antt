@@ -1,16 +1,16 @@
 -- Where the classes of a chain stand in the program, their constructors make an object that leads to the constants of its class.
 use Rattle.std.proofs.Common.{◌≡◌, true, List, [], ◌∷◌, Option, Some, None, refl, ap, ◌∙◌}
 use Rattle.std.specs.Prelude.{codes}
-use Rattle.helper_rules.specs.Words.{constants_name}
-use Rattle.ir_mean.specs.States as ir
+use Rattle.class_casts.specs.Words.{constants_name}
+use Rattle.dispatch_laws.specs.States as ir
 use Rattle.js_mean.specs.Meaning.{top_cell}
 use Rattle.js_mean.specs.Objects.{with_property, no_properties}
 use Rattle.js_mean.specs.States as js
 use Rattle.js_tree.specs.Terms.{Name}
 use Rattle.sj_mangling.specs.Bindings.{field_binding}
 use Rattle.sj_mangling.specs.declared.bindings.FieldBinding.TheVariants.{Property}
-use Rattle.sj_plain.specs.Settings.{Place, SameState, HoldsConstants, TellsClass, link_of, some_constants}
-use Rattle.sj_plain.specs.Worlds.{World}
+use Rattle.sj_bodies.specs.Settings.{Place, SameState, HoldsConstants, TellsClass, link_of, some_constants}
+use Rattle.sj_bodies.specs.Worlds.{World}
 use Rattle.sj_trees.specs.declared.classes.FieldDef.{FieldDef}
 use Rattle.sj_calls.specs.Chains.{ClassStands, ChainStands, extends_none, extends_one, MadeBy}
 use Rattle.sj_calls.specs.Made.{zero_value, with_fields, started, MakerStands, makes_top, makes_more}

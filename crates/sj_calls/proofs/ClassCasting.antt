@@ -7,23 +7,23 @@ use Rattle.class_casts.proofs.Classed.{class_casts_tell}
 use Rattle.class_casts.proofs.Shortly.{short_casts_go}
 use Rattle.class_casts.specs.Classes.{class_cast_code, ClassCastStands}
 use Rattle.class_casts.specs.Kinds.{failed}
-use Rattle.helper_rules.specs.Words.{units_of}
-use Rattle.helper_rules.specs.declared.kinds.Failure.TheVariants.{Cast}
-use Rattle.helper_rules.specs.declared.kinds.Helper.TheVariants.{Throws}
-use Rattle.ir_mean.specs.Meaning as ir_meaning
-use Rattle.ir_mean.specs.Operators.{answers}
-use Rattle.ir_mean.specs.States as ir
-use Rattle.ir_mean.specs.World as ir_world
+use Rattle.class_casts.specs.Words.{units_of}
+use Rattle.class_casts.specs.FailureVariants.{Cast}
+use Rattle.class_casts.specs.HelperVariants.{Throws}
+use Rattle.dispatch_laws.specs.Meaning as ir_meaning
+use Rattle.dispatch_laws.specs.Operators.{answers}
+use Rattle.dispatch_laws.specs.States as ir
+use Rattle.dispatch_laws.specs.World as ir_world
 use Rattle.js_mean.specs.Meaning as js_meaning
 use Rattle.js_mean.specs.States as js
 use Rattle.js_tree.specs.Terms.{Name}
-use Rattle.sj_emit_expr.specs.Tests.{test_name}
-use Rattle.sj_plain.proofs.Worlds.{World, grows-refl, SameValue, Stands, same_null}
-use Rattle.sj_plain.specs.Settings.{Place, SameState, Valued, valued, thrown, a_test, a_cast, a_helper, top_call}
-use Rattle.sj_plain.specs.Standing.{suits}
+use Rattle.dispatch_laws.specs.Tests.{test_name}
+use Rattle.sj_bodies.proofs.Worlds.{World, grows-refl, SameValue, Stands, same_null}
+use Rattle.sj_bodies.specs.Settings.{Place, SameState, Valued, valued, thrown, a_test, a_cast, a_helper, top_call}
+use Rattle.sj_bodies.specs.SjPlainStanding.{suits}
 use Rattle.sj_trees.specs.declared.types.IrType.{IrType}
 use Rattle.sj_trees.specs.declared.types.IrType.TheVariants.{Any, Class}
-use Rattle.sj_world.specs.Laws.{IsPlain}
+use Rattle.dispatch_laws.specs.SjWorldLaws.{IsPlain}
 use Rattle.sj_calls.specs.Helpers.{Failed, failed_so}
 use Rattle.sj_calls.specs.Worlds.{CanCastClass}
 use Rattle.sj_calls.proofs.Casting.{cast_exception, throwing_there}

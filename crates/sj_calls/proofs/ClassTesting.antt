@@ -5,8 +5,8 @@ use Rattle.std.proofs.lemmas.List.Elements.{Contains-push, Contains-push_cases, 
 use Rattle.outcomes.specs.Outcome.{Out, done, going}
 use Rattle.outcomes.specs.Agreement.{Direction, forward, backward, Sim}
 use Rattle.outcomes.proofs.Simulation.{sim_done, sim_going}
-use Rattle.body_rules.proofs.Lists.{at_front, further_on}
-use Rattle.body_rules.specs.Standing.{is_bare}
+use Rattle.sj_bodies.proofs.Lists.{at_front, further_on}
+use Rattle.sj_bodies.specs.Standing.{is_bare}
 use Rattle.class_casts.proofs.Classed.{hijacked_asks}
 use Rattle.class_casts.proofs.Hijacking.{alone, itself, kind_hijacked, object_fails, passed_is, is_passed}
 use Rattle.class_casts.proofs.Instanced.{tests_tell_instances, worded_among}
@@ -19,33 +19,33 @@ use Rattle.class_casts.specs.Hijacked.{number_in}
 use Rattle.class_casts.specs.Instances.{is_worded}
 use Rattle.class_casts.specs.Kinds.{KindTestStands, passes}
 use Rattle.class_casts.specs.Tests.{HasMarker, on_object, on_undefined, on_boolean, on_number, on_big_int, on_text, TestStands, TestsStand, tests_none, tests_more, class_test_code, class_told}
-use Rattle.helper_rules.specs.Words.{kind_class, worded_kinds}
-use Rattle.helper_rules.specs.declared.kinds.Kind.{Kind}
-use Rattle.helper_rules.specs.declared.kinds.Kind.TheVariants as kinds
-use Rattle.ir_mean.proofs.AncestorsFound.{ancestors_are_worked_out}
-use Rattle.ir_mean.specs.Dispatch.{is_ancestor, is_ancestor_of_any, is_small}
-use Rattle.ir_mean.specs.Meaning as ir_meaning
-use Rattle.ir_mean.specs.States as ir
-use Rattle.ir_mean.specs.World.{stored_class}
+use Rattle.class_casts.specs.Words.{kind_class, worded_kinds}
+use Rattle.class_casts.specs.Kind.{Kind}
+use Rattle.class_casts.specs.KindVariants as kinds
+use Rattle.dispatch_laws.proofs.AncestorsFound.{ancestors_are_worked_out}
+use Rattle.dispatch_laws.specs.Dispatch.{is_ancestor, is_ancestor_of_any, is_small}
+use Rattle.dispatch_laws.specs.Meaning as ir_meaning
+use Rattle.dispatch_laws.specs.States as ir
+use Rattle.dispatch_laws.specs.World.{stored_class}
 use Rattle.js_mean.specs.Meaning as js_meaning
 use Rattle.js_mean.specs.Objects.{stored_property, or_value, value_on, method_on}
 use Rattle.js_mean.specs.States as js
 use Rattle.js_tree.specs.Terms.{Name}
-use Rattle.piece_rules.specs.Classes.{AreInstances}
-use Rattle.sj_emit_expr.specs.Tests.{test_name}
+use Rattle.class_casts.specs.PieceRulesClasses.{AreInstances}
+use Rattle.dispatch_laws.specs.Tests.{test_name}
 use Rattle.sj_mangling.specs.Bindings.{class_binding}
 use Rattle.sj_mangling.specs.declared.bindings.ClassBinding.TheVariants.{Marker}
 use Rattle.sj_names.proofs.Same.{impossible, text-same, text-refl}
 use Rattle.sj_names.specs.Same.{is_same_text}
-use Rattle.sj_plain.proofs.Standing.{class-open}
-use Rattle.sj_plain.proofs.Worlds.{World, grows-refl, SameValue, IsBox, Stands, same_undefined, same_null, same_boolean, same_char, same_box, same_number, same_long, same_text, same_reference}
-use Rattle.sj_plain.specs.Settings.{Place, SameStored, same_object, MarksAncestors, IsFree, SameState, Valued, valued, links_of, a_test, top_call}
-use Rattle.sj_plain.specs.Standing.{suits}
+use Rattle.sj_bodies.proofs.Standing.{class-open}
+use Rattle.sj_bodies.proofs.Worlds.{World, grows-refl, SameValue, IsBox, Stands, same_undefined, same_null, same_boolean, same_char, same_box, same_number, same_long, same_text, same_reference}
+use Rattle.sj_bodies.specs.Settings.{Place, SameStored, same_object, MarksAncestors, IsFree, SameState, Valued, valued, links_of, a_test, top_call}
+use Rattle.sj_bodies.specs.SjPlainStanding.{suits}
 use Rattle.sj_trees.specs.declared.types.IrType.TheVariants.{Any, Boolean, Class}
-use Rattle.sj_world.specs.Ancestors.{IsAncestor}
-use Rattle.sj_world.specs.Calls.{IsInstance}
-use Rattle.sj_world.specs.Known.{Classes, is_hijacked}
-use Rattle.sj_world.specs.Laws.{IsPlain}
+use Rattle.dispatch_laws.specs.Ancestors.{IsAncestor}
+use Rattle.class_casts.specs.Calls.{IsInstance}
+use Rattle.dispatch_laws.specs.Known.{Classes, is_hijacked}
+use Rattle.dispatch_laws.specs.SjWorldLaws.{IsPlain}
 use Rattle.sj_calls.specs.Helpers.{ReachesTest, ClassTest, by_marker, by_kind}
 use Rattle.sj_calls.proofs.Boxed.{boxes, box_there, box_below, object_apart}
 use Rattle.sj_calls.proofs.Sameness.{both_pass}

@@ -7,10 +7,10 @@ use Rattle.outcomes.specs.Outcome.{Out, done, then_do}
 use Rattle.outcomes.specs.Agreement.{Direction, Sim}
 use Rattle.outcomes.proofs.Sequence.{then_do-right}
 use Rattle.outcomes.proofs.Simulation.{sim_done, sim_then}
-use Rattle.built_forms.specs.Built.{Usable, divides}
-use Rattle.ir_mean.specs.Meaning as ir_meaning
-use Rattle.ir_mean.specs.Operators as ir_operators
-use Rattle.ir_mean.specs.States as ir
+use Rattle.sj_bodies.specs.Built.{Usable, divides}
+use Rattle.dispatch_laws.specs.Meaning as ir_meaning
+use Rattle.dispatch_laws.specs.Operators as ir_operators
+use Rattle.dispatch_laws.specs.States as ir
 use Rattle.js_mean.specs.Files.{owner}
 use Rattle.js_mean.specs.Meaning as js_meaning
 use Rattle.js_mean.specs.Operators as js_operators
@@ -19,24 +19,24 @@ use Rattle.js_tree.specs.Terms as tree
 use Rattle.js_tree.specs.Terms.{Name}
 use Rattle.js_tree.specs.Views.{statements_of}
 use Rattle.js_tree.specs.declared.operators.BinaryOperator.TheVariants as Op
-use Rattle.helper_rules.specs.Helpers.{helper_name, does, calls, num, or_zero, operation, wrapped}
-use Rattle.helper_rules.specs.declared.kinds.Helper.{Helper}
-use Rattle.helper_rules.specs.declared.kinds.Helper.TheVariants.{Throws}
-use Rattle.helper_rules.specs.declared.kinds.Failure.TheVariants.{Division}
+use Rattle.class_casts.specs.Helpers.{helper_name, does, calls, num, or_zero, operation, wrapped}
+use Rattle.sj_bodies.specs.Helper.{Helper}
+use Rattle.class_casts.specs.HelperVariants.{Throws}
+use Rattle.class_casts.specs.FailureVariants.{Division}
 use Rattle.sj_names.proofs.Same.{impossible}
 use Rattle.sj_trees.specs.TypeOf.{binary_result}
 use Rattle.sj_trees.specs.declared.operators.BinaryOp.{BinaryOp}
 use Rattle.sj_trees.specs.declared.operators.BinaryOp.TheVariants.{IntDivide, IntRemainder, LongDivide, LongRemainder}
 use Rattle.sj_trees.specs.declared.types.IrType.{IrType}
 use Rattle.sj_trees.specs.declared.types.IrType.TheVariants.{Int, Long}
-use Rattle.typing_rules.specs.Rules.{left_operand, right_operand}
-use Rattle.body_rules.specs.Operators.{IsDivision, a_quotient, a_remainder, IsLongDivision, a_long_quotient, a_long_remainder}
-use Rattle.sj_plain.specs.Settings.{Place, Setting, SameState, Valued, thrown, a_helper, division_helper, top_function, top_call}
-use Rattle.sj_plain.proofs.Divisions.{over_int, over_long, divided_alike, long_divided_alike}
-use Rattle.sj_plain.proofs.Operators.{GivenIf}
-use Rattle.sj_plain.proofs.Shifts.{IsLong, a_long, IsInt, an_int, as_long, as_int}
-use Rattle.sj_plain.proofs.Templates.{value_alike, wrapped_next}
-use Rattle.sj_plain.proofs.Worlds.{World, grows-refl, SameValue}
+use Rattle.sj_bodies.specs.Rules.{left_operand, right_operand}
+use Rattle.sj_bodies.specs.Operators.{IsDivision, a_quotient, a_remainder, IsLongDivision, a_long_quotient, a_long_remainder}
+use Rattle.sj_bodies.specs.Settings.{Place, Setting, SameState, Valued, thrown, a_helper, division_helper, top_function, top_call}
+use Rattle.sj_bodies.proofs.Divisions.{over_int, over_long, divided_alike, long_divided_alike}
+use Rattle.sj_bodies.proofs.Operators.{GivenIf}
+use Rattle.sj_bodies.proofs.Shifts.{IsLong, a_long, IsInt, an_int, as_long, as_int}
+use Rattle.sj_bodies.proofs.Templates.{value_alike, wrapped_next}
+use Rattle.sj_bodies.proofs.Worlds.{World, grows-refl, SameValue}
 use Rattle.sj_calls.specs.Helpers.{dividing_code, division_code, Failed, failed_so}
 use Rattle.sj_calls.specs.Worlds.{CanDivide}
 use Rattle.sj_calls.proofs.Helps.{FailsAt, five_grouped, in_helper}

@@ -6,34 +6,34 @@ use Rattle.outcomes.specs.Outcome.{Out, done, then_do}
 use Rattle.outcomes.specs.Agreement.{Direction, Sim}
 use Rattle.outcomes.proofs.Sequence.{then_do-associative, then_do-right}
 use Rattle.outcomes.proofs.Simulation.{sim_done, sim_then}
-use Rattle.ir_mean.specs.Meaning as ir_meaning
-use Rattle.ir_mean.specs.States as ir
+use Rattle.dispatch_laws.specs.Meaning as ir_meaning
+use Rattle.dispatch_laws.specs.States as ir
 use Rattle.js_mean.specs.Meaning as js_meaning
 use Rattle.js_mean.specs.States as js
 use Rattle.js_mean.specs.Files.{owner}
 use Rattle.js_tree.specs.Terms as tree
 use Rattle.js_tree.specs.Terms.{Name}
 use Rattle.js_tree.specs.Views.{statements_of}
-use Rattle.helper_rules.specs.Helpers.{helper_name, does, calls}
-use Rattle.helper_rules.specs.Words.{x}
+use Rattle.class_casts.specs.Helpers.{helper_name, does, calls}
+use Rattle.class_casts.specs.Words.{x}
 use Rattle.sj_core.specs.Terms as core
 use Rattle.sj_core.specs.Views.{expressions_of}
-use Rattle.sj_desugar.specs.Coercions.{is_char}
-use Rattle.sj_desugar.specs.Desugar.{member}
+use Rattle.sj_bodies.specs.Coercions.{is_char}
+use Rattle.sj_bodies.specs.Desugar.{member}
 use Rattle.sj_names.specs.declared.method_names.Namespace.TheVariants.{Constructor}
 use Rattle.sj_trees.specs.Types.{class_type}
 use Rattle.sj_trees.specs.declared.types.IrType.{IrType}
 use Rattle.sj_trees.specs.declared.types.IrType.TheVariants.{Any, String}
-use Rattle.helper_rules.specs.declared.kinds.Helper.{Helper}
-use Rattle.helper_rules.specs.declared.kinds.Helper.TheVariants.{NotNull, Throws}
-use Rattle.helper_rules.specs.declared.kinds.Failure.TheVariants.{NullReceiver}
-use Rattle.sj_plain.specs.Settings.{Place, Code, Setting, usable, shown, SameState, Valued, valued, thrown, Based, a_helper, top_function, top_call}
-use Rattle.sj_plain.specs.Standing.{suits}
-use Rattle.body_rules.specs.Standing.{Fits}
-use Rattle.sj_world.specs.Known.{is_hijacked}
-use Rattle.sj_plain.proofs.Objects.{new_alike}
-use Rattle.sj_plain.proofs.Orders.{OperandsAlike, no_operands, more_operands}
-use Rattle.sj_plain.proofs.Worlds.{World, grows-refl, SameValue, Stands, same_undefined, same_null, same_boolean, same_char, same_box, same_number, same_long, same_text, same_reference, value-fits}
+use Rattle.sj_bodies.specs.Helper.{Helper}
+use Rattle.class_casts.specs.HelperVariants.{NotNull, Throws}
+use Rattle.class_casts.specs.FailureVariants.{NullReceiver}
+use Rattle.sj_bodies.specs.Settings.{Place, Code, Setting, usable, shown, SameState, Valued, valued, thrown, Based, a_helper, top_function, top_call}
+use Rattle.sj_bodies.specs.SjPlainStanding.{suits}
+use Rattle.sj_bodies.specs.Standing.{Fits}
+use Rattle.dispatch_laws.specs.Known.{is_hijacked}
+use Rattle.sj_bodies.proofs.Objects.{new_alike}
+use Rattle.sj_bodies.proofs.Orders.{OperandsAlike, no_operands, more_operands}
+use Rattle.sj_bodies.proofs.Worlds.{World, grows-refl, SameValue, Stands, same_undefined, same_null, same_boolean, same_char, same_box, same_number, same_long, same_text, same_reference, value-fits}
 use Rattle.sj_calls.specs.Helpers.{failing_code, checking_code, HelperStands, Failed, failed_so}
 
 -- in a file of helpers no local is in scope

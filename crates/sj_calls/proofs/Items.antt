@@ -7,12 +7,12 @@ use Rattle.js_mean.specs.States.{Cell, absent, holds, function}
 use Rattle.js_tree.specs.Names.{is_same_text}
 use Rattle.js_tree.specs.Terms.{Name, Item}
 use Rattle.sj_core.specs.Lookup.{own_targets}
-use Rattle.sj_desugar.specs.Desugar.{desugared}
-use Rattle.sj_emit_expr.specs.Templates.{member_name, parameter_names, body_template}
-use Rattle.body_rules.proofs.Lists.{nothing_in, in_front_or_behind}
-use Rattle.body_rules.proofs.Equal.{equals, is-equal}
+use Rattle.sj_bodies.specs.Desugar.{desugared}
+use Rattle.dispatch_laws.specs.Templates.{member_name, parameter_names, body_template}
+use Rattle.sj_bodies.proofs.Lists.{nothing_in, in_front_or_behind}
+use Rattle.sj_bodies.proofs.Equal.{equals, is-equal}
 use Rattle.sj_names.proofs.Same.{impossible}
-use Rattle.sj_proper.specs.Emitted.{EmittedMethod, function_item_of}
+use Rattle.sj_bodies.specs.Emitted.{EmittedMethod, function_item_of}
 
 abbrev name_of : EmittedMethod → Name
 name_of e = member_name e.member

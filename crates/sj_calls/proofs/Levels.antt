@@ -3,29 +3,29 @@
 use Rattle.std.specs.Prelude.{◌+◌, ◌*◌, codes}
 use Rattle.std.proofs.Common.{◌≡◌, ℕ, zero, suc, Bool, true, List, arith, sym, ◌∙◌}
 use Rattle.sj_names.proofs.Same.{impossible}
-use Rattle.sj_emit_expr.specs.Templates.{called_member, check_name, statement_templates}
+use Rattle.dispatch_laws.specs.Templates.{called_member, check_name, statement_templates}
 use Rattle.sure_receivers.specs.Sure.{sure_locals}
 use Rattle.outcomes.specs.Agreement.{Direction, forward, backward, Enough, Sim}
 use Rattle.outcomes.proofs.Simulation.{sim_over, sim_going}
-use Rattle.ir_mean.specs.Meaning as ir_meaning
-use Rattle.ir_mean.specs.States as ir
+use Rattle.dispatch_laws.specs.Meaning as ir_meaning
+use Rattle.dispatch_laws.specs.States as ir
 use Rattle.js_mean.specs.Meaning as js_meaning
 use Rattle.js_mean.specs.States as js
 use Rattle.js_tree.specs.Terms.{Name}
-use Rattle.sj_desugar.specs.Desugar.{into, is_mutable_in}
+use Rattle.sj_bodies.specs.Desugar.{into, is_mutable_in}
 use Rattle.sj_names.specs.declared.method_names.Member.{Member}
-use Rattle.sj_plain.specs.Settings.{Place, Code, a_function, Setting, SameState, Valued, NamesDiffer, Reaches, Based, Lawful}
+use Rattle.sj_bodies.specs.Settings.{Place, Code, a_function, Setting, SameState, Valued, NamesDiffer, Reaches, Based, Lawful}
 use Rattle.sj_bodies.proofs.Contexts.{Came}
 use Rattle.sj_bodies.proofs.Main.{does}
 use Rattle.sj_bodies.proofs.Trees.{LowAlike}
-use Rattle.sj_plain.proofs.Worlds.{World, SameValues}
+use Rattle.sj_bodies.proofs.Worlds.{World, SameValues}
 use Rattle.std.proofs.lemmas.Bool.{or_from}
-use Rattle.body_rules.specs.Standing.{types_referred, call_type}
+use Rattle.sj_bodies.specs.Standing.{types_referred, call_type}
 use Rattle.sj_calls.specs.Methods.{Linked, CallsAlone, CallsAgree, ir_call, js_call}
 use Rattle.sj_calls.proofs.Calls.{call_alike}
-use Rattle.body_rules.proofs.RulesGive.{no_division}
-use Rattle.body_rules.specs.Subtyping.{IsSubtyping}
-use Rattle.sj_world.specs.Subtypes.{IsSub}
+use Rattle.sj_bodies.proofs.RulesGive.{no_division}
+use Rattle.sj_bodies.specs.Subtyping.{IsSubtyping}
+use Rattle.dispatch_laws.specs.Subtypes.{IsSub}
 
 module _ (p : Place) (ordered : IsSubtyping (IsSub p.classes)) (names : NamesDiffer p) (linked : (f : Name) (m : Member) → (p.has f).linked m ≡ true → Linked p m) (alone : CallsAlone p) where
   -- a body in a file of the place, with what the levels of these bounds give

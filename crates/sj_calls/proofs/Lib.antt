@@ -20,5 +20,10 @@ pub mod Setters
 pub mod Shapes
 pub mod Whole
 pub mod Zeros
-pub use Rattle.entry_rules.proofs.Owners
+pub use Rattle.class_casts.proofs.Owners
 pub use Rattle.class_casts.proofs.Marked
+pub use Rattle.sj_bodies.proofs.Equal
+pub use Rattle.sj_bodies.proofs.Lists
+pub use Rattle.sj_bodies.proofs.Names as SjProperNames
+pub use Rattle.class_casts.proofs.Markers
+pub use Rattle.class_casts.proofs.Reflective

@@ -1,18 +1,18 @@
 -- The names of the emitted code differ.
 use Rattle.std.proofs.Common.{◌≡◌, ◌≤◌, ℕ, Bool, true, false, List, ◌∷◌, refl, ap, sym, ◌∙◌, arith}
 use Rattle.std.specs.Prelude.{codes}
-use Rattle.helper_rules.specs.Helpers.{helper_name}
-use Rattle.helper_rules.specs.declared.kinds.Helper.{Helper}
-use Rattle.helper_rules.specs.declared.kinds.Helper.TheVariants as helpers
-use Rattle.helper_rules.specs.declared.kinds.Failure.TheVariants as failures
+use Rattle.class_casts.specs.Helpers.{helper_name}
+use Rattle.sj_bodies.specs.Helper.{Helper}
+use Rattle.class_casts.specs.HelperVariants as helpers
+use Rattle.class_casts.specs.FailureVariants as failures
 use Rattle.outcomes.specs.Agreement.{Room}
-use Rattle.ir_mean.specs.World as ir_world
+use Rattle.dispatch_laws.specs.World as ir_world
 use Rattle.js_mean.specs.States as js
 use Rattle.js_tree.specs.Terms.{Name}
 use Rattle.sj_core.specs.Terms.{Variable, named, numbered, receiver}
-use Rattle.sj_emit_expr.specs.Names.{variable_name}
-use Rattle.sj_emit_expr.specs.Templates.{member_name, static_name, setter_name}
-use Rattle.sj_emit_expr.specs.Tests.{test_name, cast_name}
+use Rattle.dispatch_laws.specs.Names.{variable_name}
+use Rattle.dispatch_laws.specs.Templates.{member_name, static_name, setter_name}
+use Rattle.dispatch_laws.specs.Tests.{test_name, cast_name}
 use Rattle.sj_mangling.specs.Bindings.{function_name, class_binding}
 use Rattle.sj_mangling.specs.declared.bindings.ClassBinding.TheVariants.{Constants}
 use Rattle.sj_mangling.specs.declared.bindings.ClassBinding.TheVariants as class_bindings
@@ -23,12 +23,12 @@ use Rattle.sj_names.specs.declared.method_names.Member.{Member}
 use Rattle.sj_names.specs.declared.method_names.MethodName.{MethodName}
 use Rattle.sj_names.specs.declared.method_names.Namespace.{Namespace}
 use Rattle.sj_names.specs.declared.method_names.Namespace.TheVariants.{Public, PublicStatic, Private, PrivateStatic, Constructor}
-use Rattle.sj_plain.specs.Settings.{Top, a_function, a_method, a_constructor, a_class, some_constants, a_static, a_setter, a_test, a_cast, a_helper, top_name, NamesDiffer}
+use Rattle.sj_bodies.specs.Settings.{Top, a_function, a_method, a_constructor, a_class, some_constants, a_static, a_setter, a_test, a_cast, a_helper, top_name, NamesDiffer}
 use Rattle.sj_trees.specs.declared.types.IrType.{IrType}
 use Rattle.sj_trees.specs.declared.types.IrType.TheVariants.{Class}
-use Rattle.sj_proper.proofs.Names.{first, heads, tails, low-numeral, variables-differ, labels-differ}
+use Rattle.sj_bodies.proofs.Names.{first, heads, tails, low-numeral, variables-differ, labels-differ}
 use Rattle.sj_calls.specs.Names.{emitted_in}
-use Rattle.built_forms.specs.Built.{Usable}
+use Rattle.sj_bodies.specs.Built.{Usable}
 
 -- the name of a function begins with `f`, `s`, `p` or `c`
 begins : (n : Namespace) (c : List ℕ) (k : MethodName) (a : ℕ) (rest : List ℕ) → a ∷ rest ≡ function_name n c k → (99 ≤ a) × (a ≤ 115)

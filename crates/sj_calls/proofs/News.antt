@@ -4,16 +4,16 @@ use Rattle.std.proofs.Common.{◌≡◌, ℕ, zero, suc, List, [], length, refl,
 use Rattle.outcomes.specs.Outcome.{done}
 use Rattle.outcomes.specs.Agreement.{Direction, forward, backward, Sim}
 use Rattle.outcomes.proofs.Simulation.{sim_done, sim_going}
-use Rattle.ir_mean.specs.Dispatch.{chain_of}
-use Rattle.ir_mean.specs.States as ir
+use Rattle.dispatch_laws.specs.Dispatch.{chain_of}
+use Rattle.dispatch_laws.specs.States as ir
 use Rattle.js_mean.specs.Meaning as js_meaning
 use Rattle.js_mean.specs.Objects.{allocated}
 use Rattle.js_mean.specs.States as js
-use Rattle.sj_emit_expr.specs.Templates.{static_name}
-use Rattle.sj_plain.specs.Settings.{Place, SameState, Makes, makes, a_static, link_of, links_of}
-use Rattle.sj_plain.proofs.Heaps.{holding-carry, pends, unpending}
-use Rattle.sj_plain.specs.Worlds.{with_pending}
-use Rattle.sj_plain.proofs.Worlds.{World}
+use Rattle.dispatch_laws.specs.Templates.{static_name}
+use Rattle.sj_bodies.specs.Settings.{Place, SameState, Makes, makes, a_static, link_of, links_of}
+use Rattle.sj_bodies.proofs.Heaps.{holding-carry, pends, unpending}
+use Rattle.sj_bodies.specs.Worlds.{with_pending}
+use Rattle.sj_bodies.proofs.Worlds.{World}
 use Rattle.sj_calls.specs.Worlds.{Stands}
 use Rattle.sj_calls.proofs.Making.{chains_make, short_bounds_go}
 

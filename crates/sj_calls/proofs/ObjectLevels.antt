@@ -3,34 +3,34 @@ use Rattle.std.specs.Prelude.{◌+◌, ◌*◌, ◌≤◌, ◌&&◌, not, codes}
 use Rattle.std.proofs.Common.{◌≡◌, ℕ, zero, suc, Bool, true, false, List, [], ◌∷◌, Some, length, refl, sym, ap, subst, arith}
 use Rattle.outcomes.specs.Agreement.{Direction, forward, backward, Enough, Sim}
 use Rattle.outcomes.proofs.Simulation.{sim_over, sim_going}
-use Rattle.helper_rules.specs.declared.kinds.Failure.TheVariants.{NullReceiver, Division, Cast}
-use Rattle.helper_rules.specs.Helpers.{kind_word}
-use Rattle.helper_rules.specs.Words.{units_of}
-use Rattle.helper_rules.specs.declared.kinds.Helper.{Helper}
-use Rattle.helper_rules.specs.declared.kinds.Helper.TheVariants.{Equal, NotNull, Throws}
+use Rattle.class_casts.specs.FailureVariants.{NullReceiver, Division, Cast}
+use Rattle.class_casts.specs.Helpers.{kind_word}
+use Rattle.class_casts.specs.Words.{units_of}
+use Rattle.sj_bodies.specs.Helper.{Helper}
+use Rattle.class_casts.specs.HelperVariants.{Equal, NotNull, Throws}
 use Rattle.dispatch_laws.proofs.OwnTargets.{called_target}
 use Rattle.dispatch_laws.specs.Targets.{IsTargetOf}
-use Rattle.ir_mean.specs.Dispatch.{chain_of}
-use Rattle.ir_mean.specs.Meaning as ir_meaning
-use Rattle.ir_mean.specs.States as ir
-use Rattle.ir_mean.specs.World.{member_of}
+use Rattle.dispatch_laws.specs.Dispatch.{chain_of}
+use Rattle.dispatch_laws.specs.Meaning as ir_meaning
+use Rattle.dispatch_laws.specs.States as ir
+use Rattle.dispatch_laws.specs.World.{member_of}
 use Rattle.js_mean.specs.Meaning as js_meaning
 use Rattle.js_mean.specs.States as js
 use Rattle.js_tree.specs.Terms.{Name}
-use Rattle.sj_desugar.specs.Desugar.{into, is_mutable_in}
-use Rattle.sj_emit_expr.specs.Templates.{called_member, statement_templates}
+use Rattle.sj_bodies.specs.Desugar.{into, is_mutable_in}
+use Rattle.dispatch_laws.specs.Templates.{called_member, statement_templates}
 use Rattle.sj_names.specs.declared.method_names.Member.{Member}
 use Rattle.sj_names.specs.declared.method_names.MethodName.{MethodName}
-use Rattle.sj_desugar.specs.Coercions.{is_char}
-use Rattle.body_rules.proofs.Fitting.{fits-sub}
-use Rattle.sj_plain.proofs.Boxes.{class-no-char}
+use Rattle.sj_bodies.specs.Coercions.{is_char}
+use Rattle.sj_bodies.proofs.Fitting.{fits-sub}
+use Rattle.sj_bodies.proofs.Boxes.{class-no-char}
 use Rattle.sure_receivers.specs.Sure.{sure_locals}
-use Rattle.sj_plain.specs.Settings.{Place, Code, a_function, a_method, a_constructor, a_setter, a_helper, division_helper, Setting, SameState, Valued, Built, NamesDiffer, Reaches, Based, Lawful, BuildsAlike, ReceivesAlike, SetsAlike, ChecksAlike, DividesAlike, HasFunction, TestsAlike, CastsAlike, ComparesAlike, IsReceiver, a_test, a_cast, top_call}
-use Rattle.body_rules.specs.Standing.{Fits, types_referred, call_type}
-use Rattle.built_forms.proofs.Statics.{set_static}
-use Rattle.built_forms.specs.Built.{divides}
-use Rattle.ir_mean.specs.Operators.{binary_value}
-use Rattle.sj_desugar.specs.Desugar.{member}
+use Rattle.sj_bodies.specs.Settings.{Place, Code, a_function, a_method, a_constructor, a_setter, a_helper, division_helper, Setting, SameState, Valued, Built, NamesDiffer, Reaches, Based, Lawful, BuildsAlike, ReceivesAlike, SetsAlike, ChecksAlike, DividesAlike, HasFunction, TestsAlike, CastsAlike, ComparesAlike, IsReceiver, a_test, a_cast, top_call}
+use Rattle.sj_bodies.specs.Standing.{Fits, types_referred, call_type}
+use Rattle.sj_bodies.proofs.Statics.{set_static}
+use Rattle.sj_bodies.specs.Built.{divides}
+use Rattle.dispatch_laws.specs.Operators.{binary_value}
+use Rattle.sj_bodies.specs.Desugar.{member}
 use Rattle.sj_names.specs.declared.method_names.Namespace.TheVariants.{Constructor}
 use Rattle.sj_trees.specs.TypeOf.{binary_result}
 use Rattle.sj_trees.specs.Types.{class_type}
@@ -38,14 +38,14 @@ use Rattle.sj_trees.specs.declared.operators.BinaryOp.{BinaryOp}
 use Rattle.sj_trees.specs.declared.operators.BinaryOp.TheVariants.{StrictEqual}
 use Rattle.sj_trees.specs.declared.types.IrType.{IrType}
 use Rattle.sj_trees.specs.declared.types.IrType.TheVariants.{Any, Boolean, NoType, Class}
-use Rattle.sj_plain.proofs.Worlds.{World, SameValues, value-fits}
+use Rattle.sj_bodies.proofs.Worlds.{World, SameValues, value-fits}
 use Rattle.sj_bodies.proofs.Contexts.{Came}
 use Rattle.sj_bodies.proofs.Main.{does}
 use Rattle.sj_bodies.proofs.Trees.{LowAlike}
-use Rattle.body_rules.specs.Subtyping.{IsSubtyping}
-use Rattle.sj_world.specs.Known.{is_hijacked}
-use Rattle.sj_world.specs.Laws.{IsPlain}
-use Rattle.sj_world.specs.Subtypes.{IsSub}
+use Rattle.sj_bodies.specs.Subtyping.{IsSubtyping}
+use Rattle.dispatch_laws.specs.Known.{is_hijacked}
+use Rattle.dispatch_laws.specs.SjWorldLaws.{IsPlain}
+use Rattle.dispatch_laws.specs.Subtypes.{IsSub}
 use Rattle.sj_calls.specs.Helpers.{Failed, CanTest, ClassTest, Tested, of_kind, of_class, CanCompare}
 use Rattle.sj_calls.specs.Methods.{Linked, CallsAgree, ir_call, js_call}
 use Rattle.sj_calls.specs.Objects.{RunsOn, Constructs}

@@ -4,32 +4,32 @@ use Rattle.outcomes.specs.Outcome.{Out, done, then_do}
 use Rattle.outcomes.specs.Agreement.{Direction, Sim}
 use Rattle.outcomes.proofs.Simulation.{sim_done, sim_wrong, sim_then}
 use Rattle.outcomes.proofs.Sequence.{then_do-associative}
-use Rattle.ir_mean.specs.Meaning as ir_meaning
-use Rattle.ir_mean.specs.States as ir
-use Rattle.ir_mean.specs.World.{member_of}
+use Rattle.dispatch_laws.specs.Meaning as ir_meaning
+use Rattle.dispatch_laws.specs.States as ir
+use Rattle.dispatch_laws.specs.World.{member_of}
 use Rattle.js_mean.specs.Files.{owner}
 use Rattle.js_mean.specs.Meaning as js_meaning
 use Rattle.js_mean.specs.States as js
 use Rattle.js_tree.specs.Terms.{Name}
 use Rattle.sj_core.specs.Terms as core
-use Rattle.sj_desugar.specs.Desugar.{into, is_mutable_in, result_destination, names_of}
-use Rattle.sj_desugar.specs.Spill.{Destination, discard}
-use Rattle.sj_emit_expr.specs.Templates.{statement_templates}
+use Rattle.sj_bodies.specs.Desugar.{into, is_mutable_in, result_destination, names_of}
+use Rattle.sj_bodies.specs.Spill.{Destination, discard}
+use Rattle.dispatch_laws.specs.Templates.{statement_templates}
 use Rattle.sj_names.specs.declared.method_names.Member.{Member}
 use Rattle.sj_trees.specs.declared.classes.MethodDef.{MethodDef}
 use Rattle.sj_trees.specs.declared.types.IrType.{IrType}
-use Rattle.body_rules.specs.Locals.{parameters_of, Own, Scope}
-use Rattle.sj_plain.specs.Settings.{Place, Code, Receiving, on_receiver, IsReceiver, Setting, SameState, Valued, Built, built, failed, run, NamesDiffer, OfNoVariable, Holding, a_method, a_constructor, top_call}
+use Rattle.sj_bodies.specs.Locals.{parameters_of, Own, Scope}
+use Rattle.sj_bodies.specs.Settings.{Place, Code, Receiving, on_receiver, IsReceiver, Setting, SameState, Valued, Built, built, failed, run, NamesDiffer, OfNoVariable, Holding, a_method, a_constructor, top_call}
 use Rattle.sj_bodies.proofs.Contexts.{Context, Ready, let_go, Came, gave, left, threw, stopped}
-use Rattle.body_rules.proofs.Equal.{differs, equals}
+use Rattle.sj_bodies.proofs.Equal.{differs, equals}
 use Rattle.sj_bodies.proofs.Statements.{run-followed}
 use Rattle.sj_bodies.proofs.Trees.{LowAlike}
-use Rattle.sj_plain.proofs.Worlds.{World, SameValues}
+use Rattle.sj_bodies.proofs.Worlds.{World, SameValues}
 use Rattle.sj_calls.specs.Methods.{parameters_in}
 use Rattle.sj_calls.specs.Objects.{function_on, body_of, constructor_body, RunsOn, Constructs}
 use Rattle.sj_calls.proofs.Calls.{start, sound-start, ahead-start, outside-start, way, writes-nothing, body-fine, comes_back, Bound, bound, parameters-free, body-free}
 use Rattle.sj_bodies.specs.Fine.{Fine, no_labels}
-use Rattle.body_rules.specs.Standing.{types_referred, call_type}
+use Rattle.sj_bodies.specs.Standing.{types_referred, call_type}
 use Rattle.sure_receivers.specs.Sure.{sure_locals}
 
 receiver-named : (x : List ℕ) → core.named x ≡ core.receiver → ⊥

@@ -8,11 +8,11 @@ use Rattle.outcomes.specs.Outcome.{Out, done, then_do}
 use Rattle.outcomes.specs.Agreement.{Direction, Sim}
 use Rattle.outcomes.proofs.Simulation.{sim_done}
 use Rattle.class_casts.proofs.Bridge.{return_hands_on}
-use Rattle.helper_rules.specs.Helpers.{helper_name, equality, both_boxed, is_boxed, same_units, same_values}
-use Rattle.helper_rules.specs.declared.kinds.Helper.TheVariants.{BoxedChar, Equal}
-use Rattle.ir_mean.specs.Meaning as ir_meaning
-use Rattle.ir_mean.specs.Operators.{binary_value, is_same_value}
-use Rattle.ir_mean.specs.States as ir
+use Rattle.class_casts.specs.Helpers.{helper_name, equality, both_boxed, is_boxed, same_units, same_values}
+use Rattle.class_casts.specs.HelperVariants.{BoxedChar, Equal}
+use Rattle.dispatch_laws.specs.Meaning as ir_meaning
+use Rattle.dispatch_laws.specs.Operators.{binary_value, is_same_value}
+use Rattle.dispatch_laws.specs.States as ir
 use Rattle.js_mean.specs.Files.{owner}
 use Rattle.js_mean.specs.Meaning as js_meaning
 use Rattle.js_mean.specs.Objects.{is_instance, property}
@@ -23,10 +23,10 @@ use Rattle.js_tree.specs.declared.operators.BinaryOperator.TheVariants as Op
 use Rattle.sj_names.proofs.Same.{impossible}
 use Rattle.sj_trees.specs.declared.operators.BinaryOp.TheVariants.{StrictEqual}
 use Rattle.sj_trees.specs.declared.types.IrType.TheVariants.{Any, Boolean}
-use Rattle.sj_plain.specs.Settings.{Place, SameState, Valued, valued, a_helper, top_call}
-use Rattle.sj_plain.proofs.Operators.{same-boolean}
-use Rattle.sj_plain.proofs.Tests.{same_is}
-use Rattle.sj_plain.proofs.Worlds.{World, grows-refl, SameValue, IsBox, Stands, same_boolean, same_char, same_box, same_reference}
+use Rattle.sj_bodies.specs.Settings.{Place, SameState, Valued, valued, a_helper, top_call}
+use Rattle.sj_bodies.proofs.Operators.{same-boolean}
+use Rattle.sj_bodies.proofs.Tests.{same_is}
+use Rattle.sj_bodies.proofs.Worlds.{World, grows-refl, SameValue, IsBox, Stands, same_boolean, same_char, same_box, same_reference}
 use Rattle.sj_calls.specs.Helpers.{helper_code, CanCompare}
 use Rattle.sj_calls.proofs.Boxed.{is_unit, boxes, unit_held, told_boxed}
 

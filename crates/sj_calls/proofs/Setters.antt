@@ -2,20 +2,20 @@
 use Rattle.std.proofs.Common.{◌≡◌, ℕ, suc, Bool, true, false, List, [], ◌∷◌, Option, Some, refl, sym, ap, ◌∙◌, subst, if◌then◌else◌}
 use Rattle.std.specs.Prelude.{◌&&◌}
 use Rattle.std.proofs.lemmas.Bool.{and_parts}
-use Rattle.built_forms.specs.Built.{has_static}
-use Rattle.body_rules.proofs.Equal.{differs, equals, is-equal}
+use Rattle.sj_bodies.specs.Built.{has_static}
+use Rattle.sj_bodies.proofs.Equal.{differs, equals, is-equal}
 use Rattle.outcomes.specs.Outcome.{Out, done, then_do}
 use Rattle.outcomes.specs.Agreement.{Direction, Sim}
 use Rattle.outcomes.proofs.Simulation.{sim_done}
-use Rattle.ir_mean.specs.Meaning as ir_meaning
-use Rattle.ir_mean.specs.States as ir
+use Rattle.dispatch_laws.specs.Meaning as ir_meaning
+use Rattle.dispatch_laws.specs.States as ir
 use Rattle.js_mean.specs.Meaning as js_meaning
 use Rattle.js_mean.specs.States as js
 use Rattle.js_tree.specs.Terms.{Name, no_statements}
-use Rattle.sj_emit_expr.specs.Templates.{static_name}
+use Rattle.dispatch_laws.specs.Templates.{static_name}
 use Rattle.sj_names.specs.Same.{is_same_text}
-use Rattle.sj_plain.specs.Settings.{Place, Top, a_static, a_setter, top_name, top_call, is_usable, TopHolds, IsStaticField, SameState, Holding, holding, Valued, valued}
-use Rattle.sj_plain.proofs.Worlds.{World, grows-refl, SameValue, same_undefined}
+use Rattle.sj_bodies.specs.Settings.{Place, Top, a_static, a_setter, top_name, top_call, is_usable, TopHolds, IsStaticField, SameState, Holding, holding, Valued, valued}
+use Rattle.sj_bodies.proofs.Worlds.{World, grows-refl, SameValue, same_undefined}
 use Rattle.sj_trees.specs.declared.types.IrType.{IrType}
 use Rattle.sj_trees.specs.declared.types.IrType.TheVariants.{NoType}
 use Rattle.sj_calls.specs.Worlds.{StaticStands, setter_code}

@@ -2,16 +2,16 @@
 use Rattle.std.proofs.Common.{◌≡◌, Bool, true, false, List, [], ◌∷◌, Some, None, refl, sym, ap, ◌∙◌, subst, if◌then◌else◌, arith}
 use Rattle.std.specs.List.{list_any}
 use Rattle.std.specs.Prelude.{pos}
-use Rattle.ir_mean.specs.Dispatch.{chain_of}
-use Rattle.ir_mean.specs.States as ir
-use Rattle.ir_mean.specs.World as ir_world
+use Rattle.dispatch_laws.specs.Dispatch.{chain_of}
+use Rattle.dispatch_laws.specs.States as ir
+use Rattle.dispatch_laws.specs.World as ir_world
 use Rattle.js_mean.specs.States as js
 use Rattle.js_tree.specs.Terms.{Name}
 use Rattle.sj_mangling.specs.Bindings.{field_binding}
 use Rattle.sj_mangling.specs.declared.bindings.FieldBinding.TheVariants.{Property}
 use Rattle.sj_names.specs.Same.{is_same_text}
-use Rattle.sj_plain.specs.Settings.{Place, IsField, FieldsDiffer, SameState, SameField, same_field, no_field, same_object, link_of}
-use Rattle.sj_plain.specs.Worlds.{World, SameValue, same_undefined, same_null, same_boolean, same_char, same_number, same_long, same_text}
+use Rattle.sj_bodies.specs.Settings.{Place, IsField, FieldsDiffer, SameState, SameField, same_field, no_field, same_object, link_of}
+use Rattle.sj_bodies.specs.Worlds.{World, SameValue, same_undefined, same_null, same_boolean, same_char, same_number, same_long, same_text}
 use Rattle.sj_trees.specs.declared.types.IrType.{IrType}
 use Rattle.sj_trees.specs.declared.types.IrType.TheVariants as Types
 use Rattle.sj_calls.specs.Chains.{ChainStands, MadeBy, ChainFields, BeginsAtZero}

@@ -12,22 +12,22 @@ use Rattle.class_casts.proofs.Kinded.{test_passes}
 use Rattle.class_casts.specs.Kinds.{KindTestStands, passes}
 use Rattle.class_casts.proofs.Smallest.{small_tests_tell}
 use Rattle.class_casts.specs.ClassTestsKinds.{BoxesStand}
-use Rattle.helper_rules.specs.Helpers.{helper_name}
-use Rattle.helper_rules.specs.declared.kinds.Helper.TheVariants.{BoxedChar, TestOf}
-use Rattle.helper_rules.specs.declared.kinds.Kind.{Kind}
-use Rattle.helper_rules.specs.declared.kinds.Kind.TheVariants as kinds
-use Rattle.ir_mean.specs.Dispatch.{is_small}
-use Rattle.ir_mean.specs.Meaning as ir_meaning
-use Rattle.ir_mean.specs.States as ir
+use Rattle.class_casts.specs.Helpers.{helper_name}
+use Rattle.class_casts.specs.HelperVariants.{BoxedChar, TestOf}
+use Rattle.class_casts.specs.Kind.{Kind}
+use Rattle.class_casts.specs.KindVariants as kinds
+use Rattle.dispatch_laws.specs.Dispatch.{is_small}
+use Rattle.dispatch_laws.specs.Meaning as ir_meaning
+use Rattle.dispatch_laws.specs.States as ir
 use Rattle.js_mean.specs.Meaning as js_meaning
 use Rattle.js_mean.specs.States as js
 use Rattle.js_tree.specs.Terms.{Name}
-use Rattle.sj_emit_expr.specs.Tests.{test_name}
+use Rattle.dispatch_laws.specs.Tests.{test_name}
 use Rattle.sj_names.proofs.Same.{impossible}
 use Rattle.sj_trees.specs.declared.types.IrType.{IrType}
 use Rattle.sj_trees.specs.declared.types.IrType.TheVariants.{Any, Undefined, Boolean, Char, Byte, Short, Int, Long, String, Array}
-use Rattle.sj_plain.specs.Settings.{Place, SameState, Valued, valued, HasFunction, a_test, a_helper, top_call}
-use Rattle.sj_plain.proofs.Worlds.{World, grows-refl, SameValue, Stands, same_boolean, same_char, same_box, same_number, same_reference}
+use Rattle.sj_bodies.specs.Settings.{Place, SameState, Valued, valued, HasFunction, a_test, a_helper, top_call}
+use Rattle.sj_bodies.proofs.Worlds.{World, grows-refl, SameValue, Stands, same_boolean, same_char, same_box, same_number, same_reference}
 use Rattle.sj_calls.specs.Helpers.{kind_of, CanTest, ReachesBoxes, ReachesTest}
 use Rattle.sj_calls.proofs.Boxed.{boxes, box_below, object_apart}
 use Rattle.sj_calls.proofs.Sameness.{both_pass}

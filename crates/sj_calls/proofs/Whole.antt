@@ -4,16 +4,16 @@ use Rattle.std.specs.Int.{w32, w64}
 use Rattle.std.specs.Prelude.{ℤ, pos, negsuc, codes, FitsSigned, nat_lt}
 use Rattle.std.specs.List.{list_all}
 use Rattle.std.proofs.lemmas.Bool.{and_parts}
-use Rattle.body_rules.proofs.Lists.{at_front, further_on}
+use Rattle.sj_bodies.proofs.Lists.{at_front, further_on}
 use Rattle.outcomes.specs.Outcome.{Out, done, wrong, then_do}
 use Rattle.outcomes.specs.Shown as shown
 use Rattle.outcomes.specs.Shown.{normal, uncaught, Shown}
 use Rattle.outcomes.specs.Agreement.{Direction, forward, backward, Room, Enough, no_room, Sim, IsNotWrong, Agree}
 use Rattle.outcomes.proofs.Sequence.{then_do-associative}
 use Rattle.outcomes.proofs.Simulation.{sim_done, sim_then, agree-from_sim}
-use Rattle.ir_mean.specs.Shows as ir_showing
-use Rattle.ir_mean.specs.States as ir
-use Rattle.ir_mean.specs.World as ir_world
+use Rattle.dispatch_laws.specs.Shows as ir_showing
+use Rattle.dispatch_laws.specs.States as ir
+use Rattle.dispatch_laws.specs.World as ir_world
 use Rattle.js_mean.specs.Files as files
 use Rattle.js_mean.specs.Meaning as js_meaning
 use Rattle.js_mean.specs.Objects as js_objects
@@ -24,26 +24,26 @@ use Rattle.js_mean.specs.Shows as js_showing
 use Rattle.js_mean.specs.States as js
 use Rattle.js_tree.specs.Terms.{Name, Item, Module, call_of, no_expressions}
 use Rattle.sj_core.specs.Terms.{named}
-use Rattle.sj_desugar.specs.Desugar.{desugared}
-use Rattle.sj_emit_expr.specs.Templates.{member_name, parameter_names}
+use Rattle.sj_bodies.specs.Desugar.{desugared}
+use Rattle.dispatch_laws.specs.Templates.{member_name, parameter_names}
 use Rattle.sj_names.specs.declared.entry_points.EntryPoint.{EntryPoint}
 use Rattle.sj_names.specs.declared.method_names.Member.{Member}
-use Rattle.sj_plain.specs.Settings.{some_constants, a_static, a_setter, a_test, a_cast, links_of, box_link, SameStored, same_object, a_method, a_constructor, a_helper, Place, Top, a_function, a_class, top_name, is_usable, TopHolds, SameHeap, SameState, Valued, valued, thrown, NamesDiffer, Reaches}
-use Rattle.sj_plain.specs.Worlds.{World, nothing_made, Stands, same_undefined, same_null, same_boolean, same_char, same_box, IsBox, same_number, same_long, same_text, same_reference, no_values}
-use Rattle.sj_plain.specs.Standing.{suits}
+use Rattle.sj_bodies.specs.Settings.{some_constants, a_static, a_setter, a_test, a_cast, links_of, box_link, SameStored, same_object, a_method, a_constructor, a_helper, Place, Top, a_function, a_class, top_name, is_usable, TopHolds, SameHeap, SameState, Valued, valued, thrown, NamesDiffer, Reaches}
+use Rattle.sj_bodies.specs.Worlds.{World, nothing_made, Stands, same_undefined, same_null, same_boolean, same_char, same_box, IsBox, same_number, same_long, same_text, same_reference, no_values}
+use Rattle.sj_bodies.specs.SjPlainStanding.{suits}
 use Rattle.sj_names.proofs.Same.{impossible}
 use Rattle.sj_trees.specs.declared.types.IrType.TheVariants.{Any, NoType}
-use Rattle.body_rules.proofs.Equal.{equals}
-use Rattle.sj_proper.specs.Emitted.{EmittedMethod, function_item_of, initializer_member, call_item_of, module_with}
+use Rattle.sj_bodies.proofs.Equal.{equals}
+use Rattle.sj_bodies.specs.Emitted.{EmittedMethod, function_item_of, initializer_member, call_item_of, module_with}
 use Rattle.sj_calls.specs.Files.{program_with, IsEmitted, HasFunction}
 use Rattle.sj_calls.specs.Methods.{CallsAlone, CallsAgree, parameters_in, function_of, Linked, ir_call, js_call}
 use Rattle.sj_calls.specs.Names.{emitted_in}
 use Rattle.sj_calls.proofs.Items.{code_with, code_found, cell_found}
-use Rattle.body_rules.proofs.InWorld.{in_world}
+use Rattle.sj_bodies.proofs.InWorld.{in_world}
 use Rattle.sj_calls.proofs.Levels.{calls_agree}
-use Rattle.sj_world.specs.Laws.{IsPlain}
+use Rattle.dispatch_laws.specs.SjWorldLaws.{IsPlain}
 use Rattle.sj_calls.proofs.Names.{emitted_names_differ}
-use Rattle.built_forms.specs.Built.{Usable, members_alone}
+use Rattle.sj_bodies.specs.Built.{Usable, members_alone}
 
 -- a program of one file, and what is found in it
 abbrev pub alone : Name → Module → js.Program

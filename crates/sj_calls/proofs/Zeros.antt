@@ -3,7 +3,7 @@ use Rattle.std.proofs.Common.{◌≡◌, Bool, true, false, List, [], ◌∷◌,
 use Rattle.std.specs.Prelude.{◌||◌}
 use Rattle.std.specs.List.{list_any}
 use Rattle.std.proofs.lemmas.Slice.Eq.{bytes_eq-Decides}
-use Rattle.ir_mean.specs.States as ir
+use Rattle.dispatch_laws.specs.States as ir
 use Rattle.js_mean.specs.Objects.{with_property}
 use Rattle.js_mean.specs.States as js
 use Rattle.js_tree.specs.Terms.{Name}
@@ -11,8 +11,8 @@ use Rattle.sj_mangling.specs.Bindings.{field_binding}
 use Rattle.sj_mangling.specs.declared.bindings.FieldBinding.TheVariants.{Property}
 use Rattle.sj_names.proofs.Same.{impossible}
 use Rattle.sj_names.specs.Same.{is_same_text}
-use Rattle.sj_plain.specs.Settings.{Place, IsField, FieldsDiffer, SameState}
-use Rattle.sj_plain.specs.Worlds.{World}
+use Rattle.sj_bodies.specs.Settings.{Place, IsField, FieldsDiffer, SameState}
+use Rattle.sj_bodies.specs.Worlds.{World}
 use Rattle.sj_trees.specs.declared.classes.FieldDef.{FieldDef}
 use Rattle.sj_trees.specs.declared.types.IrType.{IrType}
 use Rattle.sj_calls.specs.Chains.{ChainStands, extends_none, extends_one, AllFields, HasAmong, ChainFields}

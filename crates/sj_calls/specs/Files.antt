@@ -1,15 +1,15 @@
 -- A file that has the functions of methods, and behind them the calls of initializers.
-use Rattle.sj_proper.specs.Emitted.{EmittedMethod, module_with}
+use Rattle.sj_bodies.specs.Emitted.{EmittedMethod, module_with}
 use Rattle.std.specs.Prelude.{◌≡◌, ℕ, List, [], ◌∷◌, Some}
 use Rattle.std.specs.List.{Contains}
-use Rattle.ir_mean.specs.World.{World, member_of}
+use Rattle.dispatch_laws.specs.World.{World, member_of}
 use Rattle.js_mean.specs.Shows.{file_of}
 use Rattle.js_mean.specs.States.{Program}
 use Rattle.sj_names.specs.declared.entry_points.EntryPoint.{EntryPoint}
 use Rattle.sj_names.specs.declared.method_names.Member.{Member}
-use Rattle.sj_proper.specs.Methods.{KeepsRules, HaveTypes}
-use Rattle.built_forms.specs.Built.{Usable}
-use Rattle.body_rules.specs.Standing.{call_type}
+use Rattle.sj_bodies.specs.Methods.{KeepsRules, HaveTypes}
+use Rattle.sj_bodies.specs.Built.{Usable}
+use Rattle.sj_bodies.specs.Standing.{call_type}
 
 -- this module as the one file of a public module
 abbrev pub program_with : List ℕ → List EmittedMethod → List EntryPoint → Program

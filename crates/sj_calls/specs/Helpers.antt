@@ -3,7 +3,7 @@ use Rattle.std.specs.Prelude.{◌≡◌, ℕ, true, false, List, [], ◌∷◌, 
 use Rattle.std.specs.List.{Contains}
 use Rattle.class_casts.specs.Classes.{hijacked_test_code}
 use Rattle.class_casts.specs.Tests.{class_test_code}
-use Rattle.ir_mean.specs.States as ir
+use Rattle.dispatch_laws.specs.States as ir
 use Rattle.js_mean.specs.Classes.{members_of}
 use Rattle.js_mean.specs.Files.{owner}
 use Rattle.js_mean.specs.Meaning as js_meaning
@@ -11,20 +11,20 @@ use Rattle.js_mean.specs.Objects.{no_properties, with_property}
 use Rattle.js_mean.specs.States as js
 use Rattle.js_tree.specs.Terms.{Name, Expression, Item, function_item, throw_of, return_of, text_literal}
 use Rattle.js_tree.specs.Views.{statements_of}
-use Rattle.helper_rules.specs.Helpers.{raise, zero_check, helper_name, helper_item, box_constructor}
-use Rattle.helper_rules.specs.Words.{kind_class, worded_kinds}
-use Rattle.helper_rules.specs.declared.kinds.Helper.{Helper}
-use Rattle.helper_rules.specs.declared.kinds.Helper.TheVariants.{BoxedChar, ConstantsOf, Equal, NotNull, TestOf}
-use Rattle.helper_rules.specs.declared.kinds.Kind.{Kind}
-use Rattle.helper_rules.specs.declared.kinds.Kind.TheVariants as kinds
-use Rattle.piece_rules.specs.Classes.{AreInstances}
-use Rattle.sj_emit_expr.specs.Tests.{test_name}
-use Rattle.sj_plain.specs.Settings.{Place, a_test, a_helper, box_link, division_helper, SameState}
-use Rattle.sj_plain.specs.Worlds.{World, Grows, SameValue}
+use Rattle.class_casts.specs.Helpers.{raise, zero_check, helper_name, helper_item, box_constructor}
+use Rattle.class_casts.specs.Words.{kind_class, worded_kinds}
+use Rattle.sj_bodies.specs.Helper.{Helper}
+use Rattle.class_casts.specs.HelperVariants.{BoxedChar, ConstantsOf, Equal, NotNull, TestOf}
+use Rattle.class_casts.specs.Kind.{Kind}
+use Rattle.class_casts.specs.KindVariants as kinds
+use Rattle.class_casts.specs.PieceRulesClasses.{AreInstances}
+use Rattle.dispatch_laws.specs.Tests.{test_name}
+use Rattle.sj_bodies.specs.Settings.{Place, a_test, a_helper, box_link, division_helper, SameState}
+use Rattle.sj_bodies.specs.Worlds.{World, Grows, SameValue}
 use Rattle.sj_trees.specs.declared.operators.BinaryOp.{BinaryOp}
 use Rattle.sj_trees.specs.declared.types.IrType.{IrType}
 use Rattle.sj_trees.specs.declared.types.IrType.TheVariants.{Any, Undefined, Boolean, Char, Byte, Short, Int, Long, String, Class}
-use Rattle.sj_world.specs.Known.{is_hijacked}
+use Rattle.dispatch_laws.specs.Known.{is_hijacked}
 
 -- the code of an item that declares a function
 abbrev pub code_of_item : Item → js_meaning.Code

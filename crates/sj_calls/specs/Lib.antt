@@ -8,7 +8,8 @@ pub mod Objects
 pub mod Worlds
 pub use Rattle.class_casts.specs.Classes as ClassCasts
 pub use Rattle.class_casts.specs.Tests as ClassTests
-pub use Rattle.entry_rules.specs.Entries
-pub use Rattle.piece_rules.specs.Classes
-pub use Rattle.piece_rules.specs.Pieces
-pub use Rattle.sj_plain.specs.Settings
+pub use Rattle.class_casts.specs.Entries
+pub use Rattle.class_casts.specs.PieceRulesClasses as Classes
+pub use Rattle.class_casts.specs.Pieces
+pub use Rattle.sj_bodies.specs.Settings
+pub use Rattle.sj_bodies.specs.Worlds as SjPlainWorlds

@@ -4,23 +4,23 @@ use Rattle.sj_trees.specs.declared.types.IrType.{IrType}
 use Rattle.js_tree.specs.Terms.{Name}
 use Rattle.outcomes.specs.Outcome.{Out}
 use Rattle.outcomes.specs.Agreement.{forward, backward, Enough, Sim}
-use Rattle.ir_mean.specs.Meaning as ir_meaning
-use Rattle.ir_mean.specs.States as ir
-use Rattle.ir_mean.specs.World.{member_of}
+use Rattle.dispatch_laws.specs.Meaning as ir_meaning
+use Rattle.dispatch_laws.specs.States as ir
+use Rattle.dispatch_laws.specs.World.{member_of}
 use Rattle.js_mean.specs.Meaning as js_meaning
 use Rattle.js_mean.specs.States as js
 use Rattle.sj_core.specs.Terms.{named}
-use Rattle.sj_desugar.specs.Desugar.{desugared}
-use Rattle.sj_emit_expr.specs.Templates.{member_name, statement_templates}
+use Rattle.sj_bodies.specs.Desugar.{desugared}
+use Rattle.dispatch_laws.specs.Templates.{member_name, statement_templates}
 use Rattle.sj_names.specs.declared.method_names.Member.{Member}
 use Rattle.sj_trees.specs.Term.{Term}
 use Rattle.sj_trees.specs.declared.classes.MethodDef.{MethodDef}
-pub use Rattle.body_rules.specs.Locals.{parameters_of}
-pub use Rattle.body_rules.specs.Locals.{IsParameter}
-use Rattle.sj_proper.specs.Methods.{KeepsRules, HaveTypes}
-use Rattle.sj_plain.specs.Settings.{Place, a_function, function_call, Reaches, Valued}
-use Rattle.sj_plain.specs.Worlds.{World}
-use Rattle.body_rules.specs.Standing.{call_type}
+pub use Rattle.sj_bodies.specs.Locals.{parameters_of}
+pub use Rattle.sj_bodies.specs.Locals.{IsParameter}
+use Rattle.sj_bodies.specs.Methods.{KeepsRules, HaveTypes}
+use Rattle.sj_bodies.specs.Settings.{Place, a_function, function_call, Reaches, Valued}
+use Rattle.sj_bodies.specs.Worlds.{World}
+use Rattle.sj_bodies.specs.Standing.{call_type}
 
 -- the parameters of a function
 abbrev pub parameters_in : Place → List (List ℕ) → List Name

@@ -1,17 +1,17 @@
 -- Members that run on receivers, and constructors: what is asked of each, so that a call of it and of its function are alike.
 use Rattle.std.specs.Prelude.{◌≡◌, ◌∷◌, Some, None}
-use Rattle.ir_mean.specs.World.{member_of}
+use Rattle.dispatch_laws.specs.World.{member_of}
 use Rattle.js_mean.specs.Meaning as js_meaning
 use Rattle.js_tree.specs.Terms.{Name}
 use Rattle.sj_core.specs.Terms as core
-use Rattle.sj_desugar.specs.Desugar.{is_mutable_in, names_of, body_code}
-use Rattle.sj_emit_expr.specs.Templates.{member_name, statement_templates}
+use Rattle.sj_bodies.specs.Desugar.{is_mutable_in, names_of, body_code}
+use Rattle.dispatch_laws.specs.Templates.{member_name, statement_templates}
 use Rattle.sj_names.specs.declared.method_names.Member.{Member}
 use Rattle.sj_trees.specs.Term.{Term}
 use Rattle.sj_trees.specs.declared.classes.MethodDef.{MethodDef}
-use Rattle.sj_proper.specs.Methods.{HaveTypes, KeepsRules}
-use Rattle.sj_plain.specs.Settings.{Place, a_method, a_constructor, Reaches}
-use Rattle.body_rules.specs.Standing.{call_type}
+use Rattle.sj_bodies.specs.Methods.{HaveTypes, KeepsRules}
+use Rattle.sj_bodies.specs.Settings.{Place, a_method, a_constructor, Reaches}
+use Rattle.sj_bodies.specs.Standing.{call_type}
 use Rattle.sj_calls.specs.Methods.{parameters_in}
 use Rattle.sj_trees.specs.declared.types.IrType.TheVariants.{NoType}
 

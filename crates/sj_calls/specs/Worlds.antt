@@ -1,34 +1,34 @@
 -- What the code of a program has of objects: members that run on receivers, constructors, classes, fields, static fields, the null check, divisions, objects that hold chars, tests,
 -- casts and identity, each where code can use it.
 use Rattle.std.specs.Prelude.{◌≡◌, ℕ, ◌≤◌, true, false, List, length, codes, Option, Some}
-use Rattle.built_forms.specs.Built.{has_static, can_box, divides, compares}
+use Rattle.sj_bodies.specs.Built.{has_static, can_box, divides, compares}
 use Rattle.class_casts.specs.Classes.{class_cast_code}
 use Rattle.dispatch_laws.specs.Targets.{IsTargetOf}
-use Rattle.helper_rules.specs.Helpers.{helper_name}
-use Rattle.helper_rules.specs.Words.{units_of}
-use Rattle.helper_rules.specs.declared.kinds.Failure.TheVariants.{NullReceiver, Division, Cast}
-use Rattle.helper_rules.specs.declared.kinds.Helper.TheVariants.{NotNull, CastTo, Throws}
-use Rattle.helper_rules.specs.declared.kinds.Kind.{Kind}
-use Rattle.ir_mean.specs.Dispatch.{chain_of}
-use Rattle.ir_mean.specs.Meaning.{with_message}
-use Rattle.ir_mean.specs.States as ir
-use Rattle.ir_mean.specs.World as ir_world
+use Rattle.class_casts.specs.Helpers.{helper_name}
+use Rattle.class_casts.specs.Words.{units_of}
+use Rattle.class_casts.specs.FailureVariants.{NullReceiver, Division, Cast}
+use Rattle.class_casts.specs.HelperVariants.{NotNull, CastTo, Throws}
+use Rattle.class_casts.specs.Kind.{Kind}
+use Rattle.dispatch_laws.specs.Dispatch.{chain_of}
+use Rattle.dispatch_laws.specs.Meaning.{with_message}
+use Rattle.dispatch_laws.specs.States as ir
+use Rattle.dispatch_laws.specs.World as ir_world
 use Rattle.js_mean.specs.Files.{owner}
 use Rattle.js_mean.specs.Meaning as js_meaning
 use Rattle.js_mean.specs.States as js
 use Rattle.js_tree.specs.Terms.{Name}
-use Rattle.sj_desugar.specs.Desugar.{member}
-use Rattle.piece_rules.specs.Pieces.{setter}
-use Rattle.sj_emit_expr.specs.Templates.{check_name, static_name, setter_name}
-use Rattle.sj_emit_expr.specs.Tests.{test_name, cast_name}
+use Rattle.sj_bodies.specs.Desugar.{member}
+use Rattle.class_casts.specs.Pieces.{setter}
+use Rattle.dispatch_laws.specs.Templates.{check_name, static_name, setter_name}
+use Rattle.dispatch_laws.specs.Tests.{test_name, cast_name}
 use Rattle.sj_names.specs.declared.method_names.Member.{Member}
 use Rattle.sj_names.specs.declared.method_names.Namespace.TheVariants.{Constructor}
 use Rattle.sj_trees.specs.declared.operators.BinaryOp.{BinaryOp}
 use Rattle.sj_trees.specs.declared.types.IrType.{IrType}
-use Rattle.sj_plain.specs.Settings.{Place, SameState, SameStored, HasField, HasStatic, Reaches, a_static, a_setter, a_test, a_cast, a_helper, division_helper, top_function, link_of, links_of, zeroed}
-use Rattle.sj_plain.specs.Worlds.{World}
+use Rattle.sj_bodies.specs.Settings.{Place, SameState, SameStored, HasField, HasStatic, Reaches, a_static, a_setter, a_test, a_cast, a_helper, division_helper, top_function, link_of, links_of, zeroed}
+use Rattle.sj_bodies.specs.Worlds.{World}
 use Rattle.sj_trees.specs.declared.types.IrType.TheVariants.{Class}
-use Rattle.sj_world.specs.Known.{is_hijacked}
+use Rattle.dispatch_laws.specs.Known.{is_hijacked}
 use Rattle.sj_calls.specs.Helpers.{HelperStands, BoxStands, ReachesTest, ClassTest, Tested, CanCompare, kind_of, code_of_item, helper_code, checking_code, division_code}
 use Rattle.sj_calls.specs.Made.{Makers}
 use Rattle.sj_calls.specs.Methods.{Linked}

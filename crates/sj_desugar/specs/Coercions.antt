@@ -1,10 +1,10 @@
 -- Where a char becomes an object that holds it.
 use Rattle.std.specs.Prelude.{Bool, true, false, ◌&&◌, not, List, ◌∷◌, codes, if◌then◌else◌}
 use Rattle.sj_core.specs.Terms.{Expression, boxed_char}
-use Rattle.sj_names.specs.declared.references.TypeRef.{TypeRef}
-use Rattle.sj_trees.specs.Types.{reference_type}
-use Rattle.sj_trees.specs.declared.types.IrType.{IrType}
-use Rattle.sj_trees.specs.declared.types.IrType.TheVariants.{Char, Class}
+use Rattle.sj_core.specs.TypeRef.{TypeRef}
+use Rattle.sj_core.specs.Types.{reference_type}
+use Rattle.sj_core.specs.IrType.{IrType}
+use Rattle.sj_core.specs.IrTypeVariants.{Char, Class}
 
 abbrev pub is_char : IrType → Bool
 is_char Char = true

@@ -2,20 +2,20 @@
 use Rattle.std.specs.Prelude.{ℕ, Bool, true, false, List, [], ◌∷◌, ℤ, pos, Option, Some, None, if◌then◌else◌}
 use Rattle.std.specs.Cmp.Lexicographic.{pointwise}
 use Rattle.std.specs.Prelude.{nat_eq}
-use Rattle.sj_names.specs.declared.method_names.Member.{Member}
-use Rattle.sj_names.specs.declared.method_names.MethodName.{MethodName}
-use Rattle.sj_names.specs.declared.method_names.Namespace.{Namespace}
-use Rattle.sj_names.specs.declared.references.TypeRef.{TypeRef}
-use Rattle.sj_names.specs.declared.method_names.Namespace.TheVariants.{Public, Constructor}
-use Rattle.sj_trees.specs.Term.{Term, Terms, no_terms, more_terms, Cases, no_cases, more_cases, var_def, skip, block_of, labeled, assign, return_to, if_then, while_loop, do_while, try_catch, try_finally, throw, match_on, new_object, load_module, store_module, select, select_static, apply, apply_statically, apply_static, unary_op, binary_op, new_array, array_value, array_length, array_select, is_instance_of, as_instance_of, undefined_literal, null_literal, boolean_literal, char_literal, byte_literal, short_literal, int_literal, long_literal, string_literal, var_ref, this_ref, log_line}
-use Rattle.sj_trees.specs.Types.{class_type}
-use Rattle.sj_trees.specs.TypeOf.{type_of_term, unary_result, binary_result}
-use Rattle.sj_trees.specs.declared.classes.MethodDef.{MethodDef}
-use Rattle.sj_trees.specs.declared.classes.ParamDef.{ParamDef}
-use Rattle.sj_trees.specs.declared.operators.UnaryOp.TheVariants.{BooleanNot}
-use Rattle.sj_trees.specs.declared.positions.Position.{Position}
-use Rattle.sj_trees.specs.declared.types.IrType.{IrType}
-use Rattle.sj_trees.specs.declared.types.IrType.TheVariants.{Any, Array, Nothing, Undefined, Boolean, Char, Byte, Short, Int, Long, String, Null, NoType}
+use Rattle.sj_core.specs.Member.{Member}
+use Rattle.sj_core.specs.MethodName.{MethodName}
+use Rattle.sj_core.specs.Namespace.{Namespace}
+use Rattle.sj_core.specs.TypeRef.{TypeRef}
+use Rattle.sj_core.specs.NamespaceVariants.{Public, Constructor}
+use Rattle.sj_core.specs.Term.{Term, Terms, no_terms, more_terms, Cases, no_cases, more_cases, var_def, skip, block_of, labeled, assign, return_to, if_then, while_loop, do_while, try_catch, try_finally, throw, match_on, new_object, load_module, store_module, select, select_static, apply, apply_statically, apply_static, unary_op, binary_op, new_array, array_value, array_length, array_select, is_instance_of, as_instance_of, undefined_literal, null_literal, boolean_literal, char_literal, byte_literal, short_literal, int_literal, long_literal, string_literal, var_ref, this_ref, log_line}
+use Rattle.sj_core.specs.Types.{class_type}
+use Rattle.sj_core.specs.TypeOf.{type_of_term, unary_result, binary_result}
+use Rattle.sj_core.specs.MethodDef.{MethodDef}
+use Rattle.sj_core.specs.ParamDef.{ParamDef}
+use Rattle.sj_core.specs.UnaryOpVariants.{BooleanNot}
+use Rattle.sj_core.specs.Position.{Position}
+use Rattle.sj_core.specs.IrType.{IrType}
+use Rattle.sj_core.specs.IrTypeVariants.{Any, Array, Nothing, Undefined, Boolean, Char, Byte, Short, Int, Long, String, Null, NoType}
 use Rattle.sj_core.specs.Terms as core
 use Rattle.sj_core.specs.Terms.{named, Expression, field_of, static_of, made_of, receiver_call, test_of, cast_of, checked_value, undefined_value, null_value, boolean_value, number_value, long_value, text_value, variable_use, choice_of, static_call, unary_of, binary_of, Statement, define_of, declare_of, assign_to, evaluate_of, return_of, log_of, assign_field, assign_static, throw_of, leave_label, break_nearest, if_of, while_of, loop_of, labeled_of, switch_of, Statements, no_statements, statement, followed, Method}
 use Rattle.sj_core.specs.Views.{expressions_of}

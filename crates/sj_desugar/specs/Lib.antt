@@ -4,3 +4,27 @@ pub mod Plain
 pub mod Rows
 pub mod Spill
 pub mod Texts
+pub use Rattle.sj_core.specs.Lookup
+pub use Rattle.sj_core.specs.Terms
+pub use Rattle.sj_core.specs.declared.callees.Callee
+pub use Rattle.sj_core.specs.declared.callees.Callee.TheVariants as CalleeVariants
+pub use Rattle.sj_core.specs.Erase
+pub use Rattle.sj_core.specs.Term
+pub use Rattle.sj_core.specs.MethodDef
+pub use Rattle.sj_core.specs.ParamDef
+pub use Rattle.sj_core.specs.BinaryOp
+pub use Rattle.sj_core.specs.BinaryOpVariants
+pub use Rattle.sj_core.specs.UnaryOp
+pub use Rattle.sj_core.specs.UnaryOpVariants
+pub use Rattle.sj_core.specs.Position
+pub use Rattle.sj_core.specs.IrType
+pub use Rattle.sj_core.specs.IrTypeVariants
+pub use Rattle.sj_world.specs.Tables
+pub use Rattle.sj_world.specs.Ancestors
+pub use Rattle.sj_world.specs.Calls
+pub use Rattle.sj_world.specs.Known
+pub use Rattle.sj_world.specs.Paths
+pub use Rattle.sj_world.specs.Subtypes
+pub use Rattle.sure_receivers.specs.Sure
+pub use Rattle.sj_world.specs.Laws
+pub use Rattle.sj_core.specs.Views

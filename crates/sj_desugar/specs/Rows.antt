@@ -5,13 +5,13 @@ use Rattle.sj_core.specs.Terms.{Statements, statement, no_statements, named, num
 use Rattle.sj_core.specs.declared.callees.Callee.TheVariants as callees
 use Rattle.sj_desugar.specs.Desugar.{into, member}
 use Rattle.sj_desugar.specs.Spill.{to_result}
-use Rattle.sj_names.specs.Same.{is_same_text}
-use Rattle.sj_names.specs.declared.method_names.MethodName.{MethodName}
-use Rattle.sj_names.specs.declared.method_names.Namespace.TheVariants.{Private}
-use Rattle.sj_names.specs.declared.references.TypeRef.{TypeRef}
-use Rattle.sj_trees.specs.Erase.{nowhere}
-use Rattle.sj_trees.specs.Term.{Term, no_terms, more_terms, skip, block_of, select, apply_statically, int_literal, var_ref}
-use Rattle.sj_trees.specs.declared.types.IrType.TheVariants.{Class, Int}
+use Rattle.sj_core.specs.Same.{is_same_text}
+use Rattle.sj_core.specs.MethodName.{MethodName}
+use Rattle.sj_core.specs.NamespaceVariants.{Private}
+use Rattle.sj_core.specs.TypeRef.{TypeRef}
+use Rattle.sj_core.specs.Erase.{nowhere}
+use Rattle.sj_core.specs.Term.{Term, no_terms, more_terms, skip, block_of, select, apply_statically, int_literal, var_ref}
+use Rattle.sj_core.specs.IrTypeVariants.{Class, Int}
 
 -- the local `a` is never null, and `b` may be
 abbrev is_a : List ℕ → Bool

@@ -1,8 +1,8 @@
 -- Operands in evaluation order, and those among them that go to variables of their own.
 use Rattle.std.specs.Prelude.{ℕ, suc, Bool, true, false, ◌&&◌, List, [], ◌∷◌, Some}
 use Rattle.sj_core.specs.Terms.{Variable, numbered, Expression, variable_use, Statement, constant_of, declare_of, Statements, no_statements, statement, followed}
-use Rattle.sj_trees.specs.declared.positions.Position.{Position}
-use Rattle.sj_trees.specs.declared.types.IrType.{IrType}
+use Rattle.sj_core.specs.Position.{Position}
+use Rattle.sj_core.specs.IrType.{IrType}
 
 -- where the value of a tree goes: nowhere, to a variable of this type, or out of the method with this result type
 pub data Destination : Type 0 where

@@ -1,10 +1,10 @@
 -- Operands of operators.
 use Rattle.sj_core.specs.Terms.{Expression, char_text, value_text}
 use Rattle.sj_desugar.specs.Coercions.{coerced}
-use Rattle.sj_trees.specs.declared.operators.BinaryOp.{BinaryOp}
-use Rattle.sj_trees.specs.declared.operators.BinaryOp.TheVariants.{StringConcatenate, StrictEqual, StrictNotEqual}
-use Rattle.sj_trees.specs.declared.types.IrType.{IrType}
-use Rattle.sj_trees.specs.declared.types.IrType.TheVariants.{Any, Char, String}
+use Rattle.sj_core.specs.BinaryOp.{BinaryOp}
+use Rattle.sj_core.specs.BinaryOpVariants.{StringConcatenate, StrictEqual, StrictNotEqual}
+use Rattle.sj_core.specs.IrType.{IrType}
+use Rattle.sj_core.specs.IrTypeVariants.{Any, Char, String}
 
 -- the text of an expression of this type: a string as it is, a char as its one unit, and any other value as its text
 abbrev pub text_of : IrType → Expression → Expression

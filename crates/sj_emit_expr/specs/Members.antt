@@ -1,15 +1,15 @@
 -- The piece of any method: a function, which has its receiver as the first parameter where there is one.
 use Rattle.std.specs.Prelude.{List, ◌∷◌}
 use Rattle.js_tree.specs.Terms.{Name, Piece}
-use Rattle.sj_core.specs.Lookup.{Lookup}
-use Rattle.sj_core.specs.Terms.{Method, receiver}
+use Rattle.sj_desugar.specs.Lookup.{Lookup}
+use Rattle.sj_desugar.specs.Terms.{Method, receiver}
 use Rattle.sj_emit_expr.specs.Names.{variable_name}
 use Rattle.sj_emit_expr.specs.Pieces.{function_piece}
 use Rattle.sj_emit_expr.specs.Templates.{parameter_names, body_template}
 use Rattle.sj_emit_expr.specs.Uses.{uses}
-use Rattle.sj_names.specs.declared.method_names.Member.{Member}
-use Rattle.sj_names.specs.declared.method_names.Namespace.{Namespace}
-use Rattle.sj_names.specs.declared.method_names.Namespace.TheVariants.{PublicStatic, PrivateStatic}
+use Rattle.sj_mangling.specs.Member.{Member}
+use Rattle.sj_mangling.specs.Namespace.{Namespace}
+use Rattle.sj_mangling.specs.NamespaceVariants.{PublicStatic, PrivateStatic}
 
 -- `$this` in front, but in a static method
 abbrev pub with_receiver : Namespace → List Name → List Name

@@ -1,7 +1,7 @@
 -- The names that the emitted function of a method has for its variables and labels.
 use Rattle.std.specs.Prelude.{ℕ, List, ◌++◌, codes}
 use Rattle.js_tree.specs.Terms.{Name}
-use Rattle.sj_core.specs.Terms.{Variable, named, numbered, receiver}
+use Rattle.sj_desugar.specs.Terms.{Variable, named, numbered, receiver}
 use Rattle.sj_mangling.specs.Bindings.{local_binding}
 use Rattle.sj_mangling.specs.Numerals.{number_text}
 use Rattle.sj_mangling.specs.declared.bindings.LocalBinding.TheVariants.{Local, Label}

@@ -1,22 +1,22 @@
 -- Methods with objects, and the functions that are written for them.
 use Rattle.std.specs.Prelude.{ℕ, false, List, [], ◌∷◌, pos, codes, Some, None, if◌then◌else◌}
 use Rattle.js_tree.specs.Terms.{Piece}
-use Rattle.sj_core.specs.Lookup.{Lookup, own_targets}
+use Rattle.sj_desugar.specs.Lookup.{Lookup, own_targets}
 use Rattle.sj_desugar.specs.Desugar.{desugared_member}
 use Rattle.sj_emit_expr.specs.Members.{member_piece}
-use Rattle.sj_names.specs.Same.{is_same_text}
-use Rattle.sj_names.specs.declared.method_names.Member.{Member}
-use Rattle.sj_names.specs.declared.method_names.MethodName.{MethodName}
-use Rattle.sj_names.specs.declared.method_names.Namespace.{Namespace}
-use Rattle.sj_names.specs.declared.method_names.Namespace.TheVariants.{Public, PublicStatic, Private, PrivateStatic, Constructor}
-use Rattle.sj_names.specs.declared.references.BaseRef.{BaseRef}
-use Rattle.sj_names.specs.declared.references.TypeRef.{TypeRef}
-use Rattle.sj_trees.specs.Erase.{nowhere}
-use Rattle.sj_trees.specs.Term.{Term, Terms, no_terms, more_terms, var_def, skip, block_of, assign, throw, new_object, select, select_static, apply, apply_statically, int_literal, long_literal, var_ref, this_ref, binary_op}
-use Rattle.sj_trees.specs.declared.classes.ParamDef.{ParamDef}
-use Rattle.sj_trees.specs.declared.operators.BinaryOp.TheVariants.{IntAdd, IntDivide, LongRemainder}
-use Rattle.sj_trees.specs.declared.types.IrType.{IrType}
-use Rattle.sj_trees.specs.declared.types.IrType.TheVariants as Types
+use Rattle.sj_mangling.specs.Same.{is_same_text}
+use Rattle.sj_mangling.specs.Member.{Member}
+use Rattle.sj_mangling.specs.MethodName.{MethodName}
+use Rattle.sj_mangling.specs.Namespace.{Namespace}
+use Rattle.sj_mangling.specs.NamespaceVariants.{Public, PublicStatic, Private, PrivateStatic, Constructor}
+use Rattle.sj_mangling.specs.BaseRef.{BaseRef}
+use Rattle.sj_mangling.specs.TypeRef.{TypeRef}
+use Rattle.sj_desugar.specs.Erase.{nowhere}
+use Rattle.sj_desugar.specs.Term.{Term, Terms, no_terms, more_terms, var_def, skip, block_of, assign, throw, new_object, select, select_static, apply, apply_statically, int_literal, long_literal, var_ref, this_ref, binary_op}
+use Rattle.sj_desugar.specs.ParamDef.{ParamDef}
+use Rattle.sj_desugar.specs.BinaryOpVariants.{IntAdd, IntDivide, LongRemainder}
+use Rattle.sj_desugar.specs.IrType.{IrType}
+use Rattle.sj_desugar.specs.IrTypeVariants as Types
 
 abbrev pub a_name : List ℕ
 a_name = codes "A"

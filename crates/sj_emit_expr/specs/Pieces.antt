@@ -2,11 +2,11 @@
 use Rattle.std.specs.Prelude.{List}
 use Rattle.js_tree.specs.Terms.{Name, Statements, Piece, function_item}
 use Rattle.js_tree.specs.declared.items.Binding.{Binding}
-use Rattle.sj_core.specs.Lookup.{Lookup}
-use Rattle.sj_core.specs.Terms.{Method}
+use Rattle.sj_desugar.specs.Lookup.{Lookup}
+use Rattle.sj_desugar.specs.Terms.{Method}
 use Rattle.sj_emit_expr.specs.Templates.{member_name, parameter_names, body_template}
 use Rattle.sj_emit_expr.specs.Uses.{uses}
-use Rattle.sj_names.specs.declared.method_names.Member.{Member}
+use Rattle.sj_mangling.specs.Member.{Member}
 
 -- `function NAME(params) { body }`, which the class owns, with the bindings that the body uses
 abbrev pub function_piece : Member → List Name → Statements → List Binding → Piece

@@ -1,17 +1,17 @@
 -- Two methods, and the functions that are emitted for them.
 use Rattle.std.specs.Prelude.{true, [], ◌∷◌, pos, codes, Some, None}
 use Rattle.js_tree.specs.Terms.{function_item, Piece}
-use Rattle.sj_core.specs.Lookup.{own_targets}
+use Rattle.sj_desugar.specs.Lookup.{own_targets}
 use Rattle.sj_desugar.specs.Desugar.{desugared, names_of}
 use Rattle.sj_emit_expr.specs.Templates.{parameter_names, body_template, member_name}
 use Rattle.sj_emit_expr.specs.Uses.{uses}
-use Rattle.sj_names.specs.declared.method_names.Namespace.TheVariants.{PublicStatic}
-use Rattle.sj_names.specs.declared.references.TypeRef.TheVariants.{Int}
-use Rattle.sj_trees.specs.Term.{Term, no_terms, more_terms, skip, block_of, assign, while_loop, int_literal, var_ref, binary_op, apply_static}
-use Rattle.sj_trees.specs.declared.classes.MethodDef.{MethodDef}
-use Rattle.sj_trees.specs.declared.operators.BinaryOp.TheVariants.{IntMultiply, IntLess, IntAdd}
-use Rattle.sj_trees.specs.declared.positions.Position.{Position}
-use Rattle.sj_trees.specs.declared.types.IrType.TheVariants as Types
+use Rattle.sj_mangling.specs.NamespaceVariants.{PublicStatic}
+use Rattle.sj_mangling.specs.TypeRefVariants.{Int}
+use Rattle.sj_desugar.specs.Term.{Term, no_terms, more_terms, skip, block_of, assign, while_loop, int_literal, var_ref, binary_op, apply_static}
+use Rattle.sj_desugar.specs.MethodDef.{MethodDef}
+use Rattle.sj_desugar.specs.BinaryOpVariants.{IntMultiply, IntLess, IntAdd}
+use Rattle.sj_desugar.specs.Position.{Position}
+use Rattle.sj_desugar.specs.IrTypeVariants as Types
 
 abbrev pub nowhere : Position
 nowhere = record { file = 0; line = 0; column = 0 }

@@ -6,26 +6,26 @@ use Rattle.js_tree.specs.declared.operators.BinaryOperator.TheVariants.{Add, Sub
 use Rattle.js_tree.specs.declared.operators.HostFunction.TheVariants.{BigInt, Number, StringFromCharCode, ConsoleLog}
 use Rattle.js_tree.specs.declared.operators.HostOperation.TheVariants.{BigIntAsIntN, BigIntAsUintN, MathImul}
 use Rattle.js_tree.specs.declared.operators.UnaryOperator.TheVariants.{Not}
-use Rattle.sj_core.specs.Lookup.{Lookup}
-use Rattle.sj_core.specs.Terms as core
-use Rattle.sj_core.specs.Terms.{Variable, undefined_value, null_value, boolean_value, number_value, long_value, text_value, variable_use, boxed_char, char_text, value_text, choice_of, static_call, field_of, static_of, checked_value, made_of, receiver_call, constant_of, define_of, assign_to, assign_field, assign_static, evaluate_of, log_of, leave_label, if_of, loop_of, switch_of, Method}
-use Rattle.sj_core.specs.declared.callees.Callee.{Callee}
-use Rattle.sj_core.specs.declared.callees.Callee.TheVariants as callees
+use Rattle.sj_desugar.specs.Lookup.{Lookup}
+use Rattle.sj_desugar.specs.Terms as core
+use Rattle.sj_desugar.specs.Terms.{Variable, undefined_value, null_value, boolean_value, number_value, long_value, text_value, variable_use, boxed_char, char_text, value_text, choice_of, static_call, field_of, static_of, checked_value, made_of, receiver_call, constant_of, define_of, assign_to, assign_field, assign_static, evaluate_of, log_of, leave_label, if_of, loop_of, switch_of, Method}
+use Rattle.sj_desugar.specs.Callee.{Callee}
+use Rattle.sj_desugar.specs.CalleeVariants as callees
 use Rattle.sj_emit_expr.specs.Names.{variable_name, label_name}
 use Rattle.sj_emit_expr.specs.Tests.{test_template, cast_template, same_template}
 use Rattle.sj_mangling.specs.Bindings.{function_name, class_binding, field_binding, method_binding}
 use Rattle.sj_mangling.specs.declared.bindings.ClassBinding.TheVariants.{Class}
 use Rattle.sj_mangling.specs.declared.bindings.FieldBinding.TheVariants.{Property, Variable as StaticField, Setter}
 use Rattle.sj_mangling.specs.declared.bindings.MethodBinding.TheVariants.{Entry, Dispatch, Reflective}
-use Rattle.sj_names.specs.declared.method_names.Member.{Member}
-use Rattle.sj_names.specs.declared.method_names.MethodName.{MethodName}
-use Rattle.sj_names.specs.declared.method_names.Namespace.{Namespace}
-use Rattle.sj_names.specs.declared.method_names.Namespace.TheVariants.{Public}
-use Rattle.sj_trees.specs.declared.operators.BinaryOp.{BinaryOp}
-use Rattle.sj_trees.specs.declared.operators.BinaryOp.TheVariants as binary
-use Rattle.sj_trees.specs.declared.operators.BinaryOp.TheVariants.{StringConcatenate, BooleanEqual, BooleanNotEqual, BooleanOr, BooleanAnd, IntAdd, IntSubtract, IntMultiply, IntDivide, IntRemainder, IntOr, IntAnd, IntXor, IntShiftLeft, IntShiftRightLogical, IntShiftRightArithmetic, IntEqual, IntNotEqual, IntLess, IntLessOrEqual, IntGreater, IntGreaterOrEqual, LongAdd, LongSubtract, LongMultiply, LongDivide, LongRemainder, LongOr, LongAnd, LongXor, LongShiftLeft, LongShiftRightLogical, LongShiftRightArithmetic, LongEqual, LongNotEqual, LongLess, LongLessOrEqual, LongGreater, LongGreaterOrEqual}
-use Rattle.sj_trees.specs.declared.operators.UnaryOp.{UnaryOp}
-use Rattle.sj_trees.specs.declared.operators.UnaryOp.TheVariants.{BooleanNot, CharToInt, ByteToInt, ShortToInt, IntToLong, IntToChar, IntToByte, IntToShort, LongToInt}
+use Rattle.sj_mangling.specs.Member.{Member}
+use Rattle.sj_mangling.specs.MethodName.{MethodName}
+use Rattle.sj_mangling.specs.Namespace.{Namespace}
+use Rattle.sj_mangling.specs.NamespaceVariants.{Public}
+use Rattle.sj_desugar.specs.BinaryOp.{BinaryOp}
+use Rattle.sj_desugar.specs.BinaryOpVariants as binary
+use Rattle.sj_desugar.specs.BinaryOpVariants.{StringConcatenate, BooleanEqual, BooleanNotEqual, BooleanOr, BooleanAnd, IntAdd, IntSubtract, IntMultiply, IntDivide, IntRemainder, IntOr, IntAnd, IntXor, IntShiftLeft, IntShiftRightLogical, IntShiftRightArithmetic, IntEqual, IntNotEqual, IntLess, IntLessOrEqual, IntGreater, IntGreaterOrEqual, LongAdd, LongSubtract, LongMultiply, LongDivide, LongRemainder, LongOr, LongAnd, LongXor, LongShiftLeft, LongShiftRightLogical, LongShiftRightArithmetic, LongEqual, LongNotEqual, LongLess, LongLessOrEqual, LongGreater, LongGreaterOrEqual}
+use Rattle.sj_desugar.specs.UnaryOp.{UnaryOp}
+use Rattle.sj_desugar.specs.UnaryOpVariants.{BooleanNot, CharToInt, ByteToInt, ShortToInt, IntToLong, IntToChar, IntToByte, IntToShort, LongToInt}
 
 abbrev pub whole : ℕ → js.Expression
 whole n = number_literal (pos n)

@@ -3,8 +3,8 @@ use Rattle.std.specs.Prelude.{◌++◌, codes}
 use Rattle.js_tree.specs.Terms.{Name, Expression, undefined_literal, call_of, no_expressions, expression}
 use Rattle.sj_mangling.specs.Bindings.{class_binding}
 use Rattle.sj_mangling.specs.declared.bindings.ClassBinding.TheVariants.{IsInstance, AsInstance}
-use Rattle.sj_trees.specs.declared.types.IrType.{IrType}
-use Rattle.sj_trees.specs.declared.types.IrType.TheVariants.{Any, Undefined, Boolean, Char, Byte, Short, Int, Long, Class, Array}
+use Rattle.sj_desugar.specs.IrType.{IrType}
+use Rattle.sj_desugar.specs.IrTypeVariants.{Any, Undefined, Boolean, Char, Byte, Short, Int, Long, Class, Array}
 
 -- the letter of a primitive type, by which the helpers for its values are named
 abbrev pub kind_letter : IrType → Name

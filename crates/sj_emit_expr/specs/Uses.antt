@@ -3,20 +3,20 @@ use Rattle.std.specs.Prelude.{ℕ, Bool, true, false, ◌&&◌, List, [], ◌∷
 use Rattle.std.specs.Cmp.Lexicographic.{pointwise}
 use Rattle.std.specs.List.{list_any}
 use Rattle.js_tree.specs.declared.items.Binding.{Binding}
-use Rattle.sj_core.specs.Lookup.{Lookup}
-use Rattle.sj_core.specs.declared.callees.Callee.{Callee}
-use Rattle.sj_core.specs.declared.callees.Callee.TheVariants as callees
-use Rattle.sj_core.specs.Terms.{Expression, boxed_char, char_text, value_text, choice_of, static_call, field_of, static_of, checked_value, made_of, receiver_call, test_of, cast_of, unary_of, binary_of, Expressions, no_expressions, expression, Statement, constant_of, define_of, declare_of, assign_to, evaluate_of, return_of, log_of, assign_field, assign_static, throw_of, leave_label, break_nearest, if_of, while_of, loop_of, labeled_of, switch_of, Statements, no_statements, statement, Cases, no_cases, switch_case}
+use Rattle.sj_desugar.specs.Lookup.{Lookup}
+use Rattle.sj_desugar.specs.Callee.{Callee}
+use Rattle.sj_desugar.specs.CalleeVariants as callees
+use Rattle.sj_desugar.specs.Terms.{Expression, boxed_char, char_text, value_text, choice_of, static_call, field_of, static_of, checked_value, made_of, receiver_call, test_of, cast_of, unary_of, binary_of, Expressions, no_expressions, expression, Statement, constant_of, define_of, declare_of, assign_to, evaluate_of, return_of, log_of, assign_field, assign_static, throw_of, leave_label, break_nearest, if_of, while_of, loop_of, labeled_of, switch_of, Statements, no_statements, statement, Cases, no_cases, switch_case}
 use Rattle.sj_emit_expr.specs.Tests.{test_name, cast_name, same_name}
 use Rattle.sj_emit_expr.specs.Templates.{called_member, member_name, class_name, static_name, setter_name, check_name, is_nonzero_literal}
 use Rattle.sj_mangling.specs.Bindings.{method_binding}
 use Rattle.sj_mangling.specs.declared.bindings.MethodBinding.TheVariants.{Dispatch, Reflective}
-use Rattle.sj_names.specs.declared.method_names.Member.{Member}
-use Rattle.sj_names.specs.declared.method_names.MethodName.{MethodName}
-use Rattle.sj_trees.specs.declared.operators.BinaryOp.{BinaryOp}
-use Rattle.sj_trees.specs.declared.operators.BinaryOp.TheVariants.{StrictEqual, StrictNotEqual, IntDivide, IntRemainder, LongDivide, LongRemainder}
-use Rattle.sj_trees.specs.declared.types.IrType.{IrType}
-use Rattle.sj_trees.specs.declared.types.IrType.TheVariants.{Any, Class, Array}
+use Rattle.sj_mangling.specs.Member.{Member}
+use Rattle.sj_mangling.specs.MethodName.{MethodName}
+use Rattle.sj_desugar.specs.BinaryOp.{BinaryOp}
+use Rattle.sj_desugar.specs.BinaryOpVariants.{StrictEqual, StrictNotEqual, IntDivide, IntRemainder, LongDivide, LongRemainder}
+use Rattle.sj_desugar.specs.IrType.{IrType}
+use Rattle.sj_desugar.specs.IrTypeVariants.{Any, Class, Array}
 
 abbrev pub object_binding : List ℕ → Binding
 object_binding x = record { owner = codes "java.lang.Object"; name = x }

@@ -2,13 +2,13 @@
 use Rattle.std.proofs.Common.{◌≡◌, ℕ, Bool, true, false, List, [], ◌∷◌, ◌&&◌, Option, Some, None, refl, ap, subst, ◌∙◌, Contains, if◌then◌else◌}
 use Rattle.std.proofs.lemmas.List.Elements.{Contains-append_left, Contains-append_right, Contains-push}
 use Rattle.sj_names.specs.Same.{is_same_text, is_same_namespace, is_same_method}
-use Rattle.ir_mean.specs.World.{World, class_of, method_among, method_in, member_of}
+use Rattle.sj_agree.specs.World.{World, class_of, method_among, method_in, member_of}
 use Rattle.sj_names.specs.declared.method_names.Member.{Member}
 use Rattle.sj_names.specs.declared.method_names.MethodName.{MethodName}
 use Rattle.sj_names.specs.declared.method_names.Namespace.{Namespace}
 use Rattle.sj_trees.specs.declared.classes.ClassDef.{ClassDef}
 use Rattle.sj_trees.specs.declared.classes.MethodDef.{MethodDef}
-use Rattle.body_rules.proofs.Equal.{is-equal}
+use Rattle.sj_sound.proofs.Equal.{is-equal}
 use Rattle.sj_sound.proofs.Same.{member-same}
 
 pub record OwnerOf (w : World) (m : Member) (d : MethodDef) : Type 0 where

@@ -3,28 +3,28 @@ use Rattle.std.proofs.Common.{◌≡◌, ℕ, true, List, Option, sym, subst, Co
 use Rattle.std.specs.Prelude.{IsTrue, MatchOption}
 use Rattle.std.proofs.lemmas.List.Elements.{All-contains}
 use Rattle.outcomes.specs.Agreement.{Agree}
-use Rattle.ir_mean.specs.Shows.{initializers, ir_shows}
-use Rattle.ir_mean.specs.World.{World}
+use Rattle.sj_agree.specs.Shows.{initializers, ir_shows}
+use Rattle.sj_agree.specs.World.{World}
 use Rattle.js_mean.specs.Shows.{js_shows}
 use Rattle.sj_names.specs.Grammar.{is_class_name}
 use Rattle.sj_names.specs.MethodNames.{IsMethodName}
 use Rattle.sj_names.specs.declared.entry_points.EntryPoint.{EntryPoint}
 use Rattle.sj_trees.specs.declared.classes.ClassDef.{ClassDef}
-use Rattle.listing_spelling.specs.Rules.{HasListing, IsListedMethod, IsListedTree}
+use Rattle.sj_typed.specs.Rules.{HasListing, IsListedMethod, IsListedTree}
 use Rattle.file_listings.proofs.ListedClasses.{file_is_listed}
-use Rattle.sj_proper.specs.Emitted.{EmittedMethod, HaveOwnMembers}
+use Rattle.sj_sound.specs.Emitted.{EmittedMethod, HaveOwnMembers}
 use Rattle.sj_sound.specs.Files.{program_with}
 use Rattle.sj_sound.specs.Linked.{have_functions, functions_of}
 use Rattle.sj_judged.specs.Programs.{IsAccepted}
 use Rattle.sj_typed.proofs.Classes.{class-keeps, keeps-superclass, keeps-hijacked, signature-keeps}
 use Rattle.sj_judged.proofs.Programs.{classes_agree}
-use Rattle.body_rules.proofs.Plain.{plain_world}
-use Rattle.sj_proper.specs.Methods.{KeepsRules}
-use Rattle.sj_proper.specs.Methods.{HaveTypes}
-use Rattle.body_rules.specs.Standing.{call_type}
+use Rattle.sj_sound.proofs.Plain.{plain_world}
+use Rattle.sj_sound.specs.Methods.{KeepsRules}
+use Rattle.sj_sound.specs.Methods.{HaveTypes}
+use Rattle.sj_sound.specs.Standing.{call_type}
 use Rattle.sj_trees.specs.Term.{Term}
 use Rattle.sj_world.specs.Laws.{IsPlain}
-use Rattle.body_rules.proofs.RulesGive.{result_is}
+use Rattle.sj_typed.proofs.RulesGive.{result_is}
 use Rattle.sj_typed.proofs.Bodies.{rules_kept}
 use Rattle.sj_typed.proofs.Values.{parameters_have_values}
 use Rattle.sj_judged.specs.Judged.{IsJudgedClass, IsJudgedMethod}

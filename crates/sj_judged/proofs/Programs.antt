@@ -1,17 +1,17 @@
 -- Programs of classes that break none of the local rules agree with their file.
 use Rattle.std.proofs.Common.{◌≡◌, ℕ, true, List, ap, ◌∙◌, subst, Contains}
 use Rattle.outcomes.specs.Agreement.{Agree}
-use Rattle.ir_mean.specs.Shows.{initializers, ir_shows}
-use Rattle.ir_mean.specs.World.{World}
+use Rattle.sj_agree.specs.Shows.{initializers, ir_shows}
+use Rattle.sj_agree.specs.World.{World}
 use Rattle.js_mean.specs.Shows.{js_shows}
 use Rattle.sj_names.specs.declared.entry_points.EntryPoint.{EntryPoint}
 use Rattle.sj_names.specs.declared.method_names.MethodName.{MethodName}
-use Rattle.sj_proper.specs.Emitted.{EmittedMethod, HaveOwnMembers}
+use Rattle.sj_sound.specs.Emitted.{EmittedMethod, HaveOwnMembers}
 use Rattle.sj_sound.specs.Files.{program_with}
 use Rattle.sj_sound.specs.Linked.{have_functions, IsRight, IsWhole}
-use Rattle.sj_proper.specs.Methods.{HaveTypes}
+use Rattle.sj_sound.specs.Methods.{HaveTypes}
 use Rattle.sj_world.specs.Laws.{IsPlain}
-use Rattle.body_rules.specs.Standing.{call_type}
+use Rattle.sj_sound.specs.Standing.{call_type}
 use Rattle.sj_sound.proofs.Whole.{linked_agrees}
 use Rattle.sj_judged.specs.Programs.{IsAccepted}
 use Rattle.sj_typed.proofs.Classes.{signature-keeps}

@@ -2,17 +2,17 @@
 use Rattle.std.proofs.Common.{◌≡◌, ℕ, true, List, [], ◌∷◌, ◌++◌, map, Some, refl, ap, subst, ⊎_elim, Contains}
 use Rattle.std.specs.List.{All}
 use Rattle.std.proofs.lemmas.List.Elements.{All-nil, All-cons, All-head, All-tail, All-append, Contains-append_left, Contains-append_right, Contains-push}
-use Rattle.ir_mean.specs.Shows.{initializers}
-use Rattle.ir_mean.specs.World.{World}
+use Rattle.sj_agree.specs.Shows.{initializers}
+use Rattle.sj_agree.specs.World.{World}
 use Rattle.js_mean.specs.Shows as js_showing
 use Rattle.js_tree.specs.Rules.{IsName, IsImport, IsItem, IsPiece, IsModule}
 use Rattle.js_tree.specs.Spelling.{Spells}
 use Rattle.js_tree.specs.Terms.{Item}
 use Rattle.sj_agree.specs.Agrees.{Agrees}
-use Rattle.sj_proper.specs.Emitted.{EmittedMethod, piece_of_method, function_item_of, initializer_member, call_item_of, module_with, HaveOwnMembers}
+use Rattle.sj_sound.specs.Emitted.{EmittedMethod, piece_of_method, function_item_of, initializer_member, call_item_of, module_with, HaveOwnMembers}
 use Rattle.sj_sound.specs.Files.{program_with, HasFunction}
-use Rattle.body_rules.proofs.Lists.{nothing_in, in_front_or_behind}
-use Rattle.sj_emit_expr.specs.Templates.{member_name}
+use Rattle.sj_sound.proofs.Lists.{nothing_in, in_front_or_behind}
+use Rattle.sj_sound.specs.Templates.{member_name}
 use Rattle.sj_names.specs.declared.entry_points.EntryPoint.{EntryPoint}
 use Rattle.sj_names.specs.declared.method_names.Member.{Member}
 use Rattle.sj_sound.specs.Linked.{have_functions}

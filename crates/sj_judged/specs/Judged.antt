@@ -1,14 +1,14 @@
 -- What is judged of classes and of their methods before they are linked.
 use Rattle.std.specs.Prelude.{◌≡◌, ℕ, true, List, Some, None}
-use Rattle.ir_mean.specs.World.{World, member_of}
+use Rattle.sj_agree.specs.World.{World, member_of}
 use Rattle.file_listings.specs.Listed.{AreBytes}
 use Rattle.sj_format.specs.Files.{FileIs}
 use Rattle.sj_local.specs.Broken.{FirstBroken}
 use Rattle.sj_trees.specs.declared.classes.ClassDef.{ClassDef}
-use Rattle.sj_proper.specs.Emitted.{EmittedMethod}
+use Rattle.sj_sound.specs.Emitted.{EmittedMethod}
 use Rattle.sj_sound.specs.Linked.{functions_of}
-use Rattle.typing_rules.specs.Typed.{IsTyped}
-use Rattle.body_rules.specs.Typing.{is_built_with}
+use Rattle.sj_typed.specs.Typed.{IsTyped}
+use Rattle.sj_sound.specs.Typing.{is_built_with}
 
 -- the class was read from a file, and breaks none of the local rules
 pub record IsJudgedClass (c : ClassDef) : Type 0 where

@@ -1,14 +1,14 @@
 -- Programs of classes that break none of the local rules, with bodies that keep the rules.
 use Rattle.std.specs.Prelude.{◌≡◌, List, Some, None, IsTrue}
 use Rattle.std.specs.List.{Contains}
-use Rattle.ir_mean.specs.World.{World, member_of}
+use Rattle.sj_agree.specs.World.{World, member_of}
 use Rattle.sj_local.specs.Broken.{FirstBroken}
 use Rattle.sj_names.specs.Grammar.{is_class_name}
 use Rattle.sj_names.specs.MethodNames.{IsMethodName}
 use Rattle.sj_trees.specs.declared.classes.ClassDef.{ClassDef}
-use Rattle.sj_proper.specs.Emitted.{EmittedMethod}
+use Rattle.sj_sound.specs.Emitted.{EmittedMethod}
 use Rattle.sj_sound.specs.Linked.{functions_of}
-use Rattle.sj_proper.specs.Methods.{KeepsRules}
+use Rattle.sj_sound.specs.Methods.{KeepsRules}
 
 -- a method of a class that breaks none of the local rules, found as that of its member: its body keeps the rules where calls are of the methods of the
 -- program; the names of its class and of the method are in their grammar

@@ -1,7 +1,7 @@
 -- The items of a module of pieces that calls initializers.
 use Rattle.std.specs.Prelude.{List, ◌++◌, map}
 use Rattle.js_tree.specs.Terms.{Item, Piece}
-use Rattle.sj_proper.specs.Emitted.{call_item_of}
+use Rattle.sj_sound.specs.Emitted.{call_item_of}
 use Rattle.sj_names.specs.declared.entry_points.EntryPoint.{EntryPoint}
 
 abbrev pub items_of : List Piece → List Item

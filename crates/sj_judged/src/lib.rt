@@ -8,15 +8,15 @@
 ghost use Rattle.std.specs.Prelude.{◌≡◌, true, ℕ, List, [], ◌∷◌, map};
 ghost use Rattle.std.specs.List.{All, Contains};
 ghost use Rattle.outcomes.specs.Agreement.{Agree};
-ghost use Rattle.ir_mean.specs.Shows.{initializers, ir_shows};
-ghost use Rattle.ir_mean.specs.World.{World};
+ghost use Rattle.sj_agree.specs.Shows.{initializers, ir_shows};
+ghost use Rattle.sj_agree.specs.World.{World};
 ghost use Rattle.js_mean.specs.Shows.{file_of, js_shows};
 ghost use Rattle.js_tree.specs.Rules.{IsPiece, IsModule};
 ghost use Rattle.js_tree.specs.Spelling.{Spells};
 ghost use Rattle.sj_agree.specs.Agrees.{Agrees};
 ghost use Rattle.sj_names.specs.declared.entry_points.EntryPoint.{EntryPoint};
 ghost use Rattle.sj_trees.specs.declared.classes.ClassDef.{ClassDef};
-ghost use Rattle.sj_proper.specs.Emitted.{EmittedMethod, piece_of_method, module_with, HaveOwnMembers};
+ghost use Rattle.sj_sound.specs.Emitted.{EmittedMethod, piece_of_method, module_with, HaveOwnMembers};
 ghost use Rattle.sj_sound.specs.Files.{program_with};
 ghost use Rattle.sj_sound.specs.Linked.{have_functions};
 ghost use Rattle.sj_judged.specs.Programs.{IsAccepted};

@@ -18,11 +18,11 @@ use Rattle.sj_trees.specs.Types.{reference_type}
 use Rattle.sj_trees.specs.declared.classes.ParamDef.{ParamDef}
 use Rattle.sj_trees.specs.declared.types.IrType.{IrType}
 use Rattle.sj_proper.specs.Methods.{HaveTypes}
-use Rattle.body_rules.specs.Standing.{call_type}
+use Rattle.sj_proper.specs.Standing.{call_type}
 use Rattle.sj_kept.specs.Kept.{KeepsTreeRules}
 use Rattle.sj_trees.proofs.SameTypes.{type-same}
 use Rattle.sj_names.proofs.Same.{impossible}
-use Rattle.body_rules.proofs.Lists.{nothing_in, in_front_or_behind}
+use Rattle.sj_proper.proofs.Lists.{nothing_in, in_front_or_behind}
 
 -- where nothing is answered, each answers nothing
 pub none-each : {A R : Type 0} (Answers : A → Option R → Type 0) (n : ℕ) (xs : List A) (r : Option (ℕ × R)) → FirstAnswer Answers n xs r → r ≡ None → (x : A) → Contains xs x → Answers x None

@@ -9,8 +9,8 @@ use Rattle.sj_local.specs.Nodes.{Context, Node, node, inside, in_a_block, with_l
 use Rattle.sj_local.specs.TreeRules.{declarations}
 use Rattle.sj_names.specs.declared.method_names.Namespace.{Namespace}
 use Rattle.sj_trees.specs.Term.{Term, Terms, no_terms, more_terms, Cases, no_cases, more_cases, var_def, skip, block_of, labeled, assign, return_to, if_then, while_loop, do_while, throw, match_on, new_object, select, apply, apply_statically, apply_static, unary_op, binary_op, is_instance_of, as_instance_of, log_line}
-use Rattle.body_rules.specs.Locals.{Own, OwnAll, OwnCases}
-use Rattle.body_rules.proofs.Equal.{is-equal}
+use Rattle.sj_proper.specs.Locals.{Own, OwnAll, OwnCases}
+use Rattle.sj_proper.proofs.Equal.{is-equal}
 use Rattle.sj_names.proofs.Same.{impossible}
 use Rattle.sj_proper.specs.Once.{IsAmong, Apart, Once, OnceAll, OnceCases}
 use Rattle.sj_kept.proofs.Kept.{Keeps, AllKeep, keep-front, keep-behind}

@@ -12,8 +12,8 @@ use Rattle.sj_trees.specs.declared.classes.ClassDef.{ClassDef}
 use Rattle.sj_trees.specs.declared.classes.ParamDef.{ParamDef}
 use Rattle.sj_trees.specs.declared.types.IrType.{IrType}
 use Rattle.sj_names.proofs.Same.{impossible}
-use Rattle.body_rules.specs.Typing.{Scene, IsLocal, IsVariable, RunsOnObject}
-use Rattle.body_rules.specs.Locals.{local_of}
+use Rattle.sj_proper.specs.Typing.{Scene, IsLocal, IsVariable, RunsOnObject}
+use Rattle.sj_proper.specs.Locals.{local_of}
 use Rattle.sj_trees.proofs.SameTypes.{type-same}
 
 -- This stands in no static method, and has the type of the class

@@ -4,3 +4,6 @@ pub mod Kept
 pub mod Methods
 pub mod Names
 pub mod Types
+pub use Rattle.sj_proper.proofs.RulesGive
+pub use Rattle.sj_proper.proofs.Modules
+pub use Rattle.sj_proper.proofs.Names as SjProperNames

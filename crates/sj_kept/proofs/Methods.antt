@@ -4,7 +4,7 @@ use Rattle.std.specs.Prelude.{◌+◌, option_map, option_and_then, nat_eq}
 use Rattle.std.specs.Cmp.Lexicographic.{pointwise}
 use Rattle.std.proofs.lemmas.List.{map-append}
 use Rattle.std.proofs.lemmas.List.Elements.{Contains-append_left, Contains-push}
-use Rattle.sj_desugar.specs.Desugar.{names_of}
+use Rattle.sj_proper.specs.Desugar.{names_of}
 use Rattle.sj_local.specs.declared.walks.Local.{Local}
 use Rattle.sj_local.specs.declared.walks.Declaration.{Declaration}
 use Rattle.sj_local.specs.declared.walks.Declaration.TheVariants as declaration
@@ -19,9 +19,9 @@ use Rattle.sj_trees.specs.Term.{Term}
 use Rattle.sj_trees.specs.declared.classes.ClassDef.{ClassDef}
 use Rattle.sj_trees.specs.declared.classes.MethodDef.{MethodDef}
 use Rattle.sj_trees.specs.declared.classes.ParamDef.{ParamDef}
-use Rattle.body_rules.proofs.Equal.{is-equal}
+use Rattle.sj_proper.proofs.Equal.{is-equal}
 use Rattle.sj_names.proofs.Same.{impossible}
-use Rattle.body_rules.specs.Locals.{IsParameter, local_of}
+use Rattle.sj_proper.specs.Locals.{IsParameter, local_of}
 use Rattle.sj_proper.specs.Once.{IsAmong, Once, AreDistinct, DefinesOnce, NamesOnce}
 use Rattle.sj_kept.specs.Kept.{KeepsTreeRules}
 use Rattle.sj_kept.proofs.Distinct.{Has, NoRepeat, declares, own-declares, repeat-parts, once}

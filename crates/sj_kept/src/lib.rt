@@ -11,7 +11,7 @@ ghost use Rattle.sj_trees.specs.Term.{Term};
 ghost use Rattle.sj_trees.specs.declared.classes.ClassDef.{ClassDef};
 ghost use Rattle.sj_trees.specs.declared.classes.MethodDef.{MethodDef};
 ghost use Rattle.sj_proper.specs.Methods.{HaveTypes};
-ghost use Rattle.body_rules.specs.Standing.{call_type};
+ghost use Rattle.sj_proper.specs.Standing.{call_type};
 ghost use Rattle.sj_kept.specs.Kept.{KeepsTreeRules};
 ghost use Rattle.sj_proper.specs.Once.{DefinesOnce, NamesOnce};
 

@@ -13,7 +13,7 @@ use Rattle.body_rules.proofs.RulesGive.{ArgumentsFit}
 use Rattle.body_rules.proofs.Standing.{coerced-same, fits-same}
 use Rattle.body_rules.specs.Standing.{is_bare, Fits, FitAll, types_referred, MayStand}
 use Rattle.body_rules.specs.Subtyping.{IsSubtyping}
-use Rattle.built_forms.specs.Built.{Usable, can_box}
+use Rattle.body_rules.specs.Built.{Usable, can_box}
 use Rattle.helper_rules.specs.Helpers.{helper_name}
 use Rattle.helper_rules.specs.declared.kinds.Helper.TheVariants.{BoxedChar, ConstantsOf}
 use Rattle.helper_rules.specs.declared.kinds.Kind.TheVariants as kinds
@@ -23,8 +23,8 @@ use Rattle.js_mean.specs.Objects as js_objects
 use Rattle.js_mean.specs.States as js
 use Rattle.js_tree.specs.Terms.{Name}
 use Rattle.sj_core.specs.Terms as core
-use Rattle.sj_desugar.specs.Coercions.{is_char, coerced, coerced_arguments, coerced_receiver}
-use Rattle.sj_desugar.specs.Desugar.{types_of}
+use Rattle.body_rules.specs.Coercions.{is_char, coerced, coerced_arguments, coerced_receiver}
+use Rattle.body_rules.specs.Desugar.{types_of}
 use Rattle.sj_names.proofs.Same.{impossible}
 use Rattle.sj_names.specs.declared.references.TypeRef.{TypeRef}
 use Rattle.sj_trees.specs.Term.{Terms, no_terms, more_terms}
@@ -32,13 +32,13 @@ use Rattle.sj_trees.specs.TypeOf.{type_of_term}
 use Rattle.sj_trees.specs.Types.{class_type, reference_type}
 use Rattle.sj_trees.specs.declared.types.IrType.{IrType}
 use Rattle.sj_trees.specs.declared.types.IrType.TheVariants.{Any, Char, Class}
-use Rattle.sj_world.specs.Known.{Classes}
-use Rattle.sj_world.specs.Laws.{IsPlain}
-use Rattle.sj_world.specs.Subtypes.{IsSub}
+use Rattle.ir_mean.specs.Known.{Classes}
+use Rattle.ir_mean.specs.Laws.{IsPlain}
+use Rattle.ir_mean.specs.Subtypes.{IsSub}
 use Rattle.sj_plain.specs.Settings.{Place, Setting, shown, usable, Top, a_static, a_helper, some_constants, TopHolds, top_name, box_link, SameState, Valued, valued, thrown, Based, Lawful, Inside, BoxesAlike, MayBox}
 use Rattle.sj_plain.specs.Standing.{suits, Takes}
 use Rattle.sj_plain.specs.Worlds.{with_owned}
-use Rattle.sj_emit_expr.specs.Templates.{static_name}
+use Rattle.body_rules.specs.Templates.{static_name}
 use Rattle.sj_plain.proofs.Heaps.{holding-carry, owned-still, owns}
 use Rattle.sj_plain.proofs.Orders.{OperandAlike, OperandsAlike, no_operands, more_operands, text_of, valued-weaken, valued-fits}
 use Rattle.sj_plain.proofs.Standing.{suits_open}

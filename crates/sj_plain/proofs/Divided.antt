@@ -6,7 +6,7 @@ use Rattle.int_arithmetic.specs.Numbers as numbers
 use Rattle.outcomes.specs.Outcome.{Out, End, Lines, Done, Going, Wrong, done, wrong, then_do}
 use Rattle.outcomes.specs.Agreement.{Direction, forward, backward, Related, Sim}
 use Rattle.outcomes.proofs.Simulation.{sim_then, sim_weaken}
-use Rattle.built_forms.specs.Built.{divides}
+use Rattle.body_rules.specs.Built.{divides}
 use Rattle.helper_rules.specs.Helpers.{helper_name}
 use Rattle.ir_mean.specs.Meaning as ir_meaning
 use Rattle.ir_mean.specs.Operators as ir_operators
@@ -17,13 +17,13 @@ use Rattle.js_mean.specs.States as js
 use Rattle.js_tree.specs.Terms as tree
 use Rattle.js_tree.specs.declared.operators.BinaryOperator.TheVariants as Op
 use Rattle.sj_core.specs.Terms as core
-use Rattle.sj_emit_expr.specs.Templates.{expression_template, binary_template, is_nonzero_literal}
+use Rattle.body_rules.specs.Templates.{expression_template, binary_template, is_nonzero_literal}
 use Rattle.sj_names.proofs.Same.{impossible}
 use Rattle.sj_trees.specs.TypeOf.{binary_result}
 use Rattle.sj_trees.specs.declared.operators.BinaryOp.{BinaryOp}
 use Rattle.sj_trees.specs.declared.operators.BinaryOp.TheVariants.{IntDivide, IntRemainder, LongDivide, LongRemainder}
 use Rattle.sj_trees.specs.declared.types.IrType.{IrType}
-use Rattle.typing_rules.specs.Rules.{left_operand, right_operand}
+use Rattle.body_rules.specs.Rules.{left_operand, right_operand}
 use Rattle.body_rules.specs.Operators.{IsDivision, a_quotient, a_remainder, IsLongDivision, a_long_quotient, a_long_remainder}
 use Rattle.body_rules.specs.Standing.{Fits}
 use Rattle.sj_plain.specs.Settings.{Setting, usable, shown, SameState, Valued, valued, thrown, Lawful, Inside, a_helper, division_helper, top_function}

@@ -21,15 +21,15 @@ use Rattle.js_tree.specs.Terms as tree
 use Rattle.js_tree.specs.declared.operators.BinaryOperator.{BinaryOperator}
 use Rattle.js_tree.specs.declared.operators.BinaryOperator.TheVariants as Op
 use Rattle.sj_core.specs.Terms as core
-use Rattle.sj_desugar.specs.Desugar.{expression_of}
-use Rattle.sj_emit_expr.specs.Templates.{expression_template, binary_template, is_nonzero_literal, wrapped}
+use Rattle.body_rules.specs.Desugar.{expression_of}
+use Rattle.body_rules.specs.Templates.{expression_template, binary_template, is_nonzero_literal, wrapped}
 use Rattle.sj_trees.specs.Term.{Term, int_literal, long_literal}
 use Rattle.sj_trees.specs.TypeOf.{binary_result}
 use Rattle.sj_trees.specs.declared.operators.BinaryOp.{BinaryOp}
 use Rattle.sj_trees.specs.declared.operators.BinaryOp.TheVariants.{IntDivide, LongDivide}
 use Rattle.sj_trees.specs.declared.types.IrType.{IrType}
 use Rattle.sj_trees.specs.declared.types.IrType.TheVariants.{Int, Long}
-use Rattle.typing_rules.specs.Rules.{left_operand}
+use Rattle.body_rules.specs.Rules.{left_operand}
 use Rattle.body_rules.specs.Operators.{IsDivision, a_quotient, a_remainder, IsLongDivision, a_long_quotient, a_long_remainder, DividesBy, by_int, by_long}
 use Rattle.sj_plain.specs.Settings.{Setting, shown, SameState, Valued, usable}
 use Rattle.body_rules.specs.Standing.{Fits}

@@ -15,3 +15,4 @@ pub mod Tests
 pub mod Plain
 pub mod Runs
 pub mod Boxes
+pub use Rattle.ir_mean.proofs.HijackedCalls

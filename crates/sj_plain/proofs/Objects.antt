@@ -17,21 +17,21 @@ use Rattle.js_tree.specs.Terms as tree
 use Rattle.sj_core.specs.declared.callees.Callee.TheVariants as callees
 use Rattle.sj_core.specs.Terms as core
 use Rattle.sj_core.specs.Views.{expressions_of}
-use Rattle.sj_desugar.specs.Desugar.{member}
-use Rattle.sj_emit_expr.specs.Templates.{called_member, check_name, property_name, class_name, static_name, setter_name, expression_template, expression_templates}
+use Rattle.body_rules.specs.Desugar.{member}
+use Rattle.body_rules.specs.Templates.{called_member, check_name, property_name, class_name, static_name, setter_name, expression_template, expression_templates}
 use Rattle.sj_mangling.specs.Bindings.{field_binding}
 use Rattle.sj_mangling.specs.declared.bindings.FieldBinding.TheVariants.{Property}
-use Rattle.sj_desugar.specs.Coercions.{is_char}
+use Rattle.body_rules.specs.Coercions.{is_char}
 use Rattle.sj_names.specs.Same.{is_same_text}
 use Rattle.helper_rules.specs.declared.kinds.Helper.TheVariants.{NotNull}
 use Rattle.sj_names.specs.declared.method_names.Member.{Member}
-use Rattle.sj_world.specs.Known.{is_hijacked}
+use Rattle.ir_mean.specs.Known.{is_hijacked}
 use Rattle.sj_names.specs.declared.method_names.MethodName.{MethodName}
 use Rattle.sj_names.specs.declared.method_names.Namespace.TheVariants.{Constructor}
 use Rattle.sj_trees.specs.Types.{class_type}
 use Rattle.sj_trees.specs.declared.types.IrType.{IrType}
 use Rattle.sj_trees.specs.declared.types.IrType.TheVariants.{NoType}
-use Rattle.built_forms.proofs.Statics.{read_static}
+use Rattle.body_rules.proofs.Statics.{read_static}
 use Rattle.sj_plain.specs.Settings.{Setting, shown, usable, IsField, FieldsDiffer, SameField, same_field, no_field, SameStored, same_object, IsFree, SameHeap, SameState, Valued, valued, thrown, Based, Lawful, a_constructor, a_class, a_method, a_static, a_setter, a_helper, Holding, holding, top_function, top_call, links_of, Inside, Makes, makes, Built, built, failed, zeroed, IsReceiver}
 use Rattle.body_rules.specs.Standing.{Fits, FitAll, types_referred, call_type}
 use Rattle.sj_plain.specs.Worlds.{with_pending, with_born}

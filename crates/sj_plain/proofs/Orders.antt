@@ -14,7 +14,7 @@ use Rattle.body_rules.specs.Standing.{Fits}
 use Rattle.sj_plain.proofs.Told.{tells}
 use Rattle.sj_core.specs.Terms as core
 use Rattle.js_tree.specs.Terms as tree
-use Rattle.sj_emit_expr.specs.Templates.{expression_template}
+use Rattle.body_rules.specs.Templates.{expression_template}
 use Rattle.sj_trees.specs.declared.types.IrType.{IrType}
 use Rattle.sj_plain.specs.Settings.{Setting, shown, SameState, Valued, valued, thrown, usable}
 

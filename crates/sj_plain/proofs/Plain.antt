@@ -9,12 +9,12 @@ use Rattle.body_rules.proofs.Locals.{there}
 use Rattle.body_rules.proofs.RulesGive.{when_not, ArgumentsFit, Takes, its_types, texts, of_division, of_identity, each_made, arguments_there, operation}
 use Rattle.body_rules.specs.Subtyping.{IsSubtyping}
 use Rattle.body_rules.specs.Typing.{Scene, Typed, TypedAll, may_check}
-use Rattle.built_forms.specs.Boxes.{is_boxed, any_is_boxed, operands_are_boxed, boxes_as_text, any_boxes_as_text}
-use Rattle.built_forms.specs.Built.{Usable, may_make, divides}
-use Rattle.sj_desugar.specs.Plain.{is_plain, are_plain, is_no_type}
+use Rattle.body_rules.specs.Boxes.{is_boxed, any_is_boxed, operands_are_boxed, boxes_as_text, any_boxes_as_text}
+use Rattle.body_rules.specs.Built.{Usable, may_make, divides}
+use Rattle.body_rules.specs.Plain.{is_plain, are_plain, is_no_type}
 use Rattle.sj_names.specs.declared.method_names.Namespace.{Namespace}
 use Rattle.sj_names.specs.declared.method_names.MethodName.{MethodName}
-use Rattle.sj_world.specs.Subtypes.{IsSub}
+use Rattle.ir_mean.specs.Subtypes.{IsSub}
 use Rattle.std.specs.Int.{w32, w64}
 use Rattle.int_arithmetic.proofs.Longs.{in_range-fits}
 use Rattle.outcomes.specs.Outcome.{Out, done, wrong, then_do}
@@ -30,11 +30,11 @@ use Rattle.js_tree.specs.Terms as tree
 use Rattle.sj_core.specs.declared.callees.Callee.TheVariants as callees
 use Rattle.sj_core.specs.Terms as core
 use Rattle.sj_core.specs.Views.{expressions_of}
-use Rattle.sj_desugar.specs.Coercions.{is_char, coerced, coerced_arguments, coerced_receiver}
+use Rattle.body_rules.specs.Coercions.{is_char, coerced, coerced_arguments, coerced_receiver}
 use Rattle.sj_names.specs.declared.references.TypeRef.{TypeRef}
-use Rattle.sj_desugar.specs.Desugar.{member, types_of, received_text, expression_of, all_expressions}
-use Rattle.sj_desugar.specs.Texts.{operand_of}
-use Rattle.sj_emit_expr.specs.Templates.{check_name, member_name, expression_template, expression_templates, binary_template, unary_template, is_nonzero_literal}
+use Rattle.body_rules.specs.Desugar.{member, types_of, received_text, expression_of, all_expressions}
+use Rattle.body_rules.specs.Texts.{operand_of}
+use Rattle.body_rules.specs.Templates.{check_name, member_name, expression_template, expression_templates, binary_template, unary_template, is_nonzero_literal}
 use Rattle.sj_names.proofs.Same.{impossible}
 use Rattle.sj_names.specs.declared.method_names.Member.{Member}
 use Rattle.sj_trees.specs.Term.{Term, Terms, no_terms, more_terms, var_def, skip, block_of, labeled, assign, return_to, if_then, while_loop, do_while, throw, match_on, new_object, select, select_static, apply, apply_statically, this_ref, apply_static, unary_op, binary_op, is_instance_of, as_instance_of, log_line, undefined_literal, null_literal, boolean_literal, char_literal, byte_literal, short_literal, int_literal, long_literal, string_literal, var_ref}
@@ -48,7 +48,7 @@ use Rattle.sj_trees.specs.declared.types.IrType.{IrType}
 use Rattle.sj_trees.specs.Types.{class_type, reference_type}
 use Rattle.sj_trees.specs.declared.types.IrType.TheVariants.{Any, Undefined, Null, Boolean, Char, Byte, Short, Int, Long, String}
 use Rattle.body_rules.specs.Operators.{is_simple, Operates, of_its_types, joins, divided, compared, a_quotient, a_remainder, a_long_quotient, a_long_remainder, DividesBy, by_int, by_long}
-use Rattle.typing_rules.specs.Rules.{left_operand, right_operand, unary_operand, Yields, nothing_wanted, fitting}
+use Rattle.body_rules.specs.Rules.{left_operand, right_operand, unary_operand, Yields, nothing_wanted, fitting}
 use Rattle.sj_plain.specs.Conditions.{InScope, IsNoConstruction, Plain}
 use Rattle.body_rules.specs.Locals.{Scope}
 use Rattle.sj_plain.specs.Settings.{Setting, shown, SameState, Inside, Valued, valued, Lawful, Holding, holding, Sees, Receiving, no_receiver, on_receiver, usable, a_function, function_of_member, function_call}

@@ -7,12 +7,12 @@ use Rattle.body_rules.specs.Standing.{MayStand}
 use Rattle.body_rules.specs.Subtyping.{IsSubtyping}
 use Rattle.body_rules.specs.Typing.{Scene, Typed, AllHaveValues, may_check}
 use Rattle.body_rules.specs.Locals.{HasValue}
-use Rattle.sj_emit_expr.specs.Templates.{called_member, check_name}
+use Rattle.body_rules.specs.Templates.{called_member, check_name}
 use Rattle.sure_receivers.specs.Sure.{is_sure}
-use Rattle.built_forms.specs.Boxes.{is_boxed, any_is_boxed}
-use Rattle.built_forms.specs.Built.{Usable, may_make}
-use Rattle.sj_desugar.specs.Desugar.{has_no_value, member}
-use Rattle.sj_desugar.specs.Plain.{is_no_type}
+use Rattle.body_rules.specs.Boxes.{is_boxed, any_is_boxed}
+use Rattle.body_rules.specs.Built.{Usable, may_make}
+use Rattle.body_rules.specs.Desugar.{has_no_value, member}
+use Rattle.body_rules.specs.Plain.{is_no_type}
 use Rattle.sj_names.proofs.Same.{impossible}
 use Rattle.sj_names.specs.declared.method_names.MethodName.{MethodName}
 use Rattle.sj_names.specs.declared.method_names.Namespace.{Namespace}
@@ -25,9 +25,9 @@ use Rattle.sj_trees.specs.Types.{class_type}
 use Rattle.sj_trees.specs.declared.types.IrType.{IrType}
 use Rattle.sj_trees.specs.declared.types.IrType.TheVariants.{Any, Nothing, NoType}
 use Rattle.sj_trees.specs.declared.positions.Position.{Position}
-use Rattle.sj_world.specs.Known.{Classes}
-use Rattle.sj_world.specs.Subtypes.{IsSub}
-use Rattle.typing_rules.specs.Rules as rules
+use Rattle.ir_mean.specs.Known.{Classes}
+use Rattle.ir_mean.specs.Subtypes.{IsSub}
+use Rattle.body_rules.specs.Rules as rules
 
 pub value_none : (t : IrType) → has_no_value t ≡ false → is_no_type t ≡ false
 value_none NoType h = impossible (sym h)

@@ -11,9 +11,9 @@ use Rattle.js_mean.specs.States as js
 use Rattle.sj_core.specs.declared.callees.Callee.TheVariants as callees
 use Rattle.sj_core.specs.Terms as core
 use Rattle.sj_core.specs.Views.{expressions_of}
-use Rattle.sj_desugar.specs.Coercions.{is_char}
-use Rattle.sj_emit_expr.specs.Templates.{expression_templates}
-use Rattle.sj_desugar.specs.Desugar.{member}
+use Rattle.body_rules.specs.Coercions.{is_char}
+use Rattle.body_rules.specs.Templates.{expression_templates}
+use Rattle.body_rules.specs.Desugar.{member}
 use Rattle.sj_names.specs.declared.method_names.Member.{Member}
 use Rattle.sj_names.specs.declared.method_names.MethodName.{MethodName}
 use Rattle.sj_names.specs.declared.method_names.Namespace.TheVariants.{Constructor}

@@ -16,12 +16,12 @@ use Rattle.js_mean.specs.States as js
 use Rattle.js_tree.specs.Terms as tree
 use Rattle.js_tree.specs.declared.operators.BinaryOperator.TheVariants as Op
 use Rattle.sj_core.specs.Terms as core
-use Rattle.sj_desugar.specs.Texts.{text_of}
-use Rattle.sj_emit_expr.specs.Templates.{expression_template, places}
+use Rattle.body_rules.specs.Texts.{text_of}
+use Rattle.body_rules.specs.Templates.{expression_template, places}
 use Rattle.sj_trees.specs.declared.operators.BinaryOp.{BinaryOp}
 use Rattle.sj_trees.specs.declared.operators.BinaryOp.TheVariants.{StringConcatenate, LongShiftLeft, LongShiftRightLogical, LongShiftRightArithmetic}
 use Rattle.js_tree.specs.declared.operators.HostOperation.TheVariants.{BigIntAsUintN}
-use Rattle.sj_desugar.specs.Coercions.{is_char}
+use Rattle.body_rules.specs.Coercions.{is_char}
 use Rattle.sj_names.proofs.Same.{impossible}
 use Rattle.sj_trees.specs.declared.types.IrType.{IrType}
 use Rattle.sj_trees.specs.declared.types.IrType.TheVariants.{Char, Int, Long, String}

@@ -3,14 +3,14 @@ use Rattle.std.proofs.Common.{◌≡◌, ℕ, Bool, true, false, List, refl, ap,
 use Rattle.std.specs.Prelude.{not, ◌||◌, codes, nat_eq}
 use Rattle.std.specs.Cmp.Lexicographic.{pointwise}
 use Rattle.ir_mean.specs.States as ir
-use Rattle.sj_desugar.specs.Coercions.{is_char}
+use Rattle.body_rules.specs.Coercions.{is_char}
 use Rattle.sj_names.proofs.Same.{impossible, text-same}
 use Rattle.sj_trees.specs.Types.{class_type}
 use Rattle.sj_trees.specs.declared.types.IrType.{IrType}
 use Rattle.sj_trees.specs.declared.types.IrType.TheVariants.{Any, Nothing, Undefined, Boolean, Char, Byte, Short, Int, Long, String, Class, Null, Array, NoType}
 use Rattle.sj_plain.specs.Standing.{suits}
 use Rattle.body_rules.specs.Standing.{is_bare, Fits}
-use Rattle.sj_world.specs.Known.{is_hijacked}
+use Rattle.ir_mean.specs.Known.{is_hijacked}
 
 not-true : (b : Bool) → not b ≡ true → b ≡ false
 not-true true h = impossible h

@@ -23,7 +23,7 @@ use Rattle.js_tree.specs.Terms as tree
 use Rattle.js_tree.specs.declared.operators.BinaryOperator.{BinaryOperator}
 use Rattle.js_tree.specs.declared.operators.BinaryOperator.TheVariants as Op
 use Rattle.js_tree.specs.declared.operators.UnaryOperator.TheVariants.{Not}
-use Rattle.sj_emit_expr.specs.Templates.{unary_template, binary_template, wrapped}
+use Rattle.body_rules.specs.Templates.{unary_template, binary_template, wrapped}
 use Rattle.sj_trees.specs.declared.operators.BinaryOp.{BinaryOp}
 use Rattle.sj_trees.specs.declared.operators.BinaryOp.TheVariants.{BooleanEqual, BooleanNotEqual, BooleanOr, BooleanAnd, IntAdd, IntSubtract, IntMultiply, IntOr, IntAnd, IntXor, IntShiftLeft, IntShiftRightLogical, IntShiftRightArithmetic, IntEqual, IntNotEqual, IntLess, IntLessOrEqual, IntGreater, IntGreaterOrEqual, LongAdd, LongSubtract, LongMultiply, LongOr, LongAnd, LongXor, LongEqual, LongNotEqual, LongLess, LongLessOrEqual, LongGreater, LongGreaterOrEqual}
 use Rattle.sj_trees.specs.declared.operators.UnaryOp.{UnaryOp}
@@ -33,9 +33,9 @@ use Rattle.sj_trees.specs.declared.types.IrType.{IrType}
 use Rattle.sj_trees.specs.declared.types.IrType.TheVariants.{Byte, Short, Int}
 use Rattle.sj_plain.proofs.Worlds.{World, Grows, Stands, same_boolean, same_char, same_box, same_number, same_long, one_more, no_values, value-fits}
 use Rattle.sj_names.proofs.Same.{impossible}
-use Rattle.sj_desugar.specs.Coercions.{is_char}
+use Rattle.body_rules.specs.Coercions.{is_char}
 use Rattle.body_rules.specs.Standing.{Fits}
-use Rattle.typing_rules.specs.Rules.{unary_operand}
+use Rattle.body_rules.specs.Rules.{unary_operand}
 use Rattle.sj_plain.proofs.Operators.{template_value, or_zero_value, boolean_of, wrapped_value, is_direct, number_given, long_given, GivenIf, values_alike}
 use Rattle.sj_plain.proofs.Orders.{ActsAlike, in_order-then}
 use Rattle.sj_plain.specs.Settings.{Setting, SameState, Valued, valued}

@@ -5,7 +5,7 @@ use Rattle.outcomes.specs.Outcome.{Out, done, then_do}
 use Rattle.outcomes.specs.Agreement.{Sim}
 use Rattle.outcomes.proofs.Sequence.{then_do-right}
 use Rattle.outcomes.proofs.Simulation.{sim_done, sim_then, sim_weaken}
-use Rattle.built_forms.specs.Built.{can_cast, compares}
+use Rattle.body_rules.specs.Built.{can_cast, compares}
 use Rattle.helper_rules.specs.declared.kinds.Helper.TheVariants.{Equal}
 use Rattle.ir_mean.specs.Meaning as ir_meaning
 use Rattle.ir_mean.specs.Operators as ir_operators
@@ -15,10 +15,10 @@ use Rattle.js_mean.specs.Meaning as js_meaning
 use Rattle.js_mean.specs.States as js
 use Rattle.js_tree.specs.Terms as tree
 use Rattle.sj_core.specs.Terms as core
-use Rattle.sj_desugar.specs.Coercions.{coerced}
-use Rattle.sj_desugar.specs.Texts.{operand_of}
-use Rattle.sj_emit_expr.specs.Templates.{binary_template}
-use Rattle.sj_emit_expr.specs.Tests.{test_name, cast_name, test_template, cast_template, same_template, call_of_one}
+use Rattle.body_rules.specs.Coercions.{coerced}
+use Rattle.body_rules.specs.Texts.{operand_of}
+use Rattle.body_rules.specs.Templates.{binary_template}
+use Rattle.body_rules.specs.Tests.{test_name, cast_name, test_template, cast_template, same_template, call_of_one}
 use Rattle.sj_names.proofs.Same.{impossible}
 use Rattle.sj_trees.specs.TypeOf.{binary_result}
 use Rattle.sj_trees.specs.declared.operators.BinaryOp.{BinaryOp}

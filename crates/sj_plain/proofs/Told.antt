@@ -11,7 +11,7 @@ use Rattle.sj_trees.specs.declared.operators.BinaryOp.{BinaryOp}
 use Rattle.sj_trees.specs.declared.operators.BinaryOp.TheVariants.{StrictEqual, StrictNotEqual, StringConcatenate, BooleanEqual, BooleanNotEqual, BooleanOr, BooleanAnd, LongAdd, LongSubtract, LongMultiply, LongDivide, LongRemainder, LongOr, LongAnd, LongXor, LongShiftLeft, LongShiftRightLogical, LongShiftRightArithmetic, LongEqual, LongNotEqual, LongLess, LongLessOrEqual, LongGreater, LongGreaterOrEqual}
 use Rattle.sj_trees.specs.declared.types.IrType.{IrType}
 use Rattle.sj_trees.specs.declared.types.IrType.TheVariants.{Any, Boolean, Char, Byte, Short, Int, Long}
-use Rattle.typing_rules.specs.Rules.{left_operand, right_operand}
+use Rattle.body_rules.specs.Rules.{left_operand, right_operand}
 use Rattle.body_rules.specs.Standing.{Fits}
 use Rattle.sj_plain.proofs.Operators.{is_direct}
 

@@ -6,7 +6,7 @@ use Rattle.js_mean.specs.Meaning as js_meaning
 use Rattle.js_mean.specs.States as js
 use Rattle.sj_core.specs.Terms as core
 use Rattle.sj_core.specs.Views.{expressions_of}
-use Rattle.sj_emit_expr.specs.Templates.{expression_templates}
+use Rattle.body_rules.specs.Templates.{expression_templates}
 use Rattle.sj_plain.specs.Settings.{Setting, shown, Based, Inside, Top, top_name, is_named, usable}
 use Rattle.sj_plain.proofs.Orders.{all_shown}
 

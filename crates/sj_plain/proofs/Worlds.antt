@@ -5,7 +5,7 @@ use Rattle.js_mean.specs.States as js
 pub use Rattle.sj_plain.specs.Worlds.{World, nothing_made, Grows, Stands, same_undefined, same_null, IsBox, same_boolean, same_char, same_box, same_number, same_long, same_text, same_reference, SameValue, SameValues, no_values, one_more}
 use Rattle.body_rules.specs.Standing.{Fits, FitAll}
 use Rattle.sj_plain.proofs.Standing.{fits-suits, fits-raw}
-use Rattle.sj_desugar.specs.Coercions.{is_char}
+use Rattle.body_rules.specs.Coercions.{is_char}
 use Rattle.sj_trees.specs.declared.types.IrType.{IrType}
 
 pub grows-refl : (w : World) → Grows w w

@@ -2,14 +2,14 @@
 use Rattle.std.specs.Prelude.{◌≡◌, ℕ, true, List}
 use Rattle.body_rules.specs.Locals.{Scope, parameters_of}
 use Rattle.body_rules.specs.Typing.{Scene, Typed}
-use Rattle.built_forms.specs.Boxes.{boxes_as_text}
-use Rattle.built_forms.specs.Built.{Usable, may_make}
-use Rattle.sj_desugar.specs.Plain.{is_plain}
+use Rattle.body_rules.specs.Boxes.{boxes_as_text}
+use Rattle.body_rules.specs.Built.{Usable, may_make}
+use Rattle.body_rules.specs.Plain.{is_plain}
 use Rattle.sj_names.specs.declared.method_names.Namespace.TheVariants.{Constructor}
 use Rattle.sj_trees.specs.Term.{Term, apply_statically}
 use Rattle.sj_plain.specs.Settings.{Code}
 use Rattle.sj_trees.specs.declared.types.IrType.{IrType}
-use Rattle.sj_world.specs.Known.{Classes}
+use Rattle.ir_mean.specs.Known.{Classes}
 
 -- the locals of the scene are in scope
 abbrev pub InScope : Scene → Scope → Type 0

@@ -2,3 +2,11 @@ pub mod Standing
 pub mod Conditions
 pub mod Settings
 pub mod Worlds
+pub use Rattle.ir_mean.specs.Meaning
+pub use Rattle.ir_mean.specs.Rows
+pub use Rattle.ir_mean.specs.Shows
+pub use Rattle.ir_mean.specs.States
+pub use Rattle.ir_mean.specs.World
+pub use Rattle.ir_mean.specs.Known
+pub use Rattle.ir_mean.specs.Subtypes
+pub use Rattle.helper_rules.specs.declared.kinds.Helper

@@ -21,9 +21,9 @@ use Rattle.js_mean.specs.States as js
 use Rattle.js_mean.specs.Shows.{object_shown, class_marked}
 use Rattle.outcomes.specs.Shown as shown_ends
 use Rattle.sj_core.specs.Terms as core
-use Rattle.sj_desugar.specs.Coercions.{is_char}
-use Rattle.sj_emit_expr.specs.Tests.{test_name, cast_name}
-use Rattle.sj_emit_expr.specs.Templates.{called_member, check_name, member_name, static_name, setter_name, expression_template, statement_templates}
+use Rattle.body_rules.specs.Coercions.{is_char}
+use Rattle.body_rules.specs.Tests.{test_name, cast_name}
+use Rattle.body_rules.specs.Templates.{called_member, check_name, member_name, static_name, setter_name, expression_template, statement_templates}
 use Rattle.sj_mangling.specs.Bindings.{class_binding, field_binding}
 use Rattle.sj_mangling.specs.declared.bindings.ClassBinding.TheVariants.{Class, Constants, Marker}
 use Rattle.sj_mangling.specs.declared.bindings.FieldBinding.TheVariants.{Property}
@@ -32,10 +32,10 @@ use Rattle.sj_names.specs.declared.method_names.Member.{Member}
 use Rattle.body_rules.specs.Subtyping.{IsSubtyping}
 use Rattle.sj_plain.specs.Standing.{suits}
 use Rattle.sj_plain.specs.Worlds.{World, with_pending, Grows, SameValue, SameValues}
-use Rattle.sj_world.specs.Ancestors.{IsAncestor}
-use Rattle.sj_world.specs.Known.{is_hijacked}
-use Rattle.sj_world.specs.Subtypes.{IsSub}
-use Rattle.built_forms.specs.Built.{Usable, has_static, can_box, divides, compares}
+use Rattle.ir_mean.specs.Ancestors.{IsAncestor}
+use Rattle.ir_mean.specs.Known.{is_hijacked}
+use Rattle.ir_mean.specs.Subtypes.{IsSub}
+use Rattle.body_rules.specs.Built.{Usable, has_static, can_box, divides, compares}
 use Rattle.body_rules.specs.Locals.{Scope, HasValue}
 use Rattle.body_rules.specs.Standing.{types_referred, call_type}
 use Rattle.sj_trees.specs.declared.classes.ClassDef.{ClassDef}
@@ -44,7 +44,7 @@ use Rattle.sj_trees.specs.TypeOf.{binary_result}
 use Rattle.sj_trees.specs.Types.{class_type}
 use Rattle.sj_trees.specs.declared.operators.BinaryOp.{BinaryOp}
 use Rattle.sj_trees.specs.declared.operators.BinaryOp.TheVariants.{IntDivide, IntRemainder, LongDivide, StrictEqual}
-use Rattle.typing_rules.specs.Rules.{left_operand, right_operand}
+use Rattle.body_rules.specs.Rules.{left_operand, right_operand}
 use Rattle.sj_trees.specs.declared.types.IrType.{IrType}
 use Rattle.sj_trees.specs.declared.types.IrType.TheVariants.{Any, Boolean, Array, NoType}
 

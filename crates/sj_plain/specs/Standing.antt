@@ -2,7 +2,7 @@
 use Rattle.std.specs.Prelude.{◌≡◌, Bool, true, false, not, ◌⊎◌}
 use Rattle.ir_mean.specs.States as ir
 use Rattle.body_rules.specs.Standing.{is_bare, Fits}
-use Rattle.sj_desugar.specs.Coercions.{is_char}
+use Rattle.body_rules.specs.Coercions.{is_char}
 use Rattle.sj_trees.specs.declared.types.IrType.{IrType}
 use Rattle.sj_trees.specs.declared.types.IrType.TheVariants.{Nothing, Undefined, Boolean, Char, Byte, Short, Int, Long, String}
 

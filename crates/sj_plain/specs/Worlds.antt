@@ -4,7 +4,7 @@ use Rattle.std.specs.Int.{w32, w64}
 use Rattle.ir_mean.specs.States as ir
 use Rattle.js_mean.specs.States as js
 use Rattle.js_tree.specs.Terms.{Name}
-use Rattle.sj_desugar.specs.Coercions.{is_char}
+use Rattle.body_rules.specs.Coercions.{is_char}
 use Rattle.sj_mangling.specs.Bindings.{class_binding}
 use Rattle.sj_mangling.specs.declared.bindings.ClassBinding.TheVariants.{Marker}
 use Rattle.sj_plain.specs.Standing.{suits}

@@ -10,7 +10,7 @@ ghost use Rattle.outcomes.specs.Agreement.{Sim};
 ghost use Rattle.ir_mean.specs.Meaning as ir_meaning;
 ghost use Rattle.ir_mean.specs.States as ir;
 ghost use Rattle.js_mean.specs.States as js;
-ghost use Rattle.sj_desugar.specs.Desugar.{expression_of};
+ghost use Rattle.body_rules.specs.Desugar.{expression_of};
 ghost use Rattle.sj_trees.specs.Term.{Term};
 ghost use Rattle.sj_trees.specs.TypeOf.{type_of_term};
 ghost use Rattle.sj_trees.specs.declared.types.IrType.{IrType};

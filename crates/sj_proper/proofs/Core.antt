@@ -1,14 +1,14 @@
 -- Statements of the core that have no early error, and their templates.
 use Rattle.std.proofs.Common.{◌≡◌, ℕ, Bool, true, false, ◌&&◌, ◌||◌, not, List, [], ◌∷◌, map, refl, sym, ap, ◌∙◌, subst, inl, inr, ⊎_elim}
-use Rattle.sj_core.specs.Lookup.{Lookup}
+use Rattle.body_rules.specs.Lookup.{Lookup}
 use Rattle.std.specs.Prelude.{nat_eq}
 use Rattle.std.specs.Cmp.Lexicographic.{pointwise}
 use Rattle.js_mean.specs.Proper.{Place, is_among, are_distinct, declared, is_proper, are_proper, are_proper_cases}
-use Rattle.js_tree.specs.Terms as tree
-use Rattle.js_tree.specs.Terms.{Name}
-use Rattle.sj_core.specs.Terms as core
-use Rattle.sj_core.specs.Terms.{followed}
-use Rattle.sj_emit_expr.specs.Templates.{statement_template, statement_templates, case_templates}
+use Rattle.js_mean.specs.Terms as tree
+use Rattle.js_mean.specs.Terms.{Name}
+use Rattle.body_rules.specs.Terms as core
+use Rattle.body_rules.specs.Terms.{followed}
+use Rattle.body_rules.specs.Templates.{statement_template, statement_templates, case_templates}
 use Rattle.body_rules.proofs.Equal.{equals, is-equal}
 use Rattle.sj_proper.proofs.Declared.{DeclaresOne, Declares, declares-followed, declared-named}
 use Rattle.sj_names.proofs.Same.{impossible}

@@ -1,13 +1,13 @@
 -- What statements declare.
 use Rattle.std.proofs.Common.{◌≡◌, ℕ, ◌≤◌, Bool, true, false, ◌||◌, List, refl, sym, ◌⊎◌, inl, inr, ⊎_elim}
-use Rattle.sj_core.specs.Lookup.{Lookup}
+use Rattle.body_rules.specs.Lookup.{Lookup}
 use Rattle.std.specs.Prelude.{nat_eq}
 use Rattle.std.specs.Cmp.Lexicographic.{pointwise}
 use Rattle.js_mean.specs.Proper.{is_among, declared}
-use Rattle.js_tree.specs.Terms.{Name}
-use Rattle.sj_core.specs.Terms as core
-use Rattle.sj_core.specs.Terms.{followed}
-use Rattle.sj_emit_expr.specs.Templates.{statement_templates}
+use Rattle.js_mean.specs.Terms.{Name}
+use Rattle.body_rules.specs.Terms as core
+use Rattle.body_rules.specs.Terms.{followed}
+use Rattle.body_rules.specs.Templates.{statement_templates}
 pub use Rattle.body_rules.specs.Locals.{Own, OwnAll, OwnCases}
 use Rattle.body_rules.proofs.Equal.{is-equal}
 use Rattle.sj_names.proofs.Same.{impossible}

@@ -1,11 +1,11 @@
 -- Code that declares each variable once and has no early error, piece by piece.
 use Rattle.std.proofs.Common.{◌≡◌, ◌≤◌, ◌<◌, ℕ, suc, Bool, true, false, ◌&&◌, List, ◌∷◌, Some, None, refl, sym, subst, arith, ⊎_elim}
 use Rattle.std.specs.Prelude.{ℤ}
-use Rattle.sj_core.specs.Terms as core
-use Rattle.sj_core.specs.Terms.{followed}
-use Rattle.sj_desugar.specs.Coercions.{coerced}
-use Rattle.sj_desugar.specs.Desugar.{finish, has_no_value, branches, break_unless, Branches, one_case, switch_code}
-use Rattle.sj_desugar.specs.Spill.{Destination, discard, to_variable, to_result, Code, no_code, one, put_first, joined, Operand, all_plain, Spilled, spill, spill_case, then_use}
+use Rattle.body_rules.specs.Terms as core
+use Rattle.body_rules.specs.Terms.{followed}
+use Rattle.body_rules.specs.Coercions.{coerced}
+use Rattle.body_rules.specs.Desugar.{finish, has_no_value, branches, break_unless, Branches, one_case, switch_code}
+use Rattle.body_rules.specs.Spill.{Destination, discard, to_variable, to_result, Code, no_code, one, put_first, joined, Operand, all_plain, Spilled, spill, spill_case, then_use}
 use Rattle.sj_trees.specs.declared.positions.Position.{Position}
 use Rattle.sj_trees.specs.declared.types.IrType.{IrType}
 use Rattle.sj_proper.proofs.Declared.{DeclaresOne, Declares, declares-followed}

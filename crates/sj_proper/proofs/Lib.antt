@@ -5,3 +5,18 @@ pub mod Modules
 pub mod Names
 pub mod Statics
 pub mod Trees
+pub use Rattle.body_rules.proofs.Direct
+pub use Rattle.body_rules.proofs.Equal
+pub use Rattle.body_rules.proofs.Fitting
+pub use Rattle.body_rules.proofs.InWorld
+pub use Rattle.body_rules.proofs.Lists
+pub use Rattle.body_rules.proofs.Locals
+pub use Rattle.body_rules.proofs.Plain
+pub use Rattle.body_rules.proofs.RulesGive
+pub use Rattle.body_rules.proofs.Topped
+pub use Rattle.body_rules.proofs.Around
+pub use Rattle.body_rules.proofs.Statics as BuiltFormsStatics
+pub use Rattle.body_rules.proofs.Mutable
+pub use Rattle.body_rules.proofs.Standing
+pub use Rattle.body_rules.proofs.Targets
+pub use Rattle.body_rules.proofs.BuiltFormsDirect

@@ -1,18 +1,18 @@
 -- A module of the functions of methods has no early error.
 use Rattle.std.proofs.Common.{◌≡◌, ℕ, Bool, true, false, ◌&&◌, ◌||◌, not, List, [], ◌∷◌, ◌++◌, None, map, refl, sym, ap, ◌∙◌, inl, inr, ⊎_elim, Contains}
-use Rattle.sj_core.specs.Lookup.{Lookup, own_targets}
+use Rattle.body_rules.specs.Lookup.{Lookup, own_targets}
 use Rattle.std.specs.Prelude.{nat_eq}
 use Rattle.std.specs.Cmp.Lexicographic.{pointwise}
 use Rattle.std.specs.List.{list_all}
 use Rattle.std.proofs.lemmas.List.Elements.{Contains-append_left, Contains-append_right, Contains-push}
 use Rattle.js_mean.specs.Proper.{is_among, are_distinct, declared, are_proper, is_proper_item, item_names, is_proper_module}
-use Rattle.js_tree.specs.Terms.{Name}
-use Rattle.sj_core.specs.Terms as core
-use Rattle.sj_desugar.specs.Desugar.{desugared, desugared_member, completed, body_code, names_of, is_mutable_in, into, result_destination}
-use Rattle.sj_emit_expr.specs.Members.{with_receiver, member_piece}
-use Rattle.sj_emit_expr.specs.Names.{variable_name, label_name}
-use Rattle.sj_emit_expr.specs.Pieces.{piece_of}
-use Rattle.sj_emit_expr.specs.Templates.{member_name, statement_templates, parameter_names}
+use Rattle.js_mean.specs.Terms.{Name}
+use Rattle.body_rules.specs.Terms as core
+use Rattle.body_rules.specs.Desugar.{desugared, desugared_member, completed, body_code, names_of, is_mutable_in, into, result_destination}
+use Rattle.body_rules.specs.Members.{with_receiver, member_piece}
+use Rattle.body_rules.specs.Names.{variable_name, label_name}
+use Rattle.body_rules.specs.Pieces.{piece_of}
+use Rattle.body_rules.specs.Templates.{member_name, statement_templates, parameter_names}
 use Rattle.sj_proper.specs.Once.{DefinesOnce, IsAmong, AreDistinct}
 use Rattle.sj_proper.proofs.Names.{variables-differ, labels-differ}
 use Rattle.sj_mangling.proofs.FunctionNames.{function_names_differ}
@@ -21,7 +21,7 @@ use Rattle.sj_names.specs.declared.method_names.Member.{Member}
 use Rattle.sj_names.specs.declared.method_names.Namespace.{Namespace}
 use Rattle.sj_names.specs.declared.method_names.Namespace.TheVariants.{Public, PublicStatic, Private, PrivateStatic, Constructor}
 use Rattle.sj_trees.specs.declared.classes.ParamDef.{ParamDef}
-use Rattle.sure_receivers.specs.Sure.{sure_locals}
+use Rattle.body_rules.specs.Sure.{sure_locals}
 use Rattle.body_rules.specs.Locals.{Own, IsParameter}
 use Rattle.body_rules.proofs.Equal.{differs}
 use Rattle.sj_proper.proofs.Declared.{Declares, declares-followed}

@@ -3,8 +3,8 @@ use Rattle.std.proofs.Common.{◌≡◌, ◌≤◌, ℕ, zero, suc, List, [], �
 use Rattle.std.specs.Prelude.{codes, ◌+◌}
 use Rattle.std.specs.Int.Digits.{digits_of, AllBelowBase}
 use Rattle.std.proofs.lemmas.Int.Digits.{all_below_base_digits_of}
-use Rattle.sj_core.specs.Terms.{Variable, named, numbered, receiver}
-use Rattle.sj_emit_expr.specs.Names.{variable_name, label_name}
+use Rattle.body_rules.specs.Terms.{Variable, named, numbered, receiver}
+use Rattle.body_rules.specs.Names.{variable_name, label_name}
 use Rattle.sj_mangling.specs.Mangling.{mangled}
 use Rattle.sj_mangling.specs.Numerals.{number_text}
 use Rattle.sj_mangling.proofs.Injective.{mangled_texts_differ}

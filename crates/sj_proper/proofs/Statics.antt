@@ -1,14 +1,14 @@
 -- The function of a static method is that of any method, without a receiver.
 use Rattle.std.proofs.Common.{◌≡◌, true, ◌∙◌, List, refl, ap}
-use Rattle.sj_core.specs.Lookup.{Lookup}
-use Rattle.js_tree.specs.Terms.{Name}
+use Rattle.body_rules.specs.Lookup.{Lookup}
+use Rattle.js_mean.specs.Terms.{Name}
 use Rattle.body_rules.specs.Built.{is_static}
-use Rattle.sj_core.specs.Terms.{Method, Statements}
-use Rattle.sj_desugar.specs.Desugar.{names_of, body_code, is_mutable_in, completed, desugared, desugared_member}
-use Rattle.sj_emit_expr.specs.Members.{with_receiver, member_piece}
-use Rattle.sj_emit_expr.specs.Pieces.{function_piece, piece_of}
-use Rattle.sj_emit_expr.specs.Templates.{parameter_names, body_template}
-use Rattle.sj_emit_expr.specs.Uses.{uses}
+use Rattle.body_rules.specs.Terms.{Method, Statements}
+use Rattle.body_rules.specs.Desugar.{names_of, body_code, is_mutable_in, completed, desugared, desugared_member}
+use Rattle.body_rules.specs.Members.{with_receiver, member_piece}
+use Rattle.body_rules.specs.Pieces.{function_piece, piece_of}
+use Rattle.body_rules.specs.Templates.{parameter_names, body_template}
+use Rattle.body_rules.specs.Uses.{uses}
 use Rattle.sj_names.proofs.Same.{impossible}
 use Rattle.sj_names.specs.declared.method_names.Member.{Member}
 use Rattle.sj_names.specs.declared.method_names.Namespace.{Namespace}

@@ -2,18 +2,18 @@
 use Rattle.std.proofs.Common.{◌≡◌, ℕ, Bool, true, false, List, [], ◌∷◌, Some, refl, sym, ap, ◌∙◌, subst, arith, ◌⊎◌, inl, inr, ⊎_elim, if◌then◌else◌}
 use Rattle.std.specs.Prelude.{nat_eq, pos}
 use Rattle.std.specs.Cmp.Lexicographic.{pointwise}
-use Rattle.sj_core.specs.Terms as core
-use Rattle.sj_core.specs.Views.{expressions_of}
-use Rattle.sj_core.specs.declared.callees.Callee.TheVariants as callees
-use Rattle.sj_desugar.specs.Coercions.{coerced, coerced_arguments, coerced_receiver}
-use Rattle.sj_desugar.specs.Desugar.{callee_of, receiver, received, rest_of, operand, into, block, operands, cases, finish, target_of, Target, Targets, expression_of, labeled_code, leaving_code, wrapped, branches, break_unless, switch_code, first_of, second_of, member, types_of}
-use Rattle.sj_desugar.specs.Plain.{is_plain}
-use Rattle.sj_desugar.specs.Texts.{operand_of}
-use Rattle.sj_desugar.specs.Spill.{Destination, discard, to_variable, to_result, Code, Operand, no_code, one, put_first, then_code, spill, then_use}
+use Rattle.body_rules.specs.Terms as core
+use Rattle.body_rules.specs.Views.{expressions_of}
+use Rattle.body_rules.specs.CalleeVariants as callees
+use Rattle.body_rules.specs.Coercions.{coerced, coerced_arguments, coerced_receiver}
+use Rattle.body_rules.specs.Desugar.{callee_of, receiver, received, rest_of, operand, into, block, operands, cases, finish, target_of, Target, Targets, expression_of, labeled_code, leaving_code, wrapped, branches, break_unless, switch_code, first_of, second_of, member, types_of}
+use Rattle.body_rules.specs.Plain.{is_plain}
+use Rattle.body_rules.specs.Texts.{operand_of}
+use Rattle.body_rules.specs.Spill.{Destination, discard, to_variable, to_result, Code, Operand, no_code, one, put_first, then_code, spill, then_use}
 use Rattle.sj_trees.specs.Term.{Term, Terms, no_terms, more_terms, Cases, no_cases, more_cases, var_def, block_of, labeled, assign, return_to, if_then, while_loop, do_while, throw, match_on, new_object, select, select_static, apply, apply_statically, apply_static, unary_op, binary_op, is_instance_of, as_instance_of, undefined_literal, null_literal, boolean_literal, char_literal, byte_literal, short_literal, int_literal, long_literal, string_literal, var_ref, this_ref, log_line}
 use Rattle.sj_names.specs.declared.method_names.Namespace.TheVariants.{Constructor}
 use Rattle.sj_trees.specs.Types.{class_type}
-use Rattle.sure_receivers.specs.Sure.{is_sure}
+use Rattle.body_rules.specs.Sure.{is_sure}
 use Rattle.sj_trees.specs.TypeOf.{type_of_term, unary_result, binary_result}
 use Rattle.sj_trees.specs.declared.positions.Position.{Position}
 use Rattle.sj_trees.specs.declared.types.IrType.{IrType}

@@ -2,11 +2,11 @@
 use Rattle.std.specs.Prelude.{◌≡◌, List, [], ◌∷◌, ◌++◌, map, Some, IsTrue}
 use Rattle.std.specs.List.{Contains}
 use Rattle.sj_proper.specs.Once.{DefinesOnce}
-use Rattle.js_tree.specs.Terms.{call_of, no_expressions, Item, expression_item, Piece, Module}
-use Rattle.sj_core.specs.Lookup.{own_targets}
-use Rattle.sj_desugar.specs.Desugar.{desugared}
-use Rattle.sj_emit_expr.specs.Pieces.{piece_of}
-use Rattle.sj_emit_expr.specs.Templates.{member_name}
+use Rattle.js_mean.specs.Terms.{call_of, no_expressions, Item, expression_item, Piece, Module}
+use Rattle.body_rules.specs.Lookup.{own_targets}
+use Rattle.body_rules.specs.Desugar.{desugared}
+use Rattle.body_rules.specs.Pieces.{piece_of}
+use Rattle.body_rules.specs.Templates.{member_name}
 use Rattle.sj_names.specs.Grammar.{is_class_name}
 use Rattle.sj_names.specs.MethodNames.{IsMethodName}
 use Rattle.sj_names.specs.declared.entry_points.EntryPoint.{EntryPoint}

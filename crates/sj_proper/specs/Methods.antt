@@ -4,14 +4,14 @@ use Rattle.body_rules.specs.Locals.{HaveValues}
 use Rattle.sj_proper.specs.Once.{DefinesOnce}
 use Rattle.body_rules.specs.Typing.{Scene, IsResult, Typed}
 use Rattle.body_rules.specs.Built.{Usable, may_make, body_boxes}
-use Rattle.sure_receivers.specs.Sure.{sure_locals}
+use Rattle.body_rules.specs.Sure.{sure_locals}
 use Rattle.sj_names.specs.declared.references.TypeRef.{TypeRef}
 use Rattle.sj_trees.specs.Term.{Term}
 use Rattle.sj_trees.specs.Types.{reference_type}
 use Rattle.sj_trees.specs.declared.classes.MethodDef.{MethodDef}
 use Rattle.sj_trees.specs.declared.classes.ParamDef.{ParamDef}
-use Rattle.sj_world.specs.Known.{Classes}
-use Rattle.typing_rules.specs.Rules.{Yields}
+use Rattle.body_rules.specs.Known.{Classes}
+use Rattle.body_rules.specs.Rules.{Yields}
 
 -- the types of parameters are those of the references in the name
 abbrev pub HaveTypes : List ParamDef → List TypeRef → Type 0

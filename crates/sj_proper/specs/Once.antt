@@ -1,10 +1,10 @@
 -- No two definitions of a tree have one name, no label stands inside itself, and each jump is to a label around it.
 use Rattle.std.specs.Prelude.{◌≡◌, ℕ, List, [], ◌∷◌, ◌⊎◌}
-use Rattle.sj_desugar.specs.Desugar.{names_of}
+use Rattle.body_rules.specs.Desugar.{names_of}
 use Rattle.sj_trees.specs.declared.classes.MethodDef.{MethodDef}
 use Rattle.sj_trees.specs.Term.{Term, Terms, no_terms, more_terms, Cases, no_cases, more_cases, var_def, block_of, labeled, assign, return_to, if_then, while_loop, do_while, throw, match_on, new_object, select, apply, apply_statically, apply_static, unary_op, binary_op, is_instance_of, as_instance_of, log_line}
 use Rattle.body_rules.specs.Locals.{Own, OwnAll, OwnCases, IsParameter}
-use Rattle.sure_receivers.specs.Sure.{Definition, definitions}
+use Rattle.body_rules.specs.Sure.{Definition, definitions}
 
 abbrev pub IsAmong : List (List ℕ) → List ℕ → Type 0
 IsAmong [] x = ⊥

@@ -13,7 +13,7 @@ use Rattle.sj_trees.specs.declared.classes.ClassDef.{ClassDef}
 use Rattle.sj_trees.specs.declared.classes.FieldDef.{FieldDef}
 use Rattle.sj_trees.specs.declared.classes.MethodDef.{MethodDef}
 use Rattle.sj_world.specs.Members.{IsField, IsMethod, IsMethodOf}
-use Rattle.sj_ask.proofs.One.{one_method}
+use Rattle.reach_rules.proofs.One.{one_method}
 use Rattle.sj_infos.specs.Infos.{asked_by}
 use Rattle.sj_infos.specs.Once.{FirstsOf, nothing, new, again}
 use Rattle.sj_infos.specs.declared.infos.Info.{Info}

@@ -5,3 +5,6 @@ pub mod Sight
 pub mod Turns
 pub mod Worked
 pub mod Once
+pub use Rattle.reach_rules.proofs.Derivations
+pub use Rattle.reach_rules.proofs.Grows
+pub use Rattle.reach_rules.proofs.One

@@ -12,7 +12,7 @@ use Rattle.sj_names.specs.declared.method_names.MethodName.{MethodName}
 use Rattle.sj_names.specs.contracts.method_names.MethodNamePartialEq.TheImpl as method_eq
 use Rattle.sj_trees.specs.declared.classes.MethodDef.{MethodDef}
 use Rattle.sj_world.specs.Members.{IsMethodOf}
-use Rattle.sj_ask.proofs.One.{one_method}
+use Rattle.reach_rules.proofs.One.{one_method}
 use Rattle.sj_infos.specs.Infos.{asked_by}
 use Rattle.sj_infos.specs.Once.{FirstsOf}
 use Rattle.sj_infos.specs.declared.infos.Info.{Info}

@@ -3,3 +3,14 @@ pub mod Whole
 pub mod Worked
 pub mod WorkedWhole
 pub use Rattle.sj_calls.proofs.Owners
+pub use Rattle.sj_calls.proofs.Equal
+pub use Rattle.body_soundness.proofs.Lists
+pub use Rattle.body_soundness.proofs.Plain
+pub use Rattle.body_soundness.proofs.Topped
+pub use Rattle.body_soundness.proofs.Assembled
+pub use Rattle.body_soundness.proofs.Chains
+pub use Rattle.body_soundness.proofs.Lengths
+pub use Rattle.body_soundness.proofs.Direct
+pub use Rattle.body_soundness.proofs.Targets
+pub use Rattle.body_soundness.proofs.Running
+pub use Rattle.sj_calls.proofs.Reflective

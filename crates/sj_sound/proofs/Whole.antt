@@ -2,22 +2,22 @@
 use Rattle.std.proofs.Common.{◌≡◌, ℕ, true, List, [], ◌∷◌, subst, ⊎_elim, Contains}
 use Rattle.std.proofs.lemmas.Bool.{and_parts}
 use Rattle.outcomes.specs.Agreement.{Agree}
-use Rattle.body_rules.proofs.Lists.{nothing_in, in_front_or_behind}
+use Rattle.body_soundness.proofs.Lists.{nothing_in, in_front_or_behind}
 use Rattle.body_soundness.proofs.Modules.{never_wrong, nothing_asked}
 use Rattle.body_soundness.specs.Rules.{RightMember}
-use Rattle.ir_mean.specs.Shows as ir_showing
-use Rattle.ir_mean.specs.World as ir_world
+use Rattle.body_soundness.specs.Shows as ir_showing
+use Rattle.body_soundness.specs.World as ir_world
 use Rattle.js_mean.specs.Proper.{is_proper_module}
 use Rattle.js_mean.specs.Shows as js_showing
 use Rattle.sj_calls.proofs.Whole as calls
 use Rattle.sj_calls.specs.Files.{program_with}
 use Rattle.sj_names.specs.declared.entry_points.EntryPoint.{EntryPoint}
 use Rattle.sj_names.specs.declared.method_names.Member.{Member}
-use Rattle.sj_proper.proofs.Modules.{module_proper}
-use Rattle.sj_proper.specs.Emitted.{EmittedMethod, initializer_member, module_with, HaveOwnMembers, IsNamed}
+use Rattle.body_soundness.proofs.SjProperModules.{module_proper}
+use Rattle.body_soundness.specs.Emitted.{EmittedMethod, initializer_member, module_with, HaveOwnMembers, IsNamed}
 use Rattle.sj_sound.proofs.Same.{has_function-is}
 use Rattle.sj_sound.specs.Linked.{IsWhole, has_function, have_functions, IsRight, functions_of}
-use Rattle.sj_world.specs.Laws.{IsPlain}
+use Rattle.body_soundness.specs.SjWorldLaws.{IsPlain}
 
 member-of : (w : ir_world.World) (fs : List EmittedMethod) (e : EmittedMethod) → IsRight w fs e → RightMember w (functions_of fs) e.member
 member-of w fs e r = record { definition = e.definition; its_body = e.its_body; found = r.found; has_body = r.has_body; rules = r.rules; parameters = r.parameters; result_is = r.result_is }

@@ -4,29 +4,29 @@ use Rattle.std.specs.Prelude.{pos, nat_eq, FitsSigned}
 use Rattle.std.specs.Cmp.Lexicographic.{pointwise}
 use Rattle.std.specs.Int.{w32}
 use Rattle.outcomes.specs.Agreement.{Agree}
-use Rattle.ir_mean.specs.Rows.{nowhere, object_name, object_with, once, triples}
+use Rattle.body_soundness.specs.Rows.{nowhere, object_name, object_with, once, triples}
 use Rattle.sj_local.specs.ClassRules.{keeps_superclass, keeps_hijacked}
 use Rattle.sj_trees.specs.declared.classes.ClassDef.{ClassDef}
-use Rattle.ir_mean.specs.Shows.{ir_shows}
+use Rattle.body_soundness.specs.Shows.{ir_shows}
 use Rattle.js_mean.specs.Shows.{js_shows}
 use Rattle.sj_trees.specs.declared.classes.ParamDef.{ParamDef}
 use Rattle.sj_trees.specs.declared.types.IrType.TheVariants.{Int}
-use Rattle.body_rules.specs.Locals.{Own, local_of, HasValue}
+use Rattle.body_soundness.specs.Locals.{Own, local_of, HasValue}
 use Rattle.sj_names.proofs.Same.{impossible}
-use Rattle.sj_proper.specs.Emitted.{EmittedMethod}
+use Rattle.body_soundness.specs.Emitted.{EmittedMethod}
 use Rattle.sj_calls.specs.Files.{program_with}
-use Rattle.body_rules.proofs.Lists.{nothing_in, in_front_or_behind}
+use Rattle.body_soundness.proofs.Lists.{nothing_in, in_front_or_behind}
 use Rattle.sj_sound.specs.Linked.{IsRight, functions_of}
-use Rattle.sj_proper.specs.Methods.{scene_of, KeepsRules}
-use Rattle.sj_world.specs.Laws.{IsPlain}
-use Rattle.sj_world.specs.Subtypes.{equal}
-use Rattle.body_rules.proofs.Plain.{plain_world}
-use Rattle.body_rules.specs.Typing.{Scene, IsLocal, IsVariable, Here}
-use Rattle.typing_rules.specs.Rules.{nothing_wanted, fitting}
+use Rattle.body_soundness.specs.Methods.{scene_of, KeepsRules}
+use Rattle.body_soundness.specs.SjWorldLaws.{IsPlain}
+use Rattle.body_soundness.specs.Subtypes.{equal}
+use Rattle.body_soundness.proofs.Plain.{plain_world}
+use Rattle.body_soundness.specs.Typing.{Scene, IsLocal, IsVariable, Here}
+use Rattle.body_soundness.specs.TypingRulesRules.{nothing_wanted, fitting}
 use Rattle.sj_trees.specs.Term.{int_literal, var_ref}
 use Rattle.sj_sound.specs.Worked.{tests_it, main_method, tripling_method, worked_world, emitted, worked_methods}
 use Rattle.sj_sound.proofs.Whole.{program_agrees}
-use Rattle.built_forms.specs.Built.{Usable}
+use Rattle.body_soundness.specs.Built.{Usable}
 
 fits : (n : ℕ) → n < 2 ^ 31 → FitsSigned w32 (pos n)
 fits n h = record { sfits = h }

@@ -2,15 +2,15 @@
 use Rattle.std.proofs.Common.{◌≡◌, [], ◌∷◌, codes, refl, sym, ap, subst, ⊎_elim, Contains}
 use Rattle.std.proofs.lemmas.List.Elements.{All-cons, All-nil}
 use Rattle.outcomes.specs.Agreement.{Agree}
-use Rattle.ir_mean.specs.Rows.{once, triples}
-use Rattle.ir_mean.specs.Shows.{ir_shows}
+use Rattle.body_soundness.specs.Rows.{once, triples}
+use Rattle.body_soundness.specs.Shows.{ir_shows}
 use Rattle.js_mean.specs.Shows.{js_shows}
 use Rattle.sj_names.specs.declared.method_names.Member.{Member}
 use Rattle.sj_names.specs.MethodNames.{IsParameter}
 use Rattle.sj_names.specs.declared.references.TypeRef.TheVariants.{Int}
-use Rattle.sj_proper.specs.Emitted.{EmittedMethod, HaveOwnMembers}
+use Rattle.body_soundness.specs.Emitted.{EmittedMethod, HaveOwnMembers}
 use Rattle.sj_calls.specs.Files.{program_with}
-use Rattle.body_rules.proofs.Lists.{nothing_in, in_front_or_behind}
+use Rattle.body_soundness.proofs.Lists.{nothing_in, in_front_or_behind}
 use Rattle.sj_sound.specs.Worked.{tests_it, main_method, tripling_method, worked_world, emitted, worked_methods}
 use Rattle.sj_sound.proofs.Worked.{main_right, tripling_right, worked_plain}
 use Rattle.sj_sound.specs.Linked.{IsWhole}

@@ -5,3 +5,16 @@ pub use Rattle.sj_calls.specs.Classes
 pub use Rattle.sj_calls.specs.Pieces
 pub use Rattle.sj_calls.specs.Settings
 pub use Rattle.sj_calls.specs.Files
+pub use Rattle.body_soundness.specs.Standing
+pub use Rattle.body_soundness.specs.Typing
+pub use Rattle.body_soundness.specs.Templates
+pub use Rattle.body_soundness.specs.Emitted
+pub use Rattle.body_soundness.specs.Methods
+pub use Rattle.body_soundness.specs.Targets
+pub use Rattle.body_soundness.specs.Tests
+pub use Rattle.body_soundness.specs.Locals
+pub use Rattle.body_soundness.specs.Laws
+pub use Rattle.body_soundness.specs.Rules
+pub use Rattle.body_soundness.specs.Worlds
+pub use Rattle.body_soundness.specs.Boxes
+pub use Rattle.body_soundness.specs.Built

@@ -4,12 +4,12 @@ use Rattle.std.specs.List.{list_all, list_any}
 use Rattle.sj_names.specs.Grammar.{is_class_name}
 use Rattle.sj_names.specs.MethodNames.{IsMethodName}
 use Rattle.sj_names.specs.Same.{is_same_text, is_same_namespace, is_same_method}
-use Rattle.ir_mean.specs.World.{World}
+use Rattle.body_soundness.specs.World.{World}
 use Rattle.sj_names.specs.declared.entry_points.EntryPoint.{EntryPoint}
 use Rattle.sj_names.specs.declared.method_names.Member.{Member}
-use Rattle.sj_proper.specs.Emitted.{EmittedMethod, initializer_member}
+use Rattle.body_soundness.specs.Emitted.{EmittedMethod, initializer_member}
 use Rattle.sj_calls.specs.Files.{IsEmitted}
-use Rattle.built_forms.specs.Built.{Usable, members_alone}
+use Rattle.body_soundness.specs.Built.{Usable, members_alone}
 
 abbrev pub is_same_member : Member → Member → Bool
 is_same_member m k = is_same_text m.class k.class && is_same_namespace m.namespace k.namespace && is_same_method m.method k.method

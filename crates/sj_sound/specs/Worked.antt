@@ -1,12 +1,12 @@
 -- A worked program of two methods: one triples in a loop, and the other tests what it gives.
 use Rattle.std.specs.Prelude.{List, [], ◌∷◌, pos, codes}
-use Rattle.ir_mean.specs.Rows.{nowhere, object_name, object_with, static_method, int_method, int_call, triples, logs}
-use Rattle.ir_mean.specs.World.{World}
+use Rattle.body_soundness.specs.Rows.{nowhere, object_name, object_with, static_method, int_method, int_call, triples, logs}
+use Rattle.body_soundness.specs.World.{World}
 use Rattle.sj_trees.specs.Term.{Term, if_then, int_literal, binary_op}
 use Rattle.sj_trees.specs.declared.classes.MethodDef.{MethodDef}
 use Rattle.sj_trees.specs.declared.operators.BinaryOp.TheVariants.{IntEqual}
 use Rattle.sj_trees.specs.declared.types.IrType.TheVariants.{NoType}
-use Rattle.sj_proper.specs.Emitted.{EmittedMethod}
+use Rattle.body_soundness.specs.Emitted.{EmittedMethod}
 
 -- `if (f(1) == 27) log "yes" else log "no"`
 abbrev pub tests_it : Term

@@ -9,16 +9,16 @@ ghost use Rattle.std.specs.List.{Contains};
 ghost use Rattle.outcomes.specs.Agreement.{Agree};
 ghost use Rattle.outcomes.specs.Outcome.{Done, Going};
 ghost use Rattle.outcomes.specs.Shown.{normal};
-ghost use Rattle.ir_mean.specs.Rows.{once};
-ghost use Rattle.ir_mean.specs.Shows.{initializers, ir_shows};
-ghost use Rattle.ir_mean.specs.World.{World};
+ghost use Rattle.body_soundness.specs.Rows.{once};
+ghost use Rattle.body_soundness.specs.Shows.{initializers, ir_shows};
+ghost use Rattle.body_soundness.specs.World.{World};
 ghost use Rattle.js_mean.specs.Proper.{is_proper_module};
 ghost use Rattle.js_mean.specs.Shows.{js_shows};
 ghost use Rattle.sj_names.specs.declared.entry_points.EntryPoint.{EntryPoint};
-ghost use Rattle.sj_proper.specs.Emitted.{EmittedMethod, module_with, HaveOwnMembers};
+ghost use Rattle.body_soundness.specs.Emitted.{EmittedMethod, module_with, HaveOwnMembers};
 ghost use Rattle.sj_calls.specs.Files.{program_with};
 ghost use Rattle.sj_sound.specs.Linked.{have_functions, IsRight, IsWhole};
-ghost use Rattle.sj_world.specs.Laws.{IsPlain};
+ghost use Rattle.body_soundness.specs.SjWorldLaws.{IsPlain};
 ghost use Rattle.sj_sound.specs.Worked.{worked_world, worked_methods};
 
 /// The theorem on programs of methods whose bodies keep the rules: take a module that has the functions of these methods in this order and then calls the initializers

@@ -8,3 +8,5 @@ pub mod Term
 pub mod TypeOf
 pub mod Types
 pub mod View
+pub use Rattle.sj_names.specs.Same
+pub use Rattle.sj_names.specs.declared.references.TypeRef

@@ -3,10 +3,10 @@ use Rattle.std.proofs.Common.{◌≡◌, ℕ, ◌+◌, ◌^◌, arith, Bool, tru
 use Rattle.std.specs.List.{All}
 use Rattle.std.proofs.lemmas.Bool.{and_parts, and_from}
 use Rattle.std.proofs.lemmas.List.Elements.{All-nil, All-cons, All-head, All-tail}
-use Rattle.built_forms.specs.Built.{Usable, stands, may_make, is_operation, can_cast, is_built, are_built, are_built_cases, body_boxes, is_built_method}
+use Rattle.sj_kept.specs.Built.{Usable, stands, may_make, is_operation, can_cast, is_built, are_built, are_built_cases, body_boxes, is_built_method}
 use Rattle.listing_spelling.specs.Rules.{IsListedTree, AreListedTrees, AreListedCases}
-use Rattle.sj_ask.specs.Sizes.{size, size_of_cases}
-use Rattle.sj_desugar.specs.Desugar.{member, has_no_value}
+use Rattle.sj_kept.specs.Sizes.{size, size_of_cases}
+use Rattle.sj_kept.specs.Desugar.{member, has_no_value}
 use Rattle.sj_kept.proofs.Kept.{Keeps, AllKeep, keep-front, keep-behind, SameScope, scope-behind, scope-nothing, not_false, local-is, variable-is}
 use Rattle.sj_kept.proofs.Methods.{keep, distinct, body_once, body_keeps, params-same}
 use Rattle.sj_kept.proofs.Types.{empty-is}
@@ -17,11 +17,11 @@ use Rattle.sj_local.specs.Nodes as local
 use Rattle.sj_local.specs.TreeRules.{innermost, has_type, is_mutable, has_no_terms, outermost}
 use Rattle.sj_names.proofs.Same.{impossible}
 use Rattle.sj_names.specs.declared.method_names.Namespace.{Namespace}
-use Rattle.body_rules.specs.Typing.{Scene, may_check, IsResult, in_label, Typed, TypedBlock, TypedAll, TypedCases}
-use Rattle.body_rules.specs.Locals.{local_of, HasValue}
-use Rattle.body_rules.specs.Typing as scenes
-use Rattle.sj_proper.specs.Once.{Once, OnceAll, OnceCases}
-use Rattle.sj_proper.specs.Methods.{scene_of, KeepsRules}
+use Rattle.sj_kept.specs.Typing.{Scene, may_check, IsResult, in_label, Typed, TypedBlock, TypedAll, TypedCases}
+use Rattle.sj_kept.specs.Locals.{local_of, HasValue}
+use Rattle.sj_kept.specs.Typing as scenes
+use Rattle.sj_kept.specs.Once.{Once, OnceAll, OnceCases}
+use Rattle.sj_kept.specs.Methods.{scene_of, KeepsRules}
 use Rattle.sj_trees.specs.Term.{Term, Terms, no_terms, more_terms, Cases, no_cases, more_cases, var_def, skip, block_of, labeled, assign, return_to, if_then, while_loop, do_while, throw, match_on, new_object, select, select_static, apply, apply_statically, apply_static, unary_op, binary_op, is_instance_of, as_instance_of, undefined_literal, null_literal, boolean_literal, char_literal, byte_literal, short_literal, int_literal, long_literal, string_literal, var_ref, this_ref, log_line}
 use Rattle.sj_trees.specs.declared.classes.ClassDef.{ClassDef}
 use Rattle.sj_trees.specs.declared.classes.MethodDef.{MethodDef}
@@ -30,11 +30,11 @@ use Rattle.sj_trees.specs.declared.types.IrType.{IrType}
 use Rattle.sure_receivers.specs.Sure.{sure_locals}
 use Rattle.sj_typed.proofs.Values.{all_have_values, fits, fits_long}
 use Rattle.sj_world.specs.Known.{Classes}
-use Rattle.typing_rules.specs.Nodes.{Node, nodes, nodes_of_all, nodes_of_cases}
-use Rattle.typing_rules.specs.Nodes as typing
-use Rattle.typing_rules.specs.Rules.{CasesYield, Meets, Yields}
-use Rattle.typing_rules.specs.Typed.{MeetsThere, IsTyped}
-use Rattle.typing_rules.specs.declared.labels.Label.{Label}
+use Rattle.sj_kept.specs.Nodes.{Node, nodes, nodes_of_all, nodes_of_cases}
+use Rattle.sj_kept.specs.Nodes as typing
+use Rattle.sj_kept.specs.Rules.{CasesYield, Meets, Yields}
+use Rattle.sj_kept.specs.Typed.{MeetsThere, IsTyped}
+use Rattle.sj_kept.specs.Label.{Label}
 
 -- a definition has a type with values
 defined-value : (b : Bool) (t : IrType) → (not b || is_empty_type t) ≡ false → has_no_value t ≡ false

@@ -5,14 +5,14 @@ use Rattle.std.specs.Int.{w32, w64}
 use Rattle.std.specs.Cmp.Lexicographic.{pointwise}
 use Rattle.std.proofs.lemmas.List.Elements.{All-head, All-tail}
 use Rattle.js_tree.specs.Rules.{IsBelow}
-use Rattle.sj_desugar.specs.Desugar.{has_no_value}
+use Rattle.sj_kept.specs.Desugar.{has_no_value}
 use Rattle.sj_names.proofs.Same.{impossible}
 use Rattle.sj_names.specs.MethodNames.{IsParameter}
 use Rattle.sj_names.specs.declared.references.TypeRef.{TypeRef}
-use Rattle.sj_proper.specs.Methods.{HaveTypes}
-use Rattle.body_rules.proofs.RulesGive.{class_has_value}
-use Rattle.body_rules.specs.Locals.{local_of, HasValue}
-use Rattle.body_rules.specs.Typing.{AllHaveValues}
+use Rattle.sj_kept.specs.Methods.{HaveTypes}
+use Rattle.sj_kept.proofs.RulesGive.{class_has_value}
+use Rattle.sj_kept.specs.Locals.{local_of, HasValue}
+use Rattle.sj_kept.specs.Typing.{AllHaveValues}
 use Rattle.sj_trees.specs.Types.{reference_type}
 use Rattle.sj_trees.specs.declared.classes.ParamDef.{ParamDef}
 

@@ -7,15 +7,15 @@
 ghost use Rattle.std.specs.Prelude.{◌≡◌, ℕ, true, List, Some};
 ghost use Rattle.listing_spelling.specs.Rules.{IsListedTree};
 ghost use Rattle.sj_kept.specs.Kept.{KeepsTreeRules};
-ghost use Rattle.body_rules.specs.Locals.{local_of, HasValue};
-ghost use Rattle.body_rules.specs.Typing.{may_check, IsResult};
-ghost use Rattle.sj_proper.specs.Methods.{KeepsRules};
+ghost use Rattle.sj_kept.specs.Locals.{local_of, HasValue};
+ghost use Rattle.sj_kept.specs.Typing.{may_check, IsResult};
+ghost use Rattle.sj_kept.specs.Methods.{KeepsRules};
 ghost use Rattle.sj_trees.specs.Term.{Term};
 ghost use Rattle.sj_trees.specs.declared.classes.ClassDef.{ClassDef};
 ghost use Rattle.sj_trees.specs.declared.classes.MethodDef.{MethodDef};
 ghost use Rattle.sj_trees.specs.declared.classes.ParamDef.{ParamDef};
-ghost use Rattle.built_forms.specs.Built.{Usable, is_built_method};
-ghost use Rattle.typing_rules.specs.Typed.{IsTyped};
+ghost use Rattle.sj_kept.specs.Built.{Usable, is_built_method};
+ghost use Rattle.sj_kept.specs.Typed.{IsTyped};
 ghost use Rattle.sj_world.specs.Known.{Classes};
 ghost use Rattle.sure_receivers.specs.Sure.{sure_locals};
 

@@ -5,12 +5,12 @@ use Rattle.std.proofs.lemmas.List.Elements.{All-head, All-tail}
 use Rattle.sj_trees.specs.Term.{Term}
 use Rattle.sj_trees.specs.declared.classes.MethodDef.{MethodDef}
 use Rattle.sj_world.specs.Known.{Classes}
-use Rattle.sj_ask.specs.declared.errors.TypeError.{TypeError}
-use Rattle.sj_ask.specs.Stands.{Stand}
-use Rattle.sj_ask.specs.Answers.{IsAnswer}
-use Rattle.sj_ask.specs.Apart.{Exchange}
-use Rattle.sj_ask.specs.Runs.{Comes}
-use Rattle.sj_ask.specs.Sizes.{in_32_bits}
+use Rattle.typing_rules.specs.TypeError.{TypeError}
+use Rattle.typing_rules.specs.Stands.{Stand}
+use Rattle.typing_rules.specs.Answers.{IsAnswer}
+use Rattle.typing_rules.specs.Apart.{Exchange}
+use Rattle.typing_rules.specs.Runs.{Comes}
+use Rattle.typing_rules.specs.Sizes.{in_32_bits}
 use Rattle.typing_rules.specs.Checks.{check_task}
 use Rattle.typing_rules.specs.Nodes.{Node, nodes}
 use Rattle.typing_rules.specs.Rules.{Yields}

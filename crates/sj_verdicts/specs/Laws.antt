@@ -3,11 +3,11 @@ use Rattle.std.specs.Prelude.{◌≡◌, ℕ, List, Some, Result}
 use Rattle.sj_trees.specs.Term.{Term}
 use Rattle.sj_trees.specs.declared.classes.MethodDef.{MethodDef}
 use Rattle.sj_world.specs.Known.{Classes}
-use Rattle.sj_ask.specs.declared.errors.TypeError.{TypeError}
-use Rattle.sj_ask.specs.Stands.{Stand}
-use Rattle.sj_ask.specs.Answers.{IsAnswer}
-use Rattle.sj_ask.specs.Apart.{Exchange}
-use Rattle.sj_ask.specs.Runs.{Comes}
+use Rattle.typing_rules.specs.TypeError.{TypeError}
+use Rattle.typing_rules.specs.Stands.{Stand}
+use Rattle.typing_rules.specs.Answers.{IsAnswer}
+use Rattle.typing_rules.specs.Apart.{Exchange}
+use Rattle.typing_rules.specs.Runs.{Comes}
 use Rattle.typing_rules.specs.Checks.{check_task}
 use Rattle.typing_rules.specs.Typed.{IsTyped, IsUntyped}
 use Rattle.typing_rules.specs.Answered.{agreed, IsVerdict}

@@ -1,6 +1,6 @@
 -- Which receivers and locals are sure, in worked bodies.
 use Rattle.std.specs.Prelude.{◌≡◌, ℕ, pos, Bool, true, false, List, [], Some, codes}
-use Rattle.sj_names.specs.declared.references.TypeRef.{TypeRef}
+use Rattle.sj_trees.specs.TypeRef.{TypeRef}
 use Rattle.sj_trees.specs.Erase.{nowhere}
 use Rattle.sj_trees.specs.Term.{Term, no_terms, more_terms, var_def, block_of, if_then, new_object, select, boolean_literal, null_literal, int_literal, var_ref, this_ref}
 use Rattle.sj_trees.specs.declared.types.IrType.{IrType}

@@ -4,8 +4,8 @@ use Rattle.std.specs.Prelude.{◌⊎◌, ◌↔◌, ◌||◌, IsTrue}
 use Rattle.std.proofs.lemmas.Bool.{or_cases}
 use Rattle.sj_trees.specs.declared.classes.FieldDef.{FieldDef}
 use Rattle.sj_trees.specs.declared.types.IrType.{IrType}
-use Rattle.sj_world.specs.Known.{Name, Classes}
-use Rattle.sj_world.specs.Subtypes.{IsSub}
+use Rattle.sj_ask.specs.Known.{Name, Classes}
+use Rattle.sj_ask.specs.Subtypes.{IsSub}
 use Rattle.sj_ask.specs.declared.errors.TypeError.{TypeError}
 use Rattle.sj_ask.specs.declared.questions.Question.TheVariants as question
 use Rattle.sj_ask.specs.declared.questions.Answer.{Answer}

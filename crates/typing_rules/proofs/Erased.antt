@@ -12,7 +12,7 @@ use Rattle.sj_trees.specs.Term.{Term, Terms, Cases, no_terms, more_terms, no_cas
 use Rattle.sj_trees.specs.Erase.{erase, erase_all, erase_cases}
 use Rattle.sj_trees.specs.TypeOf.{type_of_term, type_of_last, loop_type}
 use Rattle.sj_trees.specs.Types.{class_type, element_type, reference_type}
-use Rattle.sj_world.specs.Known.{is_same}
+use Rattle.sj_ask.specs.Known.{is_same}
 use Rattle.sj_ask.specs.Sizes.{next, counted, counted_all, counted_cases}
 use Rattle.typing_rules.specs.declared.labels.Label.{Label}
 use Rattle.typing_rules.specs.declared.rows.Fit.{Fit}

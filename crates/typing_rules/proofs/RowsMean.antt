@@ -12,7 +12,7 @@ use Rattle.sj_trees.specs.declared.types.IrType.TheVariants as type
 use Rattle.sj_trees.specs.Term.{Term, Terms, Cases, no_terms, more_terms, no_cases, more_cases, var_def, skip, block_of, labeled, assign, return_to, if_then, while_loop, do_while, try_catch, try_finally, throw, match_on, new_object, load_module, store_module, select, select_static, apply, apply_statically, apply_static, unary_op, binary_op, new_array, array_value, array_length, array_select, is_instance_of, as_instance_of, undefined_literal, null_literal, boolean_literal, char_literal, byte_literal, short_literal, int_literal, long_literal, string_literal, var_ref, this_ref, log_line}
 use Rattle.sj_trees.specs.TypeOf.{type_of_term}
 use Rattle.sj_trees.specs.Types.{class_type, element_type}
-use Rattle.sj_world.specs.Known.{Name, Classes, is_same}
+use Rattle.sj_ask.specs.Known.{Name, Classes, is_same}
 use Rattle.typing_rules.specs.declared.labels.Label.{Label}
 use Rattle.typing_rules.specs.declared.rows.Fit.{Fit}
 use Rattle.sj_trees.specs.SameTypes.{is_same_type}

@@ -1,7 +1,7 @@
 -- What calls answer, as ends of tasks.
 use Rattle.std.specs.Prelude.{◌≡◌, ℕ, Bool, true, Result, Ok, Err}
 use Rattle.sj_trees.specs.declared.classes.MethodDef.{MethodDef}
-use Rattle.sj_world.specs.Known.{Classes}
+use Rattle.sj_ask.specs.Known.{Classes}
 use Rattle.sj_ask.specs.declared.errors.TypeError.{TypeError}
 use Rattle.sj_ask.specs.declared.errors.TypeError.TheVariants.{Refused, NoMemory}
 use Rattle.sj_ask.specs.declared.questions.Question.{Question}

@@ -1,7 +1,7 @@
 -- The labels around a tree.
 use Rattle.std.specs.Prelude.{ℕ, List, [], ◌∷◌, Option, Some, None, if◌then◌else◌}
 use Rattle.sj_trees.specs.declared.types.IrType.{IrType}
-use Rattle.sj_world.specs.Known.{is_same}
+use Rattle.sj_ask.specs.Known.{is_same}
 use Rattle.typing_rules.specs.declared.labels.Label.{Label}
 
 -- the type of the innermost label of this name; the outermost stands first

@@ -7,3 +7,9 @@ pub mod Rows
 pub mod Checks
 pub mod Answered
 pub mod Laws
+pub use Rattle.sj_ask.specs.Answers
+pub use Rattle.sj_ask.specs.Apart
+pub use Rattle.sj_ask.specs.Runs
+pub use Rattle.sj_ask.specs.Sizes
+pub use Rattle.sj_ask.specs.Stands
+pub use Rattle.sj_ask.specs.declared.errors.TypeError

@@ -9,3 +9,4 @@ pub mod Moved
 pub mod Placed
 pub mod UsedWords
 pub mod Used
+pub use Rattle.linked_pieces.proofs.Same

@@ -5,3 +5,5 @@ pub mod Helpers
 pub mod Names
 pub mod Places
 pub mod Same
+pub use Rattle.linked_pieces.specs.Files
+pub use Rattle.linked_pieces.specs.Pieces

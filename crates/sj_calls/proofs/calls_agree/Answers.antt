@@ -1,4 +1,4 @@
-use Rattle.body_rules.proofs.InWorld.{in_world}
+use Rattle.sj_bodies.proofs.InWorld.{in_world}
 use Rattle.sj_calls.proofs.Levels as levels
 use Rattle.sj_calls.proofs.calls_agree.Goals as goal
 

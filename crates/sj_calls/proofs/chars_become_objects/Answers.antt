@@ -1,5 +1,5 @@
 use Rattle.sj_calls.proofs.Boxing as boxing
-use Rattle.sj_plain.proofs.Boxes as coercion
+use Rattle.sj_bodies.proofs.Boxes as coercion
 use Rattle.sj_calls.proofs.chars_become_objects.Goals as goal
 
 pub returns-clause-boxes : goal.returns-clause-boxes

@@ -1,6 +1,6 @@
 use Rattle.std.proofs.Common.{map, take}
 use Rattle.js_tree.specs.Views.{piece_view}
-use Rattle.module_files.specs.Files.{AreFilesOf}
+use Rattle.linked_modules.specs.Files.{AreFilesOf}
 use Rattle.folder_linking.specs.Modules.{as_file}
 use Rattle.folder_linking.proofs.modules.printed_files.Given as goal
 
