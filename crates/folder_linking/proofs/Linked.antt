@@ -24,7 +24,7 @@ use Rattle.sj_world.specs.Known.{Classes}
 use Rattle.sj_world.specs.Linked.{Linked}
 use Rattle.sj_world.specs.declared.facts.Fact.{Fact}
 use Rattle.sj_world.specs.declared.facts.Fact.TheVariants as fact
-use Rattle.folder_judging.proofs.Defined.{needed_bodies}
+use Rattle.folder_judging.proofs.FolderVerdictsDefined.{needed_bodies}
 use Rattle.folder_judging.specs.Stages.{IsDefined, KeepRules}
 use Rattle.worklist.proofs.Inserted.{nothing_in}
 use Rattle.linked_modules.specs.Bodies.{AreBodies}
