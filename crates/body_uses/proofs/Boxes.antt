@@ -7,8 +7,8 @@ use Rattle.std.specs.Prelude.{if◌then◌else◌, not, ◌&&◌, pos}
 use Rattle.std.specs.List.{All}
 use Rattle.std.proofs.lemmas.Bool.{and_parts}
 use Rattle.std.proofs.lemmas.List.Elements.{All-head, All-tail}
-use Rattle.accepted_folders.proofs.Targets.{target_goal}
-use Rattle.accepted_folders.specs.Boxes.{Goal, goal_of, goals_of, is_boxed, any_is_boxed, operands_are_boxed, is_boxed_at, boxes_as_text, any_boxes_as_text, boxes, last_boxes, operand_boxes, operands_box, cases_box}
+use Rattle.object_folders.proofs.Targets.{target_goal}
+use Rattle.object_folders.specs.Boxes.{Goal, goal_of, goals_of, is_boxed, any_is_boxed, operands_are_boxed, is_boxed_at, boxes_as_text, any_boxes_as_text, boxes, last_boxes, operand_boxes, operands_box, cases_box}
 use Rattle.js_tree.specs.declared.items.Binding.{Binding}
 use Rattle.sj_core.specs.Terms as core
 use Rattle.sj_core.specs.Terms.{Expression, boxed_char, checked_value, followed}

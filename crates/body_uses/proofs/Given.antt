@@ -10,21 +10,21 @@ use Rattle.sj_core.specs.Terms as core
 use Rattle.sj_desugar.specs.Desugar.{desugared_member, body_code, completed, is_mutable_in, result_destination}
 use Rattle.sj_emit_expr.specs.Uses.{uses_of_all, is_same_binding, once_each, uses}
 use Rattle.sj_infos.specs.Trees.{trees}
-use Rattle.accepted_folders.proofs.Found.{here, there}
+use Rattle.object_folders.proofs.Found.{here, there}
 use Rattle.sj_names.proofs.Same.{impossible, text-same}
 use Rattle.sj_names.specs.Same.{is_same_text}
 use Rattle.sj_names.specs.declared.method_names.MethodName.{MethodName}
 use Rattle.sj_names.specs.declared.method_names.Namespace.{Namespace}
 use Rattle.sj_names.specs.declared.method_names.Namespace.TheVariants.{Public, PublicStatic, Private, PrivateStatic, Constructor}
-use Rattle.accepted_folders.specs.Typing.{may_check, is_built_with}
-use Rattle.accepted_folders.specs.Built.{Usable, can_box, may_make, is_built, any_object, body_boxes, is_object_body}
+use Rattle.object_folders.specs.Typing.{may_check, is_built_with}
+use Rattle.object_folders.specs.Built.{Usable, can_box, may_make, is_built, any_object, body_boxes, is_object_body}
 use Rattle.sj_trees.specs.Term.{Term, Terms, new_object, select, select_static, apply_statically, apply_static, is_instance_of, as_instance_of, binary_op, apply}
 use Rattle.sj_trees.specs.declared.classes.MethodDef.{MethodDef}
 use Rattle.sj_trees.specs.declared.positions.Position.{Position}
 use Rattle.sj_trees.specs.declared.types.IrType.{IrType}
 use Rattle.sure_receivers.specs.Sure.{sure_locals}
 use Rattle.worklist.proofs.Inserted.{nothing_in}
-use Rattle.accepted_folders.proofs.Undenied.{first_or_later}
+use Rattle.object_folders.proofs.Undenied.{first_or_later}
 use Rattle.body_uses.specs.Given.{Given, HelpersGiven}
 use Rattle.body_uses.specs.Laws.{BodiesUseWhatIsGiven, used_by}
 use Rattle.body_uses.proofs.Boxes.{box_used}

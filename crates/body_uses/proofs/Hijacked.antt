@@ -1,7 +1,7 @@
 -- What a call asks for that a hijacked class decides on.
 use Rattle.std.proofs.Common.{◌≡◌, ◌∙◌, ℕ, Bool, true, false, List, [], ◌∷◌, ◌++◌, Contains, Option, Some, None, codes, refl, sym, ap, subst, if◌then◌else◌}
 use Rattle.std.specs.Prelude.{is_none}
-use Rattle.accepted_folders.proofs.Found.{here}
+use Rattle.object_folders.proofs.Found.{here}
 use Rattle.sj_core.specs.declared.callees.Callee.{Callee}
 use Rattle.sj_core.specs.declared.callees.Callee.TheVariants as callees
 use Rattle.sj_desugar.specs.Desugar.{member, called_on, named_by, callee_of}

@@ -6,9 +6,9 @@ use Rattle.std.proofs.lemmas.List.Elements.{All-nil, All-cons, All-head}
 use Rattle.sj_ask.specs.Sizes.{size, size_of_cases}
 use Rattle.sj_infos.specs.Trees.{trees, below, all_below, cases_below}
 use Rattle.sj_trees.specs.Term.{Term, Terms, Cases, no_terms, more_terms, no_cases, more_cases, var_def, skip, block_of, labeled, assign, return_to, if_then, while_loop, do_while, try_catch, try_finally, throw, match_on, new_object, load_module, store_module, select, select_static, apply, apply_statically, apply_static, unary_op, binary_op, new_array, array_value, array_length, array_select, is_instance_of, as_instance_of, undefined_literal, null_literal, boolean_literal, char_literal, byte_literal, short_literal, int_literal, long_literal, string_literal, var_ref, this_ref, log_line}
-use Rattle.accepted_folders.specs.Label.{Label}
-use Rattle.accepted_folders.specs.Nodes as standing
-use Rattle.accepted_folders.specs.Nodes.{Node, node, nodes, nodes_of_all, nodes_of_cases, inside}
+use Rattle.object_folders.specs.Label.{Label}
+use Rattle.object_folders.specs.Nodes as standing
+use Rattle.object_folders.specs.Nodes.{Node, node, nodes, nodes_of_all, nodes_of_cases, inside}
 use Rattle.body_uses.proofs.Uses.{ahead, after, combine}
 
 module _ (P : Node → Type 0) where

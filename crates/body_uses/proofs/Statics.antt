@@ -2,9 +2,9 @@
 use Rattle.std.proofs.Common.{◌≡◌, ℕ, Bool, true, false, List, refl, sym}
 use Rattle.std.specs.Prelude.{◌||◌}
 use Rattle.std.specs.List.{All}
-use Rattle.accepted_folders.proofs.RulesGive.{no_division}
-use Rattle.accepted_folders.specs.Typing.{may_check}
-use Rattle.accepted_folders.specs.Built.{Usable, members_alone, is_built}
+use Rattle.object_folders.proofs.RulesGive.{no_division}
+use Rattle.object_folders.specs.Typing.{may_check}
+use Rattle.object_folders.specs.Built.{Usable, members_alone, is_built}
 use Rattle.js_tree.specs.declared.items.Binding.{Binding}
 use Rattle.sj_core.specs.Lookup.{Lookup}
 use Rattle.sj_desugar.specs.Desugar.{Targets, into, member}

@@ -7,7 +7,7 @@ use Rattle.std.proofs.lemmas.Bool.{and_parts, and_from}
 use Rattle.std.proofs.lemmas.Bool.Decides.{Decides-int_eq}
 use Rattle.std.proofs.lemmas.List.Elements.{All-nil, All-cons, All-head, All-tail}
 use Rattle.std.proofs.lemmas.List.Folds.{Any-from_list_any}
-use Rattle.accepted_folders.proofs.Direct.{IsCalled, is_called}
+use Rattle.object_folders.proofs.Direct.{IsCalled, is_called}
 use Rattle.js_tree.specs.declared.items.Binding.{Binding}
 use Rattle.sj_core.specs.Lookup.{Lookup}
 use Rattle.sj_core.specs.Terms as core
@@ -28,8 +28,8 @@ use Rattle.sj_names.proofs.Same.{impossible, text-same}
 use Rattle.sj_names.specs.Same.{is_same_text}
 use Rattle.sj_names.specs.declared.method_names.Member.{Member}
 use Rattle.sj_names.specs.declared.references.TypeRef.{TypeRef}
-use Rattle.accepted_folders.specs.Typing.{may_check}
-use Rattle.accepted_folders.specs.Built.{Usable, is_nonzero_int, is_nonzero_long, divides, is_operation, can_cast, stands, is_built, are_built, are_built_cases, can_call}
+use Rattle.object_folders.specs.Typing.{may_check}
+use Rattle.object_folders.specs.Built.{Usable, is_nonzero_int, is_nonzero_long, divides, is_operation, can_cast, stands, is_built, are_built, are_built_cases, can_call}
 use Rattle.sj_names.specs.declared.method_names.MethodName.{MethodName}
 use Rattle.sj_names.specs.declared.method_names.Namespace.{Namespace}
 use Rattle.sj_names.specs.declared.method_names.Namespace.TheVariants.{Public, Private, Constructor}

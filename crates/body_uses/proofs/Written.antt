@@ -1,5 +1,5 @@
 -- The bodies of an accepted folder whose classes are written are built with what is written.
-use Rattle.accepted_folders.specs.Refusals.{IsPresent, missing_class, missing_method, abstract_target, no_class, no_target, no_target_body, no_method, no_hijacked_body}
+use Rattle.object_folders.specs.Refusals.{IsPresent, missing_class, missing_method, abstract_target, no_class, no_target, no_target_body, no_method, no_hijacked_body}
 use Rattle.body_uses.proofs.Hijacked.{of_hijacked}
 use Rattle.sj_world.specs.Resolution.{Answer, target, abstract, missing, Resolves}
 use Rattle.ir_mean.specs.Dispatch.{resolved}
@@ -7,7 +7,7 @@ use Rattle.resolution_laws.proofs.Resolves.{each_call_resolves}
 use Rattle.resolution_laws.specs.Laws.{HasAnswer}
 use Rattle.resolution_laws.proofs.WorkedOut.{targets_are_worked_out}
 use Rattle.resolution_laws.specs.DispatchLawsLaws.{found_by}
-use Rattle.linked_pieces.specs.Targets.{at_owner, target_in}
+use Rattle.object_folders.specs.Targets.{at_owner, target_in}
 use Rattle.std.proofs.Common.{◌≡◌, Bool, true, false, List, [], ◌∷◌, inl, inr, Option, Some, refl, sym, subst, ◌∙◌, Contains, codes, ap, None}
 use Rattle.std.specs.Prelude.{not, ◌&&◌, ◌||◌}
 use Rattle.worklist.proofs.Inserted.{nothing_in}
@@ -15,19 +15,19 @@ use Rattle.std.specs.List.{All, list_any}
 use Rattle.std.proofs.lemmas.Bool.{and_from, or_left}
 use Rattle.std.proofs.lemmas.List.Elements.{All-head, All-tail}
 use Rattle.std.proofs.lemmas.List.Folds.{list_any_at}
-use Rattle.accepted_folders.specs.Typing.{is_built_with}
-use Rattle.accepted_folders.specs.Built.{Usable, is_object_body, is_static, is_testable, has_no_value}
-use Rattle.accepted_folders.proofs.EachTyped.{in_all}
-use Rattle.accepted_folders.proofs.Undenied.{first_or_later}
+use Rattle.object_folders.specs.Typing.{is_built_with}
+use Rattle.object_folders.specs.Built.{Usable, is_object_body, is_static, is_testable, has_no_value}
+use Rattle.object_folders.proofs.EachTyped.{in_all}
+use Rattle.object_folders.proofs.Undenied.{first_or_later}
 use Rattle.helper_rules.specs.Helpers.{helper_name}
 use Rattle.helper_rules.specs.declared.kinds.Helper.{Helper}
 use Rattle.helper_rules.specs.declared.kinds.Helper.TheVariants.{NotNull, IntQuotient, IntRemainder as IntRest, LongQuotient, LongRemainder as LongRest, BoxedChar, Equal, TestOf, CastTo}
 use Rattle.helper_rules.specs.declared.kinds.Kind.{Kind}
 use Rattle.helper_rules.specs.declared.kinds.Kind.TheVariants as kinds
 use Rattle.js_tree.specs.declared.items.Binding.{Binding}
-use Rattle.accepted_folders.proofs.Derivations.{closed}
-use Rattle.accepted_folders.specs.Reachable.{Reachable}
-use Rattle.accepted_folders.specs.Rules.{Reads, of_call, of_new, asked_body, new_made, field_needed, resolved_class, resolved_body, call_class, call_hijacked}
+use Rattle.object_folders.proofs.Derivations.{closed}
+use Rattle.object_folders.specs.Reachable.{Reachable}
+use Rattle.object_folders.specs.Rules.{Reads, of_call, of_new, asked_body, new_made, field_needed, resolved_class, resolved_body, call_class, call_hijacked}
 use Rattle.sj_desugar.specs.Desugar.{member}
 use Rattle.sj_emit_expr.specs.Templates.{check_name}
 use Rattle.sj_emit_expr.specs.Tests.{test_name, cast_name, same_name}
@@ -40,7 +40,7 @@ use Rattle.sj_infos.specs.declared.forms.BodyForm.{BodyForm}
 use Rattle.sj_infos.specs.declared.forms.BodyForm.TheVariants.{Test, Cast}
 use Rattle.sj_infos.specs.declared.infos.Info.{Info}
 use Rattle.sj_infos.specs.declared.infos.Info.TheVariants.{New, Static, Field, Resolved, Called}
-use Rattle.accepted_folders.proofs.Found.{here}
+use Rattle.object_folders.proofs.Found.{here}
 use Rattle.sj_names.proofs.Same.{impossible, text-refl}
 use Rattle.sj_names.specs.Same.{is_same_text}
 use Rattle.sj_names.specs.WellKnown.{object}
@@ -50,8 +50,8 @@ use Rattle.sj_names.specs.declared.method_names.Member.{Member}
 use Rattle.sj_names.specs.declared.method_names.MethodName.{MethodName}
 use Rattle.sj_names.specs.declared.method_names.Namespace.{Namespace}
 use Rattle.sj_names.specs.declared.method_names.Namespace.TheVariants.{Public, PublicStatic, Private, PrivateStatic, Constructor}
-use Rattle.accepted_folders.specs.Emitted.{EmittedMethod}
-use Rattle.accepted_folders.specs.Linked.{has_function}
+use Rattle.object_folders.specs.Emitted.{EmittedMethod}
+use Rattle.object_folders.specs.Linked.{has_function}
 use Rattle.sj_trees.proofs.SameTypes.{type-refl}
 use Rattle.sj_trees.specs.SameTypes.{is_same_type}
 use Rattle.sj_trees.specs.declared.positions.Position.{Position}
@@ -67,13 +67,13 @@ use Rattle.sj_world.specs.Paths.{stay}
 use Rattle.sj_world.specs.Subtypes.{equal, from_nothing, to_any, null_to_class, null_to_array, class_to_class, primitive_to_class, arrays_alike, arrays_of_arrays}
 use Rattle.sj_world.specs.declared.facts.Fact.{Fact}
 use Rattle.sj_world.specs.declared.facts.Fact.TheVariants.{Body, Made, Needed, NeededField}
-use Rattle.accepted_folders.specs.TypingRulesRules.{Fits, HasFieldType, IsStatic, OperandsFit}
-use Rattle.accepted_folders.specs.Typed.{MeetsThere}
-use Rattle.accepted_folders.specs.Accepted.{IsAccepted}
-use Rattle.accepted_folders.specs.Bodies.{AreBodies}
-use Rattle.accepted_folders.proofs.Calls.{needed}
-use Rattle.accepted_folders.proofs.Members.{has_function-from, defined}
-use Rattle.linked_pieces.specs.Used.{used_of, is_among, is_its_field, has_field_in, is_its_static, has_static_in, needs_static, uses_static, uses_helper, is_test_for, is_cast_to, is_tested, is_cast}
+use Rattle.object_folders.specs.TypingRulesRules.{Fits, HasFieldType, IsStatic, OperandsFit}
+use Rattle.object_folders.specs.Typed.{MeetsThere}
+use Rattle.object_folders.specs.Accepted.{IsAccepted}
+use Rattle.object_folders.specs.Bodies.{AreBodies}
+use Rattle.object_folders.proofs.Calls.{needed}
+use Rattle.object_folders.proofs.Members.{has_function-from, defined}
+use Rattle.object_folders.specs.Used.{used_of, is_among, is_its_field, has_field_in, is_its_static, has_static_in, needs_static, uses_static, uses_helper, is_test_for, is_cast_to, is_tested, is_cast}
 use Rattle.body_uses.specs.Given.{Given, HelpersGiven, FitsDivision, HasType}
 use Rattle.body_uses.specs.Laws.{used_by, AcceptedBodiesUseWhatIsWritten}
 use Rattle.body_uses.specs.Written.{AreWrittenWith}

@@ -1,7 +1,7 @@
 -- What a body is given: what its emitted code names is there.
 use Rattle.std.specs.Prelude.{◌≡◌, ◌⊎◌, ℕ, true, List, [], ◌∷◌, Contains, codes}
 use Rattle.std.specs.List.{All}
-use Rattle.accepted_folders.specs.Built.{Usable, is_testable, has_no_value}
+use Rattle.object_folders.specs.Built.{Usable, is_testable, has_no_value}
 use Rattle.js_tree.specs.declared.items.Binding.{Binding}
 use Rattle.sj_core.specs.declared.callees.Callee.TheVariants as callees
 use Rattle.sj_desugar.specs.Desugar.{member, callee_of}

@@ -2,10 +2,10 @@
 use Rattle.sj_core.specs.Lookup.{Lookup}
 use Rattle.sj_names.specs.declared.method_names.Member.{Member}
 use Rattle.std.specs.Prelude.{◌≡◌, true, List, Contains}
-use Rattle.accepted_folders.specs.Accepted.{IsAccepted}
-use Rattle.accepted_folders.specs.Bodies.{AreBodies}
-use Rattle.accepted_folders.specs.Typing.{is_built_with}
-use Rattle.accepted_folders.specs.Built.{Usable, is_object_body}
+use Rattle.object_folders.specs.Accepted.{IsAccepted}
+use Rattle.object_folders.specs.Bodies.{AreBodies}
+use Rattle.object_folders.specs.Typing.{is_built_with}
+use Rattle.object_folders.specs.Built.{Usable, is_object_body}
 use Rattle.helper_rules.specs.declared.kinds.Helper.{Helper}
 use Rattle.js_tree.specs.declared.items.Binding.{Binding}
 use Rattle.sj_desugar.specs.Desugar.{desugared_member}
@@ -13,12 +13,12 @@ use Rattle.sj_emit_expr.specs.Uses.{uses}
 use Rattle.sj_infos.specs.Trees.{trees}
 use Rattle.sj_names.specs.declared.entry_points.EntryPoint.{EntryPoint}
 use Rattle.sj_names.specs.declared.folders.SourceFile.{SourceFile}
-use Rattle.accepted_folders.specs.Emitted.{EmittedMethod}
+use Rattle.object_folders.specs.Emitted.{EmittedMethod}
 use Rattle.sj_trees.specs.Term.{Term}
 use Rattle.sj_trees.specs.declared.classes.MethodDef.{MethodDef}
 use Rattle.sj_world.specs.Known.{Name, Classes}
 use Rattle.sj_world.specs.declared.facts.Fact.{Fact}
-use Rattle.linked_pieces.specs.Used.{used_of}
+use Rattle.object_folders.specs.Used.{used_of}
 use Rattle.body_uses.specs.Given.{Given, HelpersGiven}
 use Rattle.body_uses.specs.Written.{AreWrittenWith}
 

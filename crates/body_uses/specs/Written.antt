@@ -1,16 +1,16 @@
 -- What the written pieces of a world use is written.
 use Rattle.std.specs.Prelude.{◌↔◌, List, Contains}
-use Rattle.accepted_folders.specs.Entries.{IsLive}
+use Rattle.object_folders.specs.Entries.{IsLive}
 use Rattle.helper_rules.specs.Helpers.{helper_name}
 use Rattle.helper_rules.specs.Words.{helper}
 use Rattle.helper_rules.specs.declared.kinds.Helper.{Helper}
 use Rattle.js_tree.specs.declared.items.Binding.{Binding}
-use Rattle.accepted_folders.specs.Reachable.{Reachable}
+use Rattle.object_folders.specs.Reachable.{Reachable}
 use Rattle.sj_names.specs.declared.entry_points.EntryPoint.{EntryPoint}
-use Rattle.accepted_folders.specs.Emitted.{EmittedMethod}
+use Rattle.object_folders.specs.Emitted.{EmittedMethod}
 use Rattle.sj_world.specs.Known.{Name, Classes}
 use Rattle.sj_world.specs.declared.facts.Fact.{Fact}
-use Rattle.linked_pieces.specs.Pieces.{piece_of_member}
+use Rattle.object_folders.specs.Pieces.{piece_of_member}
 
 -- the pieces of these classes are written, in a world with these facts, methods, live classes and helpers: what the methods of the classes use is of one of them, and each
 -- helper that they use is there

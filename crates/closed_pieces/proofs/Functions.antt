@@ -39,7 +39,7 @@ use Rattle.linked_folders.proofs.WrittenTrees.{written, each_written}
 use Rattle.module_rules.specs.Laws.{IsDeclared}
 use Rattle.linked_folders.proofs.Bodies.{once_in}
 use Rattle.linked_folders.proofs.Brought.{Brings, followed_in, tree}
-use Rattle.resolution_laws.proofs.Resolves.{each_call_resolves}
+use Rattle.linked_folders.proofs.Resolves.{each_call_resolves}
 use Rattle.sj_core.specs.Lookup.{Lookup}
 use Rattle.sj_core.specs.Terms as core
 use Rattle.sj_core.specs.declared.callees.Callee.{Callee}

@@ -2,26 +2,38 @@ pub mod HijackedKinds
 pub mod Whole
 pub use Rattle.module_uses.proofs.Among
 pub use Rattle.module_uses.proofs.InFiles
-pub use Rattle.declared_pieces.proofs.Assembled
-pub use Rattle.declared_pieces.proofs.Calls
-pub use Rattle.declared_pieces.proofs.Derivations
-pub use Rattle.declared_pieces.proofs.EachTyped
-pub use Rattle.declared_pieces.proofs.Judged
-pub use Rattle.declared_pieces.proofs.Members
-pub use Rattle.declared_pieces.proofs.ObjectFoldersWorlds as Worlds
-pub use Rattle.declared_pieces.proofs.Verdict
-pub use Rattle.declared_pieces.proofs.Worlds as AcceptedFoldersWorlds
-pub use Rattle.module_files.proofs.Entries
-pub use Rattle.module_files.proofs.Found
-pub use Rattle.module_files.proofs.FromLinked
-pub use Rattle.module_files.proofs.Reached
-pub use Rattle.module_files.proofs.Read
-pub use Rattle.module_files.proofs.Running
-pub use Rattle.module_files.proofs.Whole as ModuleFilesWhole
-pub use Rattle.declared_pieces.proofs.Blocks
-pub use Rattle.declared_pieces.proofs.ObjectFoldersFields as Fields
-pub use Rattle.declared_pieces.proofs.Given
-pub use Rattle.declared_pieces.proofs.Objects
-pub use Rattle.declared_pieces.proofs.Standing
-pub use Rattle.declared_pieces.proofs.Uses
-pub use Rattle.declared_pieces.proofs.Written
+pub use Rattle.module_uses.proofs.Assembled
+pub use Rattle.module_uses.proofs.Calls
+pub use Rattle.module_uses.proofs.Derivations
+pub use Rattle.module_uses.proofs.EachTyped
+pub use Rattle.module_uses.proofs.Judged
+pub use Rattle.module_uses.proofs.Members
+pub use Rattle.module_uses.proofs.Worlds
+pub use Rattle.module_uses.proofs.Verdict
+pub use Rattle.module_uses.proofs.AcceptedFoldersWorlds
+pub use Rattle.module_uses.proofs.Entries
+pub use Rattle.module_uses.proofs.Found
+pub use Rattle.module_uses.proofs.FromLinked
+pub use Rattle.module_uses.proofs.Reached
+pub use Rattle.module_uses.proofs.Read
+pub use Rattle.module_uses.proofs.Running
+pub use Rattle.module_uses.proofs.ModuleFilesWhole
+pub use Rattle.module_uses.proofs.Blocks
+pub use Rattle.module_uses.proofs.ObjectFoldersFields as Fields
+pub use Rattle.module_uses.proofs.Given
+pub use Rattle.module_uses.proofs.Objects
+pub use Rattle.module_uses.proofs.Standing
+pub use Rattle.module_uses.proofs.Uses
+pub use Rattle.module_uses.proofs.Written
+pub use Rattle.module_uses.proofs.Declared
+pub use Rattle.module_uses.proofs.Declares
+pub use Rattle.module_uses.proofs.Edits
+pub use Rattle.module_uses.proofs.Forms
+pub use Rattle.module_uses.proofs.Items
+pub use Rattle.module_uses.proofs.Links
+pub use Rattle.module_uses.proofs.Names
+pub use Rattle.module_uses.proofs.Once
+pub use Rattle.module_uses.proofs.One
+pub use Rattle.module_uses.proofs.There
+pub use Rattle.module_uses.proofs.ClosedPiecesUses
+pub use Rattle.module_uses.proofs.DeclaredFilesWhole

@@ -4,32 +4,32 @@ use Rattle.std.specs.Prelude.{◌↔◌}
 use Rattle.std.specs.List.{Contains, list_all}
 use Rattle.std.proofs.lemmas.Bool.{and_parts, and_from, or_cases, or_left, or_right}
 use Rattle.std.proofs.lemmas.List.Elements.{Contains-append_left, Contains-append_right}
-use Rattle.declared_pieces.proofs.BodyUsesTested.{kind_uses, cast_kind_uses}
-use Rattle.declared_pieces.proofs.Written.{divisors_fit}
-use Rattle.class_code.proofs.Markers.{marked}
+use Rattle.module_uses.proofs.Tested.{kind_uses, cast_kind_uses}
+use Rattle.module_uses.proofs.Written.{divisors_fit}
+use Rattle.module_uses.proofs.Markers.{marked}
 use Rattle.module_uses.proofs.KindHelpers.{helpers_of}
 use Rattle.module_uses.specs.Declared.{Spread, all_items, Leads, FunctionDeclared, ClassDeclared, ChainDeclared, extends_none, extends_one, MadeDeclared, StaticDeclared, KindTestDeclared, ClassTestDeclared, by_marker, by_kind, TestDeclared, of_kind, of_class, KindCastDeclared, ClassCastDeclared, CastDeclared, to_kind, to_class, Uses as UsesTop}
 use Rattle.module_uses.specs.Placed.{placed}
-use Rattle.declared_pieces.proofs.Blocks.{method_there}
-use Rattle.declared_pieces.proofs.Chains.{Stands, whole_chain}
-use Rattle.declared_pieces.proofs.Fields.{field_there, fields_kept}
-use Rattle.declared_pieces.proofs.Live.{classes_kept}
-use Rattle.declared_pieces.proofs.Members.{same-class, defined}
-use Rattle.declared_pieces.proofs.Parts.{uses_superclass, uses_constants}
-use Rattle.declared_pieces.proofs.Whole.{static_alone, received_runs, constructor_is, no_value, own_fields, whole_fields, method_of, Good, free, own, its, is_named, constants_here, class_of_its, class_here, super_good, made_good, Needed, needed_static, variable_there, setter_there, class_test_there, class_cast_there, IsWritten, helper_written, helper_had, helper_listed}
-use Rattle.declared_pieces.specs.Accepted.{IsAccepted}
-use Rattle.declared_pieces.specs.Bodies.{AreBodies}
-use Rattle.declared_pieces.specs.Built.{Usable, has_static, is_static, has_kind, has_no_value, divides}
-use Rattle.declared_pieces.specs.Closed.{IsClosed}
-use Rattle.declared_pieces.specs.FileDeclarations.{Running, alone, on_receiver, completing, running, is_covered}
-use Rattle.declared_pieces.specs.Emitted.{EmittedMethod}
-use Rattle.declared_pieces.specs.Entries.{IsLive}
-use Rattle.declared_pieces.specs.Laws.{TestThere}
-use Rattle.declared_pieces.specs.Linked.{has_function}
-use Rattle.class_code.specs.Pieces.{Parts, constants_piece, entry_member, variable_piece, setter_piece, test_piece, test_binding, test_uses as kind_tests, kind_of_class, cast_piece}
-use Rattle.declared_pieces.specs.Pieces.{piece_of_member, AreLinkedPieces}
-use Rattle.declared_pieces.specs.Running.{CanRun}
-use Rattle.declared_pieces.specs.Used.{used_of, is_among, is_received, is_constructor, is_constructor_without_value, uses_static, uses_helper as written_helper, uses_test, uses_cast, is_tested, is_cast}
+use Rattle.module_uses.proofs.Blocks.{method_there}
+use Rattle.module_uses.proofs.DeclaredPiecesChains.{Stands, whole_chain}
+use Rattle.module_uses.proofs.Fields.{field_there, fields_kept}
+use Rattle.module_uses.proofs.Live.{classes_kept}
+use Rattle.module_uses.proofs.Members.{same-class, defined}
+use Rattle.module_uses.proofs.Parts.{uses_superclass, uses_constants}
+use Rattle.module_uses.proofs.Whole.{static_alone, received_runs, constructor_is, no_value, own_fields, whole_fields, method_of, Good, free, own, its, is_named, constants_here, class_of_its, class_here, super_good, made_good, Needed, needed_static, variable_there, setter_there, class_test_there, class_cast_there, IsWritten, helper_written, helper_had, helper_listed}
+use Rattle.module_uses.specs.Accepted.{IsAccepted}
+use Rattle.module_uses.specs.Bodies.{AreBodies}
+use Rattle.module_uses.specs.Built.{Usable, has_static, is_static, has_kind, has_no_value, divides}
+use Rattle.module_uses.specs.Closed.{IsClosed}
+use Rattle.module_uses.specs.FileDeclarationsDeclared.{Running, alone, on_receiver, completing, running, is_covered}
+use Rattle.module_uses.specs.Emitted.{EmittedMethod}
+use Rattle.module_uses.specs.Entries.{IsLive}
+use Rattle.module_uses.specs.DeclaredPiecesLaws.{TestThere}
+use Rattle.module_uses.specs.Linked.{has_function}
+use Rattle.module_uses.specs.Pieces.{Parts, constants_piece, entry_member, variable_piece, setter_piece, test_piece, test_binding, test_uses as kind_tests, kind_of_class, cast_piece}
+use Rattle.module_uses.specs.LinkedPiecesPieces.{piece_of_member, AreLinkedPieces}
+use Rattle.module_uses.specs.Running.{CanRun}
+use Rattle.module_uses.specs.LinkedPiecesUsed.{used_of, is_among, is_received, is_constructor, is_constructor_without_value, uses_static, uses_helper as written_helper, uses_test, uses_cast, is_tested, is_cast}
 use Rattle.file_listings.specs.Listed.{AreBytes}
 use Rattle.helper_rules.specs.Helpers.{helper_name, helper_item, helper_piece, used_helpers, used_of_classes, failure_class, of}
 use Rattle.helper_rules.specs.Words.{object_class, all_kinds, helper as helper_binding}
@@ -41,16 +41,16 @@ use Rattle.helper_rules.specs.declared.kinds.Kind.{Kind}
 use Rattle.ir_mean.specs.Meaning.{with_message}
 use Rattle.js_tree.specs.Terms.{Name, Item, Piece}
 use Rattle.js_tree.specs.declared.items.Binding.{Binding}
-use Rattle.module_files.proofs.Found.{uses_are_owned}
-use Rattle.module_files.specs.Files.{AreWhole, StandsIn, StandTogether}
+use Rattle.module_uses.proofs.Found.{uses_are_owned}
+use Rattle.module_uses.specs.Files.{AreWhole, StandsIn, StandTogether}
 use Rattle.module_rules.specs.Laws.{by_piece}
 use Rattle.module_rules.specs.Modules.{file_with}
 use Rattle.module_uses.proofs.Bodies.{built_here}
 use Rattle.module_uses.proofs.InFiles.{used_there}
 use Rattle.module_uses.specs.Used.{restricted, uses_in}
-use Rattle.declared_pieces.proofs.BodySoundnessChains.{byte_not}
-use Rattle.declared_pieces.proofs.ObjectFoldersMethods.{right_method}
-use Rattle.declared_pieces.proofs.Throwing.{exceptions, division, cast_throws}
+use Rattle.module_uses.proofs.Chains.{byte_not}
+use Rattle.module_uses.proofs.Methods.{right_method}
+use Rattle.module_uses.proofs.Throwing.{exceptions, division, cast_throws}
 use Rattle.module_uses.specs.Rules.{RightMember}
 use Rattle.sj_desugar.specs.Desugar.{member}
 use Rattle.sj_emit_expr.specs.Templates.{check_name, static_name}
@@ -61,7 +61,7 @@ use Rattle.sj_names.specs.declared.entry_points.EntryPoint.{EntryPoint}
 use Rattle.sj_names.specs.declared.folders.SourceFile.{SourceFile}
 use Rattle.sj_names.specs.declared.method_names.Member.{Member}
 use Rattle.sj_names.specs.declared.method_names.Namespace.TheVariants.{Constructor}
-use Rattle.sj_plain.specs.Settings.{Top, a_function, a_method, a_constructor, a_class, some_constants, a_static, a_setter, a_test, a_cast, a_helper, top_name, is_named as is_named_top}
+use Rattle.module_uses.specs.Settings.{Top, a_function, a_method, a_constructor, a_class, some_constants, a_static, a_setter, a_test, a_cast, a_helper, top_name, is_named as is_named_top}
 use Rattle.sj_split.proofs.Members.{at_first, further, into_map}
 use Rattle.sj_split.specs.declared.plans.PlannedModule.{PlannedModule}
 use Rattle.sj_trees.specs.declared.classes.FieldDef.{FieldDef}

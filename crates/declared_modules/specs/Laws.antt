@@ -2,19 +2,19 @@
 use Rattle.std.specs.Prelude.{◌≡◌, ◌↔◌, true, List}
 use Rattle.std.specs.List.{Contains}
 use Rattle.module_uses.specs.Declared.{Declared}
-use Rattle.declared_pieces.specs.Accepted.{IsAccepted}
-use Rattle.declared_pieces.specs.Bodies.{AreBodies}
-use Rattle.declared_pieces.specs.Closed.{IsClosed}
-use Rattle.declared_pieces.specs.FileDeclarations.{is_covered}
-use Rattle.declared_pieces.specs.Emitted.{EmittedMethod}
-use Rattle.declared_pieces.specs.Entries.{IsLive}
-use Rattle.declared_pieces.specs.Pieces.{AreLinkedPieces}
-use Rattle.declared_pieces.specs.Running.{CanRun}
-use Rattle.declared_pieces.specs.Used.{used_of}
+use Rattle.module_uses.specs.Accepted.{IsAccepted}
+use Rattle.module_uses.specs.Bodies.{AreBodies}
+use Rattle.module_uses.specs.Closed.{IsClosed}
+use Rattle.module_uses.specs.FileDeclarationsDeclared.{is_covered}
+use Rattle.module_uses.specs.Emitted.{EmittedMethod}
+use Rattle.module_uses.specs.Entries.{IsLive}
+use Rattle.module_uses.specs.LinkedPiecesPieces.{AreLinkedPieces}
+use Rattle.module_uses.specs.Running.{CanRun}
+use Rattle.module_uses.specs.LinkedPiecesUsed.{used_of}
 use Rattle.file_listings.specs.Listed.{AreBytes}
 use Rattle.helper_rules.specs.declared.kinds.Helper.{Helper}
 use Rattle.js_tree.specs.Terms.{Name, Item, Piece}
-use Rattle.module_files.specs.Files.{AreWhole, StandTogether}
+use Rattle.module_uses.specs.Files.{AreWhole, StandTogether}
 use Rattle.sj_names.specs.declared.entry_points.EntryPoint.{EntryPoint}
 use Rattle.sj_names.specs.declared.folders.SourceFile.{SourceFile}
 use Rattle.sj_split.specs.declared.plans.PlannedModule.{PlannedModule}

@@ -1,13 +1,20 @@
 pub mod Spread
 pub mod Laws
 pub use Rattle.module_uses.specs.Used
-pub use Rattle.declared_pieces.specs.Accepted
-pub use Rattle.declared_pieces.specs.Bodies
-pub use Rattle.declared_pieces.specs.Closed
-pub use Rattle.module_files.specs.Pieces
-pub use Rattle.declared_pieces.specs.Reachable
-pub use Rattle.declared_pieces.specs.Refusals
-pub use Rattle.declared_pieces.specs.Rules
-pub use Rattle.declared_pieces.specs.Running
-pub use Rattle.declared_pieces.specs.Verdicts
-pub use Rattle.module_files.specs.Files
+pub use Rattle.module_uses.specs.Accepted
+pub use Rattle.module_uses.specs.Bodies
+pub use Rattle.module_uses.specs.Closed
+pub use Rattle.module_uses.specs.LinkedPiecesPieces as Pieces
+pub use Rattle.module_uses.specs.Reachable
+pub use Rattle.module_uses.specs.Refusals
+pub use Rattle.module_uses.specs.ReachRulesRules as Rules
+pub use Rattle.module_uses.specs.Running
+pub use Rattle.module_uses.specs.Verdicts
+pub use Rattle.module_uses.specs.Files
+pub use Rattle.module_uses.specs.Built
+pub use Rattle.module_uses.specs.Declared
+pub use Rattle.module_uses.specs.Edits
+pub use Rattle.module_uses.specs.Emitted
+pub use Rattle.module_uses.specs.RunningModulesLaws
+pub use Rattle.module_uses.specs.Link
+pub use Rattle.module_uses.specs.Placed

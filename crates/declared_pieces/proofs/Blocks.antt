@@ -3,15 +3,15 @@ use Rattle.std.proofs.Common.{◌≡◌, ◌⊎◌, ◌++◌, Bool, true, false,
 use Rattle.std.specs.Prelude.{is_some}
 use Rattle.std.specs.List.{Contains, flat_map}
 use Rattle.std.proofs.lemmas.List.Elements.{Contains-append_left, Contains-append_right}
-use Rattle.object_folders.proofs.EachTyped.{in_all}
+use Rattle.object_helpers.proofs.EachTyped.{in_all}
 use Rattle.helper_rules.specs.Helpers.{helper_piece}
 use Rattle.helper_rules.specs.declared.kinds.Helper.{Helper}
 use Rattle.js_tree.specs.Terms.{Name, Piece}
-use Rattle.object_folders.specs.Pieces.{piece_of_member, Block, IsBlock, AreBlocks, pieces_of_block, with_helpers, AreLinkedPieces}
-use Rattle.object_folders.specs.Classes.{AreClassPieces, AreParts, absent, present}
-use Rattle.object_folders.specs.PieceRulesPieces.{Parts, pieces}
+use Rattle.object_helpers.specs.Pieces.{piece_of_member, Block, IsBlock, AreBlocks, pieces_of_block, with_helpers, AreLinkedPieces}
+use Rattle.file_declarations.specs.Classes.{AreClassPieces, AreParts, absent, present}
+use Rattle.file_declarations.specs.Pieces.{Parts, pieces}
 use Rattle.sj_names.specs.WellKnown.{is_object, object}
-use Rattle.object_folders.specs.Emitted.{EmittedMethod}
+use Rattle.object_helpers.specs.Emitted.{EmittedMethod}
 use Rattle.sj_split.proofs.Members.{at_first, further, cons_cases, into_map, into_filter}
 use Rattle.sj_trees.specs.declared.classes.ClassDef.{ClassDef}
 use Rattle.sj_world.proofs.OnCycles.{among}

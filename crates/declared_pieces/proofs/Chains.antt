@@ -1,8 +1,8 @@
 -- What holds of the chain of a class, where each class that is good extends a good one.
 use Rattle.std.proofs.Common.{◌≡◌, ◌<◌, ◌||◌, ℕ, zero, suc, Bool, false, List, [], ◌∷◌, Option, Some, None, refl, sym, ap, subst, ◌∙◌, arith, if◌then◌else◌}
 use Rattle.std.specs.List.{list_any}
-use Rattle.object_folders.proofs.Lengths.{unseen, less, all_unseen, not_behind}
-use Rattle.object_folders.specs.Worlds.{AreClassesKept}
+use Rattle.object_helpers.proofs.Lengths.{unseen, less, all_unseen, not_behind}
+use Rattle.object_helpers.specs.Worlds.{AreClassesKept}
 use Rattle.declared_pieces.proofs.Live.{next_is}
 use Rattle.ir_mean.specs.Dispatch.{chain_of, chain_from, longest}
 use Rattle.sj_trees.specs.declared.classes.ClassDef.{ClassDef}

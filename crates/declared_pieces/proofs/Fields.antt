@@ -2,23 +2,23 @@
 use Rattle.std.proofs.Common.{◌≡◌, true, List, Option, Some, None, IsTrue, refl, sym, subst, ◌∙◌}
 use Rattle.std.specs.List.{Contains}
 use Rattle.std.proofs.lemmas.List.Elements.{All-contains}
-use Rattle.object_folders.proofs.Members.{same-class}
-use Rattle.object_folders.proofs.AcceptedFoldersWorlds.{judged}
-use Rattle.object_folders.specs.Accepted.{IsAccepted}
-use Rattle.object_folders.specs.Locals.{HasValue}
+use Rattle.object_helpers.proofs.Members.{same-class}
+use Rattle.object_helpers.proofs.Worlds.{judged}
+use Rattle.object_helpers.specs.Accepted.{IsAccepted}
+use Rattle.object_helpers.specs.Locals.{HasValue}
 use Rattle.file_declarations.specs.Declared.{FieldsAreKept}
 use Rattle.file_listings.proofs.ListedClasses.{file_is_listed}
 use Rattle.file_listings.specs.Listed.{AreBytes}
-use Rattle.object_folders.proofs.LinkedPiecesFields.{fields_apart}
-use Rattle.object_folders.specs.Used.{has_field_in, has_static_in}
+use Rattle.object_helpers.proofs.LinkedPiecesFields.{fields_apart}
+use Rattle.object_helpers.specs.Used.{has_field_in, has_static_in}
 use Rattle.listing_spelling.specs.Rules.{HasListing, IsListedField}
-use Rattle.object_folders.proofs.Fields.{field_keeps, has_value, field_found, static_found, one_field, key_of}
-use Rattle.object_folders.specs.Judged.{IsJudgedClass}
+use Rattle.object_helpers.proofs.Fields.{field_keeps, has_value, field_found, static_found, one_field, key_of}
+use Rattle.object_helpers.specs.Judged.{IsJudgedClass}
 use Rattle.sj_names.proofs.Same.{impossible}
 use Rattle.sj_names.specs.Grammar.{is_class_name, is_plain_name}
 use Rattle.sj_names.specs.declared.entry_points.EntryPoint.{EntryPoint}
 use Rattle.sj_names.specs.declared.folders.SourceFile.{SourceFile}
-use Rattle.object_folders.specs.Settings.{IsField, IsStaticField}
+use Rattle.file_declarations.specs.Settings.{IsField, IsStaticField}
 use Rattle.sj_trees.specs.declared.classes.ClassDef.{ClassDef}
 use Rattle.sj_trees.specs.declared.classes.FieldDef.{FieldDef}
 use Rattle.sj_trees.specs.declared.types.IrType.{IrType}

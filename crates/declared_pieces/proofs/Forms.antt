@@ -4,12 +4,12 @@ use Rattle.std.specs.Prelude.{is_none}
 use Rattle.std.proofs.lemmas.List.Elements.{Contains-append_left, Contains-append_cases}
 use Rattle.std.specs.List.{flat_map, list_any}
 use Rattle.std.proofs.lemmas.List.Folds.{Any-from_list_any}
-use Rattle.object_folders.proofs.EachTyped.{in_all}
-use Rattle.object_folders.proofs.Members.{defined}
-use Rattle.object_folders.specs.Bodies.{AreBodies}
-use Rattle.object_folders.specs.Classes.{HasForm}
-use Rattle.object_folders.specs.Emitted.{EmittedMethod}
-use Rattle.object_folders.specs.Used.{is_test_for, is_cast_to, is_tested, is_cast}
+use Rattle.object_helpers.proofs.EachTyped.{in_all}
+use Rattle.object_helpers.proofs.Members.{defined}
+use Rattle.object_helpers.specs.Bodies.{AreBodies}
+use Rattle.file_declarations.specs.Classes.{HasForm}
+use Rattle.object_helpers.specs.Emitted.{EmittedMethod}
+use Rattle.object_helpers.specs.Used.{is_test_for, is_cast_to, is_tested, is_cast}
 use Rattle.sj_infos.specs.Forms.{form_of, of_base, of_call, of_test, of_cast, forms_in, forms_by_body}
 use Rattle.sj_infos.specs.Infos.{asks, asked_by_body, of_type, is_any, class_cast}
 use Rattle.sj_infos.specs.Sure.{sure_among}

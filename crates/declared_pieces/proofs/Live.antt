@@ -1,14 +1,14 @@
 -- Classes of an accepted folder that are live: they are there, aren't hijacked, and what they extend is live.
 use Rattle.std.proofs.Common.{◌≡◌, false, List, Option, Some, ap, ◌∙◌}
 use Rattle.std.specs.List.{Contains}
-use Rattle.object_folders.proofs.Objects as objects
-use Rattle.object_folders.specs.Accepted.{IsAccepted}
-use Rattle.object_folders.proofs.Chains.{stands_itself}
-use Rattle.object_folders.specs.Worlds.{AreClassesKept}
-use Rattle.object_folders.specs.Entries.{IsLive}
+use Rattle.object_helpers.proofs.Objects as objects
+use Rattle.object_helpers.specs.Accepted.{IsAccepted}
+use Rattle.object_helpers.proofs.Chains.{stands_itself}
+use Rattle.object_helpers.specs.Worlds.{AreClassesKept}
+use Rattle.object_helpers.specs.Entries.{IsLive}
 use Rattle.file_listings.specs.Listed.{AreBytes}
-use Rattle.object_folders.proofs.Made as made
-use Rattle.object_folders.specs.Reachable.{Reachable}
+use Rattle.object_helpers.proofs.Made as made
+use Rattle.object_helpers.specs.Reachable.{Reachable}
 use Rattle.sj_names.specs.declared.entry_points.EntryPoint.{EntryPoint}
 use Rattle.sj_names.specs.declared.folders.SourceFile.{SourceFile}
 use Rattle.sj_trees.specs.declared.classes.ClassDef.{ClassDef}

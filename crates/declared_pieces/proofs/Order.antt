@@ -3,8 +3,8 @@ use Rattle.std.proofs.Common.{◌≡◌, ◌⊎◌, ◌++◌, ◌||◌, Bool, tr
 use Rattle.std.specs.List.{Contains, filter, flat_map}
 use Rattle.std.proofs.lemmas.Bool.{and_from, or_left, or_right}
 use Rattle.std.proofs.lemmas.List.Elements.{Contains-append_left, Contains-append_right, Contains-append_cases}
-use Rattle.object_folders.specs.Accepted.{IsAccepted}
-use Rattle.object_folders.proofs.Plain.{class_found, plain_world}
+use Rattle.object_helpers.specs.Accepted.{IsAccepted}
+use Rattle.object_helpers.proofs.Plain.{class_found, plain_world}
 use Rattle.declared_pieces.proofs.Blocks.{in_block, in_classes, parts_of}
 use Rattle.declared_pieces.proofs.Covered.{constants_declare, zero_literal, helper_declares}
 use Rattle.declared_pieces.proofs.Live.{next_is, live_next, classes_kept, live_free, live_there}
@@ -13,7 +13,7 @@ use Rattle.declared_pieces.specs.Closed.{IsClosed, items_of}
 use Rattle.declared_pieces.specs.Laws.{PiecesAreDeclarations}
 use Rattle.file_declarations.specs.Declarations.{with_class, declares, declare}
 use Rattle.file_declarations.specs.Declared.{is_covered}
-use Rattle.object_folders.specs.Entries.{IsLive}
+use Rattle.object_helpers.specs.Entries.{IsLive}
 use Rattle.file_listings.specs.Listed.{AreBytes}
 use Rattle.helper_rules.specs.Helpers.{Above, helper_piece}
 use Rattle.helper_rules.specs.Words.{all_kinds, class_name, constants_name, bound}
@@ -21,17 +21,17 @@ use Rattle.helper_rules.specs.declared.kinds.Helper.{Helper}
 use Rattle.js_mean.specs.Proper.{is_among}
 use Rattle.js_tree.specs.Names.{is_same_text}
 use Rattle.js_tree.specs.Terms.{Name, Member, Item, const_item, object_item, let_item, expression_item, function_item, class_item, subclass_item, Piece}
-use Rattle.object_folders.specs.Order.{AreInOrder, StandsBefore, by_ancestors, by_name}
-use Rattle.object_folders.specs.Pieces.{piece_of_member, Block, IsBlock, AreBlocks, pieces_of_block, with_helpers}
-use Rattle.object_folders.specs.Classes.{AreClassPieces, AreParts, absent, present}
-use Rattle.object_folders.specs.PieceRulesPieces.{Parts, pieces, when, constants_piece, members, class_item_of, class_piece, variable_piece, setter_piece, cell_piece, load_piece, store_piece, cell_pieces, all_statics, test_piece, kind_of_class, cast_piece, constants_of, class_of, module_of, tests_of}
-use Rattle.proper_pieces.specs.Modules.{item_of, is_owned}
-use Rattle.object_folders.specs.Reachable.{Reachable}
+use Rattle.object_helpers.specs.Order.{AreInOrder, StandsBefore, by_ancestors, by_name}
+use Rattle.object_helpers.specs.Pieces.{piece_of_member, Block, IsBlock, AreBlocks, pieces_of_block, with_helpers}
+use Rattle.file_declarations.specs.Classes.{AreClassPieces, AreParts, absent, present}
+use Rattle.file_declarations.specs.Pieces.{Parts, pieces, when, constants_piece, members, class_item_of, class_piece, variable_piece, setter_piece, cell_piece, load_piece, store_piece, cell_pieces, all_statics, test_piece, kind_of_class, cast_piece, constants_of, class_of, module_of, tests_of}
+use Rattle.object_helpers.specs.Modules.{item_of, is_owned}
+use Rattle.object_helpers.specs.Reachable.{Reachable}
 use Rattle.sj_names.proofs.Same.{impossible, text-refl}
 use Rattle.sj_names.specs.WellKnown.{is_object}
 use Rattle.sj_names.specs.declared.entry_points.EntryPoint.{EntryPoint}
 use Rattle.sj_names.specs.declared.folders.SourceFile.{SourceFile}
-use Rattle.object_folders.specs.Emitted.{EmittedMethod}
+use Rattle.object_helpers.specs.Emitted.{EmittedMethod}
 use Rattle.sj_split.proofs.Members.{at_first, further, cons_cases, from_map}
 use Rattle.sj_trees.specs.declared.classes.FieldDef.{FieldDef}
 use Rattle.sj_world.proofs.Grows.{ancestors_grow}

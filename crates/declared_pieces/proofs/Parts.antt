@@ -2,14 +2,14 @@
 use Rattle.std.proofs.Common.{◌≡◌, ◌++◌, ◌||◌, ◌⊎◌, Bool, true, List, [], ◌∷◌, Option, Some, inl, inr, sym, subst}
 use Rattle.std.specs.List.{Contains}
 use Rattle.std.proofs.lemmas.List.Elements.{Contains-append_left, Contains-append_right, Contains-append_cases}
-use Rattle.body_uses.proofs.Given.{IsKept, kept}
+use Rattle.object_helpers.proofs.Given.{IsKept, kept}
 use Rattle.helper_rules.specs.Words.{class_name, bound, all_kinds}
 use Rattle.js_tree.specs.Terms.{Name, Piece}
 use Rattle.js_tree.specs.declared.items.Binding.{Binding}
-use Rattle.object_folders.specs.PieceRulesPieces.{Parts, pieces, when, constants_piece, class_piece, own_constants, uses_of_entries, parent_uses, class_uses, constants_of, class_of, all_statics, variable_piece, setter_piece, module_of, test_piece, kind_of_class, cast_piece, tests_of}
+use Rattle.file_declarations.specs.Pieces.{Parts, pieces, when, constants_piece, class_piece, own_constants, uses_of_entries, parent_uses, class_uses, constants_of, class_of, all_statics, variable_piece, setter_piece, module_of, test_piece, kind_of_class, cast_piece, tests_of}
 use Rattle.sj_emit_expr.specs.Uses.{once_each}
 use Rattle.sj_names.proofs.Same.{impossible}
-use Rattle.object_folders.specs.Classes.{AreReached, none_yet, reached, other}
+use Rattle.file_declarations.specs.Classes.{AreReached, none_yet, reached, other}
 use Rattle.sj_split.proofs.Members.{at_first, further, cons_cases}
 use Rattle.sj_trees.specs.declared.classes.FieldDef.{FieldDef}
 use Rattle.sj_world.specs.declared.facts.Fact.{Fact}

@@ -5,13 +5,13 @@ use Rattle.std.specs.List.{Contains, filter, list_any}
 use Rattle.std.proofs.lemmas.Bool.{and_parts, and_from, or_cases, or_left, or_right}
 use Rattle.std.proofs.lemmas.List.Folds.{Any-from_list_any, list_any_at}
 use Rattle.std.proofs.lemmas.List.Sorted.{Contains-permutation, IsPermutation-sym}
-use Rattle.object_folders.proofs.Members.{same-class, defined}
-use Rattle.object_folders.specs.Accepted.{IsAccepted}
-use Rattle.object_folders.specs.Bodies.{AreBodies}
-use Rattle.object_folders.proofs.Plain.{class_found}
-use Rattle.object_folders.specs.Standing.{call_type}
-use Rattle.object_folders.proofs.Chains.{byte_not}
-use Rattle.object_folders.specs.Built.{Usable, has_static, is_static, has_kind, has_no_value}
+use Rattle.object_helpers.proofs.Members.{same-class, defined}
+use Rattle.object_helpers.specs.Accepted.{IsAccepted}
+use Rattle.object_helpers.specs.Bodies.{AreBodies}
+use Rattle.object_helpers.proofs.Plain.{class_found}
+use Rattle.object_helpers.specs.Standing.{call_type}
+use Rattle.object_helpers.proofs.Chains.{byte_not}
+use Rattle.object_helpers.specs.Built.{Usable, has_static, is_static, has_kind, has_no_value}
 use Rattle.file_declarations.proofs.Markers.{marked}
 use Rattle.declared_pieces.proofs.Blocks.{OwnPieces, own_pieces, method_there, helper_there}
 use Rattle.declared_pieces.proofs.Chains.{Stands, whole_chain}
@@ -23,25 +23,25 @@ use Rattle.declared_pieces.proofs.Forms.{body_tells, test_form, cast_form}
 use Rattle.declared_pieces.specs.Closed.{IsClosed}
 use Rattle.declared_pieces.specs.Laws.{TestThere, CastThere, WhatIsUsedHasPieces}
 use Rattle.file_declarations.specs.Declared.{alone, on_receiver, running}
-use Rattle.object_folders.specs.Entries.{IsLive}
+use Rattle.object_helpers.specs.Entries.{IsLive}
 use Rattle.file_listings.specs.Listed.{AreBytes}
 use Rattle.helper_rules.specs.Helpers.{helper_name, helper_item, helper_piece}
 use Rattle.helper_rules.specs.Words.{class_name, bound, all_kinds, helper}
 use Rattle.helper_rules.specs.declared.kinds.Helper.{Helper}
 use Rattle.helper_rules.specs.declared.kinds.Helper.TheVariants.{TestOf}
 use Rattle.js_tree.specs.Terms.{Item, Piece}
-use Rattle.object_folders.specs.Pieces.{piece_of_member, by_piece, AreLinkedPieces}
-use Rattle.object_folders.proofs.Statics.{static_is}
-use Rattle.object_folders.specs.Used.{used_of, is_among, is_received, is_constructor, is_constructor_without_value, has_static_in, needs_static, is_tested, is_cast}
-use Rattle.object_folders.specs.Settings.{IsStaticField}
-use Rattle.object_folders.proofs.Made as made
-use Rattle.object_folders.proofs.Methods.{right_method}
-use Rattle.object_folders.specs.Running.{CanRun}
-use Rattle.object_folders.specs.Classes.{AreSorted, is_own, HasForm}
-use Rattle.object_folders.specs.PieceRulesPieces.{Parts, constants_piece, class_piece, all_statics, variable_piece, setter_piece, test_piece, test_uses, kind_of_class, cast_piece}
-use Rattle.object_folders.proofs.Derivations.{closed}
-use Rattle.object_folders.specs.Rules.{Reads, the_object, class_named as class_named_by}
-use Rattle.object_folders.specs.Reachable.{Reachable}
+use Rattle.object_helpers.specs.Pieces.{piece_of_member, by_piece, AreLinkedPieces}
+use Rattle.object_helpers.proofs.Statics.{static_is}
+use Rattle.object_helpers.specs.Used.{used_of, is_among, is_received, is_constructor, is_constructor_without_value, has_static_in, needs_static, is_tested, is_cast}
+use Rattle.file_declarations.specs.Settings.{IsStaticField}
+use Rattle.object_helpers.proofs.Made as made
+use Rattle.object_helpers.proofs.ObjectFoldersMethods.{right_method}
+use Rattle.object_helpers.specs.Running.{CanRun}
+use Rattle.file_declarations.specs.Classes.{AreSorted, is_own, HasForm}
+use Rattle.file_declarations.specs.Pieces.{Parts, constants_piece, class_piece, all_statics, variable_piece, setter_piece, test_piece, test_uses, kind_of_class, cast_piece}
+use Rattle.object_helpers.proofs.Derivations.{closed}
+use Rattle.object_helpers.specs.Rules.{Reads, the_object, class_named as class_named_by}
+use Rattle.object_helpers.specs.Reachable.{Reachable}
 use Rattle.sj_names.proofs.Same.{impossible, text-same, text-refl}
 use Rattle.sj_names.specs.Grammar.{is_class_name}
 use Rattle.sj_names.specs.Same.{is_same_text}
@@ -53,9 +53,9 @@ use Rattle.sj_names.specs.declared.method_names.Namespace.{Namespace}
 use Rattle.sj_names.specs.declared.method_names.Namespace.TheVariants.{Public, PublicStatic, Private, PrivateStatic, Constructor}
 use Rattle.sj_names.specs.declared.references.TypeRef.{TypeRef}
 use Rattle.sj_names.specs.declared.references.TypeRef.TheVariants as References
-use Rattle.object_folders.specs.Emitted.{EmittedMethod}
-use Rattle.object_folders.proofs.Same.{has_function-is}
-use Rattle.object_folders.specs.Linked.{has_function}
+use Rattle.object_helpers.specs.Emitted.{EmittedMethod}
+use Rattle.object_helpers.proofs.Same.{has_function-is}
+use Rattle.object_helpers.specs.Linked.{has_function}
 use Rattle.sj_emit_expr.specs.Tests.{test_name}
 use Rattle.sj_split.proofs.Members.{into_filter, from_filter}
 use Rattle.sj_trees.specs.declared.classes.FieldDef.{FieldDef}

@@ -3,7 +3,7 @@ use Rattle.std.specs.Prelude.{List, map}
 use Rattle.std.specs.List.{Contains, filter}
 use Rattle.js_tree.specs.Terms.{Name, Item, Piece}
 use Rattle.js_tree.specs.declared.items.Binding.{Binding}
-use Rattle.proper_pieces.specs.Modules.{item_of, is_owned}
+use Rattle.object_helpers.specs.Modules.{item_of, is_owned}
 
 -- what a piece uses that one of these classes owns is owned by one of them
 abbrev pub IsClosed : List Piece → List Name → Type 0

@@ -11,19 +11,19 @@ use Rattle.helper_rules.specs.declared.kinds.Helper.{Helper}
 use Rattle.helper_rules.specs.declared.kinds.Helper.TheVariants.{TestOf}
 use Rattle.helper_rules.specs.declared.kinds.Kind.{Kind}
 use Rattle.js_tree.specs.Terms.{Piece}
-use Rattle.object_folders.specs.Accepted.{IsAccepted}
-use Rattle.object_folders.specs.Bodies.{AreBodies}
-use Rattle.object_folders.specs.Built.{has_static}
-use Rattle.object_folders.specs.Classes.{AreParts}
-use Rattle.object_folders.specs.Emitted.{EmittedMethod}
-use Rattle.object_folders.specs.Entries.{IsLive}
-use Rattle.object_folders.specs.Linked.{has_function}
-use Rattle.object_folders.specs.PieceRulesPieces.{Parts, constants_piece, class_piece, variable_piece, setter_piece, test_piece, test_uses, kind_of_class, cast_piece}
-use Rattle.object_folders.specs.Pieces.{piece_of_member, AreLinkedPieces}
-use Rattle.object_folders.specs.Reachable.{Reachable}
-use Rattle.object_folders.specs.Running.{CanRun}
-use Rattle.object_folders.specs.Settings.{IsStaticField}
-use Rattle.object_folders.specs.Used.{used_of, is_among}
+use Rattle.object_helpers.specs.Accepted.{IsAccepted}
+use Rattle.object_helpers.specs.Bodies.{AreBodies}
+use Rattle.object_helpers.specs.Built.{has_static}
+use Rattle.file_declarations.specs.Classes.{AreParts}
+use Rattle.object_helpers.specs.Emitted.{EmittedMethod}
+use Rattle.object_helpers.specs.Entries.{IsLive}
+use Rattle.object_helpers.specs.Linked.{has_function}
+use Rattle.file_declarations.specs.Pieces.{Parts, constants_piece, class_piece, variable_piece, setter_piece, test_piece, test_uses, kind_of_class, cast_piece}
+use Rattle.object_helpers.specs.Pieces.{piece_of_member, AreLinkedPieces}
+use Rattle.object_helpers.specs.Reachable.{Reachable}
+use Rattle.object_helpers.specs.Running.{CanRun}
+use Rattle.file_declarations.specs.Settings.{IsStaticField}
+use Rattle.object_helpers.specs.Used.{used_of, is_among}
 use Rattle.sj_names.specs.declared.entry_points.EntryPoint.{EntryPoint}
 use Rattle.sj_names.specs.declared.folders.SourceFile.{SourceFile}
 use Rattle.sj_names.specs.declared.method_names.Member.{Member}

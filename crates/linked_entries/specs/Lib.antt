@@ -1,1 +1,36 @@
 pub mod Laws
+pub use Rattle.accepted_folders.specs.Accepted
+pub use Rattle.accepted_folders.specs.Bodies
+pub use Rattle.accepted_folders.specs.BodySoundnessLaws
+pub use Rattle.accepted_folders.specs.BodySoundnessRules as Rules
+pub use Rattle.accepted_folders.specs.Built
+pub use Rattle.linked_pieces.specs.Classes
+pub use Rattle.linked_pieces.specs.Emitted
+pub use Rattle.accepted_folders.specs.Entries
+pub use Rattle.linked_pieces.specs.Files
+pub use Rattle.accepted_folders.specs.Judged
+pub use Rattle.accepted_folders.specs.Linked
+pub use Rattle.accepted_folders.specs.Locals
+pub use Rattle.accepted_folders.specs.Methods
+pub use Rattle.linked_pieces.specs.Once
+pub use Rattle.linked_pieces.specs.PieceRulesPieces as Pieces
+pub use Rattle.accepted_folders.specs.Reachable
+pub use Rattle.accepted_folders.specs.Refusals
+pub use Rattle.accepted_folders.specs.Rules as ReachRulesRules
+pub use Rattle.accepted_folders.specs.Settings
+pub use Rattle.accepted_folders.specs.Stages
+pub use Rattle.accepted_folders.specs.Standing
+pub use Rattle.accepted_folders.specs.Typed
+pub use Rattle.accepted_folders.specs.Typing
+pub use Rattle.accepted_folders.specs.TypingRulesRules
+pub use Rattle.accepted_folders.specs.Verdicts
+pub use Rattle.accepted_folders.specs.Worlds
+pub use Rattle.linked_pieces.specs.Laws as LinkedPiecesLaws
+pub use Rattle.linked_pieces.specs.Order
+pub use Rattle.linked_pieces.specs.Pieces as LinkedPiecesPieces
+pub use Rattle.linked_pieces.specs.Used
+pub use Rattle.accepted_folders.specs.Boxes
+pub use Rattle.accepted_folders.specs.Kept
+pub use Rattle.accepted_folders.specs.Label
+pub use Rattle.accepted_folders.specs.Nodes
+pub use Rattle.linked_pieces.specs.Targets

@@ -16,10 +16,10 @@ pub use Rattle.declared_pieces.proofs.Written
 pub use Rattle.declared_pieces.proofs.ObjectFoldersFields as Fields
 pub use Rattle.declared_pieces.proofs.Defined
 pub use Rattle.declared_pieces.proofs.Firsts
-pub use Rattle.object_helpers.proofs.Bodies
-pub use Rattle.object_helpers.proofs.Brought
-pub use Rattle.object_helpers.proofs.WrittenTrees
-pub use Rattle.object_helpers.proofs.Pieces
+pub use Rattle.declared_pieces.proofs.Bodies
+pub use Rattle.declared_pieces.proofs.Brought
+pub use Rattle.declared_pieces.proofs.WrittenTrees
+pub use Rattle.declared_pieces.proofs.Pieces
 pub use Rattle.declared_pieces.proofs.Derivations
 pub use Rattle.declared_pieces.proofs.Direct
 pub use Rattle.declared_pieces.proofs.EachTyped
@@ -32,3 +32,16 @@ pub use Rattle.declared_pieces.proofs.Made
 pub use Rattle.declared_pieces.proofs.Order
 pub use Rattle.declared_pieces.proofs.Parts
 pub use Rattle.declared_pieces.proofs.Plain
+pub use Rattle.declared_pieces.proofs.Resolves
+pub use Rattle.declared_pieces.proofs.Boxes
+pub use Rattle.declared_pieces.proofs.Markers
+pub use Rattle.declared_pieces.proofs.Assembled
+pub use Rattle.declared_pieces.proofs.BodySoundnessChains as Chains
+pub use Rattle.declared_pieces.proofs.BodyUsesTested as Tested
+pub use Rattle.declared_pieces.proofs.Chains as DeclaredPiecesChains
+pub use Rattle.declared_pieces.proofs.Judged
+pub use Rattle.declared_pieces.proofs.ObjectFoldersMethods as Methods
+pub use Rattle.declared_pieces.proofs.ObjectFoldersWorlds
+pub use Rattle.declared_pieces.proofs.Throwing
+pub use Rattle.declared_pieces.proofs.Verdict
+pub use Rattle.declared_pieces.proofs.Whole

@@ -33,8 +33,8 @@ use Rattle.declared_pieces.specs.Pieces.{piece_of_member, Block, AreBlocks, piec
 use Rattle.declared_pieces.specs.Used.{used_of, is_among, is_cast}
 use Rattle.declared_pieces.proofs.Made as made
 use Rattle.declared_pieces.specs.Running.{CanBeThrown, CanRun}
-use Rattle.object_helpers.proofs.Pieces.{of_objects, reached}
-use Rattle.object_helpers.specs.Helpers.{is_object_helper}
+use Rattle.declared_pieces.proofs.Pieces.{of_objects, reached}
+use Rattle.declared_pieces.specs.Helpers.{is_object_helper}
 use Rattle.declared_pieces.specs.ProperPiecesLaws.{AreNamed}
 use Rattle.declared_pieces.proofs.Derivations.{closed}
 use Rattle.declared_pieces.specs.Reachable.{Reachable}

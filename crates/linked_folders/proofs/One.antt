@@ -9,7 +9,7 @@ use Rattle.js_tree.proofs.Kept.{module_kept}
 use Rattle.js_tree.proofs.TextLaws.{module_spelled}
 use Rattle.declared_pieces.proofs.One.{are_one as pieces_are_one}
 use Rattle.declared_pieces.specs.LinkedPiecesLaws.{AreAlike}
-use Rattle.linked_entries.proofs.One.{entries_one}
+use Rattle.declared_pieces.proofs.LinkedEntriesOne.{entries_one}
 use Rattle.declared_pieces.specs.Emitted.{EmittedMethod, call_item_of}
 use Rattle.declared_pieces.specs.Files.{HasFunction}
 use Rattle.sj_graph.specs.declared.graphs.Reference.{Reference}

@@ -15,9 +15,14 @@ pub use Rattle.declared_pieces.specs.Typed
 pub use Rattle.declared_pieces.specs.Files
 pub use Rattle.declared_pieces.specs.Reachable
 pub use Rattle.declared_pieces.specs.Verdicts
-pub use Rattle.object_helpers.specs.Helpers
+pub use Rattle.declared_pieces.specs.Helpers
 pub use Rattle.declared_pieces.specs.Built
 pub use Rattle.declared_pieces.specs.Classes
 pub use Rattle.declared_pieces.specs.Closed
 pub use Rattle.declared_pieces.specs.PieceRulesPieces
 pub use Rattle.declared_pieces.specs.Rules as ReachRulesRules
+pub use Rattle.declared_pieces.specs.Given
+pub use Rattle.declared_pieces.specs.BodyUsesLaws
+pub use Rattle.declared_pieces.specs.Laws as DeclaredPiecesLaws
+pub use Rattle.declared_pieces.specs.Linked
+pub use Rattle.declared_pieces.specs.Running

@@ -3,8 +3,8 @@ use Rattle.std.proofs.Common.{◌≡◌, ◌∙◌, ℕ, Bool, true, false, List
 use Rattle.declared_modules.specs.Bodies.{AreBodies}
 use Rattle.declared_modules.specs.Verdicts.{Verdict, refused}
 use Rattle.declared_modules.proofs.Verdict.{one_verdict}
-use Rattle.running_modules.proofs.Edits.{same_world, not_accepted, accepted_by, as_many}
-use Rattle.running_modules.specs.Edits.{AreBuilt}
+use Rattle.declared_modules.proofs.Edits.{same_world, not_accepted, accepted_by, as_many}
+use Rattle.declared_modules.specs.Edits.{AreBuilt}
 use Rattle.sj_names.specs.declared.entry_points.EntryPoint.{EntryPoint}
 use Rattle.sj_names.specs.declared.folders.SourceFile.{SourceFile}
 use Rattle.sj_world.proofs.Orders.{same_name, differs_after}

@@ -3,7 +3,7 @@ use Rattle.std.proofs.Common.{◌≡◌, ◌++◌, ◌∙◌, List, [], ◌∷�
 use Rattle.std.specs.List.{list_any}
 use Rattle.std.specs.List.Sorted.{IsPermutation}
 use Rattle.js_tree.specs.Terms.{Piece}
-use Rattle.running_modules.proofs.One.{same_walk, same_test}
+use Rattle.declared_modules.proofs.One.{same_walk, same_test}
 use Rattle.declared_modules.proofs.Found.{among_is, is_in}
 use Rattle.module_names.specs.Names.{Key, Digest, names_of}
 use Rattle.sj_graph.specs.References.{IsGraph}

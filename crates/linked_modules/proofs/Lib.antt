@@ -6,11 +6,11 @@ pub mod One
 pub mod Edits
 pub use Rattle.declared_modules.proofs.Blocks
 pub use Rattle.declared_modules.proofs.Calls
-pub use Rattle.running_modules.proofs.Edits as LinkedFoldersEdits
+pub use Rattle.declared_modules.proofs.Edits as LinkedFoldersEdits
 pub use Rattle.declared_modules.proofs.Fields
 pub use Rattle.declared_modules.proofs.Given
 pub use Rattle.declared_modules.proofs.Members
-pub use Rattle.running_modules.proofs.Names
+pub use Rattle.declared_modules.proofs.Names
 pub use Rattle.declared_modules.proofs.Objects
 pub use Rattle.declared_modules.proofs.Standing
 pub use Rattle.declared_modules.proofs.Uses

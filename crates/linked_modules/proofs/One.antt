@@ -2,7 +2,7 @@
 use Rattle.std.proofs.Common.{◌≡◌, ◌∙◌, List, [], ◌∷◌, refl, sym, subst}
 use Rattle.js_mean.specs.Shows.{File}
 use Rattle.js_tree.specs.Terms.{Piece}
-use Rattle.running_modules.proofs.One.{one_pieces, spelled_once}
+use Rattle.declared_modules.proofs.One.{one_pieces, spelled_once}
 use Rattle.declared_modules.specs.Files.{IsFileOf, AreFilesOf}
 use Rattle.module_names.specs.Names.{sha1_digest}
 use Rattle.module_rules.specs.Modules.{module_of}

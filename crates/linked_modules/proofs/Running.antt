@@ -4,8 +4,8 @@ use Rattle.std.specs.Prelude.{◌↔◌, filter}
 use Rattle.std.specs.List.{flat_map}
 use Rattle.std.proofs.lemmas.List.Elements.{Contains-append_left, Contains-append_right}
 use Rattle.std.proofs.lemmas.Slice.Eq.{bytes_eq-Decides}
-use Rattle.running_modules.proofs.Forms.{in_one}
-use Rattle.running_modules.specs.Placed.{Placed, placed, items_until}
+use Rattle.declared_modules.proofs.Forms.{in_one}
+use Rattle.declared_modules.specs.Placed.{Placed, placed, items_until}
 use Rattle.declared_modules.proofs.EachTyped.{in_all}
 use Rattle.declared_modules.specs.Closed.{IsClosed}
 use Rattle.js_mean.specs.Files.{module_among, items_in}

@@ -3,12 +3,12 @@ use Rattle.std.proofs.Common.{◌≡◌, ◌↔◌, ◌++◌, ◌⊎◌, true, L
 use Rattle.std.specs.Prelude.{filter}
 use Rattle.std.proofs.lemmas.Bool.{and_from}
 use Rattle.std.proofs.lemmas.List.Elements.{Contains-push, Contains-push_cases}
-use Rattle.running_modules.proofs.Declared.{declares}
-use Rattle.running_modules.proofs.Uses.{uses_are_declared}
-use Rattle.running_modules.proofs.Once.{files_run_last}
-use Rattle.running_modules.proofs.Whole.{files_agree}
-use Rattle.running_modules.specs.Declared.{Spread, all_items, Declared, IsPublic, IsLawful}
-use Rattle.running_modules.specs.Placed.{RunsLast, placed}
+use Rattle.declared_modules.proofs.Declared.{declares}
+use Rattle.declared_modules.proofs.ClosedPiecesUses.{uses_are_declared}
+use Rattle.declared_modules.proofs.Once.{files_run_last}
+use Rattle.declared_modules.proofs.DeclaredFilesWhole.{files_agree}
+use Rattle.declared_modules.specs.Declared.{Spread, all_items, Declared, IsPublic, IsLawful}
+use Rattle.declared_modules.specs.Placed.{RunsLast, placed}
 use Rattle.declared_modules.proofs.Whole.{modules_declare}
 use Rattle.declared_modules.specs.Spread.{spread_of, AllStand, DeclaresConstants}
 use Rattle.declared_modules.proofs.Assembled.{laws_of}
@@ -20,9 +20,9 @@ use Rattle.declared_modules.proofs.Worlds.{carry, link_right}
 use Rattle.declared_modules.proofs.AcceptedFoldersWorlds.{judged}
 use Rattle.declared_modules.specs.Accepted.{IsAccepted}
 use Rattle.declared_modules.specs.Bodies.{AreBodies}
-use Rattle.running_modules.specs.Built.{Usable, is_object_body}
+use Rattle.declared_modules.specs.Built.{Usable, is_object_body}
 use Rattle.declared_modules.specs.Closed.{IsClosed}
-use Rattle.running_modules.specs.Emitted.{EmittedMethod, initializer_member}
+use Rattle.declared_modules.specs.Emitted.{EmittedMethod, initializer_member}
 use Rattle.declared_modules.specs.Pieces.{AreLinkedPieces}
 use Rattle.declared_modules.specs.Reachable.{Reachable}
 use Rattle.declared_modules.specs.Rules.{entry_member, of_entry, asked_body}
@@ -34,9 +34,9 @@ use Rattle.js_mean.specs.Shows.{File}
 use Rattle.js_mean.specs.States.{Program}
 use Rattle.js_tree.specs.Terms.{Name, Item, Piece}
 use Rattle.js_tree.specs.declared.items.Binding.{Binding}
-use Rattle.running_modules.proofs.Links as links
-use Rattle.running_modules.specs.Edits.{AreBuilt}
-use Rattle.running_modules.specs.Link.{ArePieces}
+use Rattle.declared_modules.proofs.Links as links
+use Rattle.declared_modules.specs.Edits.{AreBuilt}
+use Rattle.declared_modules.specs.Link.{ArePieces}
 use Rattle.declared_modules.proofs.FromLinked.{linked_pieces_are_proper}
 use Rattle.declared_modules.proofs.Reached.{reached_files_are_good}
 use Rattle.declared_modules.proofs.Read.{files_are_read}
@@ -55,10 +55,10 @@ use Rattle.declared_modules.specs.Used.{uses_in}
 use Rattle.plan_laws.proofs.Digests.{digests_have_one_length}
 use Rattle.plan_laws.proofs.Names.{ids_are_not_internal}
 use Rattle.plan_laws.specs.Laws.{AreCountable, KeepsNamesApart}
-use Rattle.running_modules.proofs.Declares.{modules_declare_in_order, modules_declare_constants, item_at}
-use Rattle.running_modules.proofs.Items.{modules_have_their_items}
-use Rattle.running_modules.proofs.There.{public_modules_are_there}
-use Rattle.running_modules.specs.Laws.{IsThere}
+use Rattle.declared_modules.proofs.Declares.{modules_declare_in_order, modules_declare_constants, item_at}
+use Rattle.declared_modules.proofs.Items.{modules_have_their_items}
+use Rattle.declared_modules.proofs.There.{public_modules_are_there}
+use Rattle.declared_modules.specs.RunningModulesLaws.{IsThere}
 use Rattle.sj_agree.specs.Agrees.{Agrees}
 use Rattle.sj_graph.specs.References.{IsGraph}
 use Rattle.sj_graph.specs.declared.graphs.Graph.{Graph}

@@ -2,13 +2,13 @@
 use Rattle.std.specs.Prelude.{◌≡◌, ℕ, true, false, List, length}
 use Rattle.declared_modules.specs.Accepted.{IsAccepted}
 use Rattle.declared_modules.specs.Bodies.{AreBodies}
-use Rattle.running_modules.specs.Built.{not_built}
-use Rattle.running_modules.specs.Emitted.{EmittedMethod}
+use Rattle.declared_modules.specs.Built.{not_built}
+use Rattle.declared_modules.specs.Emitted.{EmittedMethod}
 use Rattle.declared_modules.specs.Reachable.{Reachable}
 use Rattle.declared_modules.specs.Refusals.{spelled_member}
 use Rattle.declared_modules.specs.Verdicts.{Verdict, accepted, refused, IsVerdict}
 use Rattle.js_mean.specs.Shows.{File}
-use Rattle.running_modules.specs.Edits.{AreBuilt}
+use Rattle.declared_modules.specs.Edits.{AreBuilt}
 use Rattle.plan_laws.specs.Laws.{AreCountable}
 use Rattle.sj_names.specs.declared.counters.Meter.{Meter}
 use Rattle.sj_names.specs.declared.entry_points.EntryPoint.{EntryPoint}

@@ -5,7 +5,7 @@ use Rattle.declared_modules.specs.Accepted.{IsAccepted}
 use Rattle.declared_modules.specs.Verdicts.{Verdict}
 use Rattle.file_listings.specs.Listed.{AreBytes}
 use Rattle.js_mean.specs.Shows.{File}
-use Rattle.running_modules.specs.Edits.{AreBuilt}
+use Rattle.declared_modules.specs.Edits.{AreBuilt}
 use Rattle.plan_laws.specs.Laws.{AreCountable}
 use Rattle.sj_agree.specs.Agrees.{Agrees}
 use Rattle.sj_names.specs.EntryPoints.{AreEntries}

@@ -2,7 +2,7 @@
 use Rattle.std.specs.Prelude.{List}
 use Rattle.js_mean.specs.Shows.{File}
 use Rattle.js_tree.specs.Terms.{Piece}
-use Rattle.running_modules.specs.Link.{ArePieces}
+use Rattle.declared_modules.specs.Link.{ArePieces}
 use Rattle.declared_modules.specs.Files.{AreFilesOf}
 use Rattle.module_names.specs.Names.{sha1_digest}
 use Rattle.sj_graph.specs.References.{IsGraph}

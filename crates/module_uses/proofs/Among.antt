@@ -2,11 +2,11 @@
 use Rattle.std.proofs.Common.{◌≡◌, true, refl}
 use Rattle.std.specs.List.{list_all}
 use Rattle.std.proofs.lemmas.Bool.{and_parts}
-use Rattle.body_uses.specs.Built.{Usable}
+use Rattle.running_modules.specs.Built.{Usable}
 use Rattle.helper_rules.specs.Helpers.{helper_name}
 use Rattle.js_tree.specs.declared.items.Binding.{Binding}
 use Rattle.sj_emit_expr.specs.Uses.{object_binding, function_binding, class_use, static_use, setter_use, test_uses, cast_uses}
-use Rattle.declared_files.specs.Settings.{Top, a_function, a_method, a_constructor, a_class, some_constants, a_static, a_setter, a_test, a_cast, a_helper, is_usable}
+use Rattle.running_modules.specs.Settings.{Top, a_function, a_method, a_constructor, a_class, some_constants, a_static, a_setter, a_test, a_cast, a_helper, is_usable}
 use Rattle.module_uses.specs.Laws.{RestrictedIsAmong}
 use Rattle.module_uses.specs.Used.{restricted}
 use Rattle.std.specs.Prelude.{Bool}

@@ -4,12 +4,12 @@ use Rattle.std.specs.Prelude.{◌||◌}
 use Rattle.std.proofs.lemmas.Bool.{and_parts, and_from}
 use Rattle.std.proofs.lemmas.List.Elements.{All-head, All-tail}
 use Rattle.std.specs.List.{All, list_all}
-use Rattle.body_uses.specs.Typing.{may_check, is_built_with}
-use Rattle.body_uses.proofs.Boxes.{box_used}
-use Rattle.body_uses.proofs.Given.{all_from, completed_uses, in_uses, may_make_those}
-use Rattle.body_uses.proofs.Uses.{Gives, GivesReceived, tree}
-use Rattle.body_uses.specs.Built.{Usable, can_box, may_make, is_built, body_boxes}
-use Rattle.body_uses.specs.Laws.{used_by}
+use Rattle.running_modules.specs.Typing.{may_check, is_built_with}
+use Rattle.running_modules.proofs.Boxes.{box_used}
+use Rattle.running_modules.proofs.Given.{all_from, completed_uses, in_uses, may_make_those}
+use Rattle.running_modules.proofs.BodyUsesUses.{Gives, GivesReceived, tree}
+use Rattle.running_modules.specs.Built.{Usable, can_box, may_make, is_built, body_boxes}
+use Rattle.running_modules.specs.BodyUsesLaws.{used_by}
 use Rattle.js_tree.specs.declared.items.Binding.{Binding}
 use Rattle.sj_desugar.specs.Desugar.{desugared_member, body_code, is_mutable_in, result_destination, member}
 use Rattle.sj_emit_expr.specs.Templates.{check_name}

@@ -2,7 +2,7 @@
 use Rattle.std.proofs.Common.{◌≡◌, true, List, Contains, sym, subst}
 use Rattle.std.proofs.lemmas.Bool.{and_from}
 use Rattle.std.proofs.lemmas.List.Folds.{Any-from_list_any, list_any_at}
-use Rattle.body_uses.proofs.Given.{same_binding}
+use Rattle.running_modules.proofs.Given.{same_binding}
 use Rattle.js_tree.specs.Terms.{Piece}
 use Rattle.js_tree.specs.declared.items.Binding.{Binding}
 use Rattle.module_rules.proofs.Chosen.{from_own, into_own}

@@ -1,4 +1,49 @@
 pub mod Bodies
 pub mod Among
 pub mod InFiles
-pub use Rattle.declared_files.proofs.KindHelpers
+pub use Rattle.running_modules.proofs.KindHelpers
+pub use Rattle.running_modules.proofs.Markers
+pub use Rattle.running_modules.proofs.Assembled
+pub use Rattle.running_modules.proofs.Blocks
+pub use Rattle.running_modules.proofs.Chains
+pub use Rattle.running_modules.proofs.Tested
+pub use Rattle.running_modules.proofs.Calls
+pub use Rattle.running_modules.proofs.DeclaredPiecesChains
+pub use Rattle.running_modules.proofs.Derivations
+pub use Rattle.running_modules.proofs.EachTyped
+pub use Rattle.running_modules.proofs.Fields
+pub use Rattle.running_modules.proofs.Given
+pub use Rattle.running_modules.proofs.Judged
+pub use Rattle.running_modules.proofs.Live
+pub use Rattle.running_modules.proofs.Members
+pub use Rattle.running_modules.proofs.ObjectFoldersFields
+pub use Rattle.running_modules.proofs.Methods
+pub use Rattle.running_modules.proofs.Worlds
+pub use Rattle.running_modules.proofs.Objects
+pub use Rattle.running_modules.proofs.Parts
+pub use Rattle.running_modules.proofs.Standing
+pub use Rattle.running_modules.proofs.Throwing
+pub use Rattle.running_modules.proofs.BodyUsesUses as Uses
+pub use Rattle.running_modules.proofs.Verdict
+pub use Rattle.running_modules.proofs.DeclaredPiecesWhole as Whole
+pub use Rattle.running_modules.proofs.AcceptedFoldersWorlds
+pub use Rattle.running_modules.proofs.Written
+pub use Rattle.running_modules.proofs.Entries
+pub use Rattle.running_modules.proofs.Found
+pub use Rattle.running_modules.proofs.FromLinked
+pub use Rattle.running_modules.proofs.Reached
+pub use Rattle.running_modules.proofs.Read
+pub use Rattle.running_modules.proofs.Running
+pub use Rattle.running_modules.proofs.ModuleFilesWhole
+pub use Rattle.running_modules.proofs.Declared
+pub use Rattle.running_modules.proofs.Declares
+pub use Rattle.running_modules.proofs.Edits
+pub use Rattle.running_modules.proofs.Forms
+pub use Rattle.running_modules.proofs.Items
+pub use Rattle.running_modules.proofs.Links
+pub use Rattle.running_modules.proofs.Names
+pub use Rattle.running_modules.proofs.Once
+pub use Rattle.running_modules.proofs.One
+pub use Rattle.running_modules.proofs.There
+pub use Rattle.running_modules.proofs.Uses as ClosedPiecesUses
+pub use Rattle.running_modules.proofs.Whole as DeclaredFilesWhole

@@ -1,10 +1,10 @@
 -- Laws of what the files of a plan use.
 use Rattle.std.specs.Prelude.{◌≡◌, ◌↔◌, Bool, true, List, Contains}
-use Rattle.body_uses.specs.Given.{FitsDivision}
-use Rattle.body_uses.specs.Laws.{used_by}
-use Rattle.body_uses.specs.Built.{Usable}
-use Rattle.declared_files.specs.Declared.{IsAmong}
-use Rattle.body_uses.specs.Typing.{is_built_with}
+use Rattle.running_modules.specs.Given.{FitsDivision}
+use Rattle.running_modules.specs.BodyUsesLaws.{used_by}
+use Rattle.running_modules.specs.Built.{Usable}
+use Rattle.running_modules.specs.Declared.{IsAmong}
+use Rattle.running_modules.specs.Typing.{is_built_with}
 use Rattle.js_tree.specs.Terms.{Piece}
 use Rattle.js_tree.specs.declared.items.Binding.{Binding}
 use Rattle.module_rules.specs.Laws.{Uses}

@@ -1,7 +1,7 @@
 -- What the code of one file of a plan can use: of what is there, what the pieces of the file use.
 use Rattle.std.specs.Prelude.{Bool, ◌&&◌, List, ◌++◌, filter}
 use Rattle.std.specs.List.{list_all, list_any, flat_map}
-use Rattle.body_uses.specs.Built.{Usable}
+use Rattle.running_modules.specs.Built.{Usable}
 use Rattle.js_tree.specs.Terms.{Piece}
 use Rattle.js_tree.specs.declared.items.Binding.{Binding}
 use Rattle.module_rules.specs.Modules.{file_with, is_owned_in, uses_of, called_in}

@@ -4,18 +4,18 @@ use Rattle.std.specs.Prelude.{option_map}
 use Rattle.std.specs.List.{list_any}
 use Rattle.std.proofs.lemmas.Bool.{and_parts, and_from}
 use Rattle.std.proofs.lemmas.List.Folds.{Any-from_list_any}
-use Rattle.accepted_folders.proofs.Members.{same-class}
-use Rattle.accepted_folders.proofs.Lists.{nothing_in, in_front_or_behind}
-use Rattle.accepted_folders.proofs.Plain.{class_found}
-use Rattle.accepted_folders.specs.Locals.{HasValue}
-use Rattle.accepted_folders.proofs.Chains.{has_fields}
-use Rattle.accepted_folders.specs.Worlds.{HasFields}
+use Rattle.linked_entries.proofs.Members.{same-class}
+use Rattle.linked_entries.proofs.Lists.{nothing_in, in_front_or_behind}
+use Rattle.linked_entries.proofs.Plain.{class_found}
+use Rattle.linked_entries.specs.Locals.{HasValue}
+use Rattle.linked_entries.proofs.Chains.{has_fields}
+use Rattle.linked_entries.specs.Worlds.{HasFields}
 use Rattle.ir_mean.specs.World.{instance_zero, zeros_in, static_zero, statics_in, zero_of}
 use Rattle.ir_mean.specs.World as ir
-use Rattle.linked_pieces.proofs.Fields.{Apart, is_same_field, from_key, fields_apart}
-use Rattle.linked_pieces.specs.Used.{is_its_field, has_field_in, is_its_static, has_static_in}
-use Rattle.accepted_folders.proofs.Classes.{none-each, none-passes, keeps-hijacked}
-use Rattle.accepted_folders.proofs.Types.{empty-is}
+use Rattle.linked_entries.proofs.Fields.{Apart, is_same_field, from_key, fields_apart}
+use Rattle.linked_entries.specs.Used.{is_its_field, has_field_in, is_its_static, has_static_in}
+use Rattle.linked_entries.proofs.Classes.{none-each, none-passes, keeps-hijacked}
+use Rattle.linked_entries.proofs.Types.{empty-is}
 use Rattle.sj_local.specs.Broken.{FirstBroken, Breaks, all_rules, at_member}
 use Rattle.sj_local.specs.Firsts.{first_where}
 use Rattle.sj_local.specs.MemberRules.{breaks_field, has_no_fields, field_key}

@@ -3,24 +3,32 @@ pub mod Made
 pub mod Methods
 pub mod Throwing
 pub mod Worlds
-pub use Rattle.accepted_folders.proofs.Members
-pub use Rattle.accepted_folders.proofs.Plain
-pub use Rattle.accepted_folders.proofs.Chains
-pub use Rattle.accepted_folders.proofs.Derivations
-pub use Rattle.accepted_folders.proofs.Same
-pub use Rattle.accepted_folders.proofs.EachTyped
-pub use Rattle.accepted_folders.proofs.Objects
-pub use Rattle.accepted_folders.proofs.Lengths
-pub use Rattle.accepted_folders.proofs.Worlds as AcceptedFoldersWorlds
-pub use Rattle.linked_pieces.proofs.Fields as LinkedPiecesFields
-pub use Rattle.accepted_folders.proofs.Found
-pub use Rattle.linked_pieces.proofs.One
-pub use Rattle.linked_pieces.proofs.Statics
-pub use Rattle.accepted_folders.proofs.Calls
-pub use Rattle.accepted_folders.proofs.Assembled
-pub use Rattle.accepted_folders.proofs.Judged
-pub use Rattle.accepted_folders.proofs.Classes
-pub use Rattle.accepted_folders.proofs.Methods as KeptMethods
-pub use Rattle.accepted_folders.proofs.Firsts
-pub use Rattle.accepted_folders.proofs.Verdict
-pub use Rattle.accepted_folders.proofs.Defined
+pub use Rattle.linked_entries.proofs.Members
+pub use Rattle.linked_entries.proofs.Plain
+pub use Rattle.linked_entries.proofs.Chains
+pub use Rattle.linked_entries.proofs.Derivations
+pub use Rattle.linked_entries.proofs.Same
+pub use Rattle.linked_entries.proofs.EachTyped
+pub use Rattle.linked_entries.proofs.Objects
+pub use Rattle.linked_entries.proofs.Lengths
+pub use Rattle.linked_entries.proofs.Worlds as AcceptedFoldersWorlds
+pub use Rattle.linked_entries.proofs.Fields as LinkedPiecesFields
+pub use Rattle.linked_entries.proofs.Found
+pub use Rattle.linked_entries.proofs.LinkedPiecesOne as One
+pub use Rattle.linked_entries.proofs.Statics
+pub use Rattle.linked_entries.proofs.Calls
+pub use Rattle.linked_entries.proofs.Assembled
+pub use Rattle.linked_entries.proofs.Judged
+pub use Rattle.linked_entries.proofs.Classes
+pub use Rattle.linked_entries.proofs.Methods as KeptMethods
+pub use Rattle.linked_entries.proofs.Firsts
+pub use Rattle.linked_entries.proofs.Verdict
+pub use Rattle.linked_entries.proofs.Defined
+pub use Rattle.linked_entries.proofs.Direct
+pub use Rattle.linked_entries.proofs.Distinct
+pub use Rattle.linked_entries.proofs.Equal
+pub use Rattle.linked_entries.proofs.Kept
+pub use Rattle.linked_entries.proofs.RulesGive
+pub use Rattle.linked_entries.proofs.BuiltFormsTargets as Targets
+pub use Rattle.linked_entries.proofs.Undenied
+pub use Rattle.linked_entries.proofs.One as LinkedEntriesOne

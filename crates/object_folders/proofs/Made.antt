@@ -3,17 +3,17 @@ use Rattle.std.proofs.Common.{◌≡◌, Bool, true, false, List, ◌++◌, ◌&
 use Rattle.std.specs.Prelude.{not}
 use Rattle.std.specs.List.{list_any}
 use Rattle.std.proofs.lemmas.Bool.{and_parts}
-use Rattle.accepted_folders.proofs.Objects.{interfaces}
-use Rattle.accepted_folders.proofs.Lists.{at_front}
-use Rattle.accepted_folders.proofs.Plain.{class_found, plain_world}
-use Rattle.accepted_folders.proofs.Chains.{stands_itself}
-use Rattle.accepted_folders.specs.Worlds.{AreClassesKept, WritesInterfaces}
-use Rattle.accepted_folders.specs.Entries.{IsLive}
-use Rattle.accepted_folders.proofs.Defined.{last}
-use Rattle.accepted_folders.proofs.Derivations.{closed}
-use Rattle.accepted_folders.specs.Reachable.{Reachable, Unresolved}
-use Rattle.accepted_folders.specs.Refusals.{Refusal, missing_class, wrong_kind, IsOtherKind, needed, no_class, no_class_made, no_module, no_exception}
-use Rattle.accepted_folders.specs.Rules.{Rule, the_object, above, new_needed, new_made, load_needed, load_made, array_made, throw_needed, throw_made}
+use Rattle.linked_entries.proofs.Objects.{interfaces}
+use Rattle.linked_entries.proofs.Lists.{at_front}
+use Rattle.linked_entries.proofs.Plain.{class_found, plain_world}
+use Rattle.linked_entries.proofs.Chains.{stands_itself}
+use Rattle.linked_entries.specs.Worlds.{AreClassesKept, WritesInterfaces}
+use Rattle.linked_entries.specs.Entries.{IsLive}
+use Rattle.linked_entries.proofs.Defined.{last}
+use Rattle.linked_entries.proofs.Derivations.{closed}
+use Rattle.linked_entries.specs.Reachable.{Reachable, Unresolved}
+use Rattle.linked_entries.specs.Refusals.{Refusal, missing_class, wrong_kind, IsOtherKind, needed, no_class, no_class_made, no_module, no_exception}
+use Rattle.linked_entries.specs.ReachRulesRules.{Rule, the_object, above, new_needed, new_made, load_needed, load_made, array_made, throw_needed, throw_made}
 use Rattle.sj_local.specs.ClassRules.{is_hijacked_kind, is_rightly_hijacked, is_right_number, keeps_hijacked}
 use Rattle.sj_local.specs.Names.{is_some_name}
 use Rattle.sj_names.proofs.Same.{impossible}

@@ -2,36 +2,36 @@
 use Rattle.std.proofs.Common.{◌≡◌, true, List, Option, Some, sym, subst, Contains}
 use Rattle.std.specs.Prelude.{MatchOption}
 use Rattle.std.proofs.lemmas.List.Elements.{All-contains}
-use Rattle.accepted_folders.proofs.Calls.{needed}
-use Rattle.accepted_folders.proofs.Members.{defined}
-use Rattle.accepted_folders.proofs.Worlds.{judged}
-use Rattle.accepted_folders.specs.Accepted.{IsAccepted}
-use Rattle.accepted_folders.specs.Bodies.{AreBodies}
-use Rattle.accepted_folders.proofs.RulesGive.{result_is}
-use Rattle.accepted_folders.specs.Standing.{call_type}
-use Rattle.accepted_folders.specs.Typing.{is_built_with}
-use Rattle.accepted_folders.specs.BodySoundnessRules.{RightMember}
-use Rattle.accepted_folders.specs.Built.{Usable}
+use Rattle.linked_entries.proofs.Calls.{needed}
+use Rattle.linked_entries.proofs.Members.{defined}
+use Rattle.linked_entries.proofs.Worlds.{judged}
+use Rattle.linked_entries.specs.Accepted.{IsAccepted}
+use Rattle.linked_entries.specs.Bodies.{AreBodies}
+use Rattle.linked_entries.proofs.RulesGive.{result_is}
+use Rattle.linked_entries.specs.Standing.{call_type}
+use Rattle.linked_entries.specs.Typing.{is_built_with}
+use Rattle.linked_entries.specs.Rules.{RightMember}
+use Rattle.linked_entries.specs.Built.{Usable}
 use Rattle.file_listings.proofs.ListedClasses.{file_is_listed}
 use Rattle.file_listings.specs.Listed.{AreBytes}
 use Rattle.ir_mean.specs.World.{member_of}
 use Rattle.listing_spelling.specs.Rules.{HasListing, IsListedMethod, IsListedTree}
-use Rattle.accepted_folders.specs.Files.{HasFunction}
-use Rattle.accepted_folders.proofs.Found.{OwnerOf, owner_of}
-use Rattle.accepted_folders.specs.Judged.{IsJudgedClass}
-use Rattle.accepted_folders.proofs.Classes.{class-keeps, signature-keeps}
-use Rattle.accepted_folders.proofs.Methods as methods
+use Rattle.linked_entries.specs.Files.{HasFunction}
+use Rattle.linked_entries.proofs.Found.{OwnerOf, owner_of}
+use Rattle.linked_entries.specs.Judged.{IsJudgedClass}
+use Rattle.linked_entries.proofs.Classes.{class-keeps, signature-keeps}
+use Rattle.linked_entries.proofs.Methods as methods
 use Rattle.sj_names.specs.declared.entry_points.EntryPoint.{EntryPoint}
 use Rattle.sj_names.specs.declared.folders.SourceFile.{SourceFile}
 use Rattle.sj_names.specs.declared.method_names.Member.{Member}
 use Rattle.sj_names.specs.declared.method_names.MethodName.{MethodName}
-use Rattle.accepted_folders.specs.Emitted.{EmittedMethod}
-use Rattle.accepted_folders.specs.Methods.{HaveTypes, KeepsRules}
-use Rattle.accepted_folders.specs.Once.{NamesOnce}
+use Rattle.linked_entries.specs.Emitted.{EmittedMethod}
+use Rattle.linked_entries.specs.Methods.{HaveTypes, KeepsRules}
+use Rattle.linked_entries.specs.Once.{NamesOnce}
 use Rattle.sj_trees.specs.Term.{Term}
 use Rattle.sj_trees.specs.declared.classes.MethodDef.{MethodDef}
-use Rattle.accepted_folders.proofs.Bodies.{rules_kept}
-use Rattle.accepted_folders.proofs.Values.{parameters_have_values}
+use Rattle.linked_entries.proofs.Bodies.{rules_kept}
+use Rattle.linked_entries.proofs.Values.{parameters_have_values}
 use Rattle.sj_world.specs.Known.{Classes}
 
 module _ (entries : List EntryPoint) (files : List SourceFile) (w : Classes) (bytes : (file : SourceFile) → Contains files file → AreBytes file.bytes) (a : IsAccepted entries files w) where

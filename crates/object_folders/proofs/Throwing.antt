@@ -3,17 +3,17 @@ use Rattle.std.proofs.Common.{◌≡◌, Bool, true, false, List, [], ◌∷◌,
 use Rattle.std.specs.List.{list_any}
 use Rattle.std.proofs.lemmas.Bool.{and_parts, and_from}
 use Rattle.std.proofs.lemmas.List.Folds.{Any-from_list_any}
-use Rattle.accepted_folders.proofs.Members.{has_function-from}
-use Rattle.accepted_folders.proofs.Lists.{at_front, further_on}
-use Rattle.accepted_folders.specs.BodySoundnessLaws.{null_pointer, arithmetic, class_cast}
-use Rattle.accepted_folders.specs.Built.{Usable, divides, has_kind}
+use Rattle.linked_entries.proofs.Members.{has_function-from}
+use Rattle.linked_entries.proofs.Lists.{at_front, further_on}
+use Rattle.linked_entries.specs.BodySoundnessLaws.{null_pointer, arithmetic, class_cast}
+use Rattle.linked_entries.specs.Built.{Usable, divides, has_kind}
 use Rattle.helper_rules.specs.Helpers.{helper_name, used_helpers, failure_class}
 use Rattle.helper_rules.specs.declared.kinds.Failure.{Failure}
 use Rattle.helper_rules.specs.declared.kinds.Failure.TheVariants.{NullReceiver, Division, Cast}
 use Rattle.helper_rules.specs.declared.kinds.Helper.{Helper}
 use Rattle.helper_rules.specs.declared.kinds.Helper.TheVariants.{TestOf, CastTo, ConstantsOf, NotNull, IntQuotient, IntRemainder, LongQuotient, LongRemainder, Throws}
 use Rattle.ir_mean.specs.Meaning.{with_message}
-use Rattle.linked_pieces.specs.Used.{used_of, is_among, uses_helper, is_cast as is_cast_to}
+use Rattle.linked_entries.specs.Used.{used_of, is_among, uses_helper, is_cast as is_cast_to}
 use Rattle.object_folders.specs.Running.{CanRun, CanBeThrown}
 use Rattle.sj_desugar.specs.Desugar.{member}
 use Rattle.sj_emit_expr.specs.Templates.{check_name}
@@ -23,8 +23,8 @@ use Rattle.sj_names.specs.Same.{is_same_text}
 use Rattle.sj_names.specs.WellKnown.{object}
 use Rattle.sj_names.specs.declared.entry_points.EntryPoint.{EntryPoint}
 use Rattle.sj_names.specs.declared.method_names.Namespace.TheVariants.{Constructor}
-use Rattle.accepted_folders.specs.Emitted.{EmittedMethod}
-use Rattle.accepted_folders.specs.Linked.{has_function}
+use Rattle.linked_entries.specs.Emitted.{EmittedMethod}
+use Rattle.linked_entries.specs.Linked.{has_function}
 use Rattle.sj_trees.specs.declared.operators.BinaryOp.{BinaryOp}
 use Rattle.sj_trees.specs.declared.operators.BinaryOp.TheVariants.{IntDivide, IntRemainder as IntRest, LongDivide, LongRemainder as LongRest}
 use Rattle.sj_trees.specs.declared.types.IrType.{IrType}

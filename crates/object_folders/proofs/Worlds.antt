@@ -1,36 +1,36 @@
 -- The world of an accepted folder has what the laws on objects ask.
-use Rattle.accepted_folders.proofs.Plain.{plain_world}
-use Rattle.accepted_folders.proofs.Topped.{topped}
-use Rattle.linked_pieces.proofs.Running.{targets_run}
+use Rattle.linked_entries.proofs.Plain.{plain_world}
+use Rattle.linked_entries.proofs.Topped.{topped}
+use Rattle.linked_entries.proofs.Running.{targets_run}
 use Rattle.std.proofs.Common.{◌≡◌, ◌&&◌, Bool, true, List, None, sym, subst, Contains}
 use Rattle.std.proofs.lemmas.Bool.{and_parts}
 use Rattle.std.specs.List.{list_any}
-use Rattle.accepted_folders.proofs.Objects as objects
-use Rattle.accepted_folders.proofs.Worlds.{judged}
-use Rattle.accepted_folders.specs.Accepted.{IsAccepted}
-use Rattle.accepted_folders.specs.Bodies.{AreBodies}
-use Rattle.accepted_folders.specs.BodySoundnessRules.{RightMember}
-use Rattle.accepted_folders.specs.Worlds.{AreClassesKept}
-use Rattle.accepted_folders.specs.Built.{has_static, is_static}
+use Rattle.linked_entries.proofs.Objects as objects
+use Rattle.linked_entries.proofs.Worlds.{judged}
+use Rattle.linked_entries.specs.Accepted.{IsAccepted}
+use Rattle.linked_entries.specs.Bodies.{AreBodies}
+use Rattle.linked_entries.specs.Rules.{RightMember}
+use Rattle.linked_entries.specs.Worlds.{AreClassesKept}
+use Rattle.linked_entries.specs.Built.{has_static, is_static}
 use Rattle.file_listings.specs.Listed.{AreBytes}
 use Rattle.helper_rules.specs.declared.kinds.Helper.{Helper}
-use Rattle.linked_pieces.proofs.Statics.{static_is}
-use Rattle.linked_pieces.specs.Used.{used_of, is_among, is_received, is_constructor_without_value, has_static_in, needs_static}
+use Rattle.linked_entries.proofs.Statics.{static_is}
+use Rattle.linked_entries.specs.Used.{used_of, is_among, is_received, is_constructor_without_value, has_static_in, needs_static}
 use Rattle.object_folders.proofs.Fields.{field_there, type_there, static_there, static_type_there}
 use Rattle.object_folders.proofs.Made.{live_free}
 use Rattle.object_folders.proofs.Methods.{once, right_member}
 use Rattle.object_folders.proofs.Throwing.{exceptions, division, cast_throws}
 use Rattle.object_folders.specs.Laws.{AcceptedFoldersCarryObjects, AcceptedFoldersLinkRightMembers}
 use Rattle.object_folders.specs.Running.{CanRun}
-use Rattle.accepted_folders.specs.Refusals.{hijacked}
+use Rattle.linked_entries.specs.Refusals.{hijacked}
 use Rattle.sj_local.specs.Broken.{FirstBroken}
 use Rattle.sj_names.proofs.Same.{impossible}
 use Rattle.sj_names.specs.declared.entry_points.EntryPoint.{EntryPoint}
 use Rattle.sj_names.specs.declared.folders.SourceFile.{SourceFile}
 use Rattle.sj_names.specs.declared.method_names.Member.{Member}
-use Rattle.accepted_folders.specs.Emitted.{EmittedMethod}
-use Rattle.accepted_folders.proofs.Same.{has_function-is}
-use Rattle.accepted_folders.specs.Linked.{has_function}
+use Rattle.linked_entries.specs.Emitted.{EmittedMethod}
+use Rattle.linked_entries.proofs.Same.{has_function-is}
+use Rattle.linked_entries.specs.Linked.{has_function}
 use Rattle.sj_trees.specs.declared.classes.ClassDef.{ClassDef}
 use Rattle.sj_trees.specs.declared.types.IrType.{IrType}
 use Rattle.sj_world.proofs.OnCycles.{among}

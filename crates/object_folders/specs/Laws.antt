@@ -1,18 +1,18 @@
 -- Laws of accepted folders of which the pieces of some classes are written.
 use Rattle.std.specs.Prelude.{◌≡◌, true, List}
 use Rattle.std.specs.List.{Contains}
-use Rattle.accepted_folders.specs.Accepted.{IsAccepted}
-use Rattle.accepted_folders.specs.Bodies.{AreBodies}
-use Rattle.accepted_folders.specs.BodySoundnessRules.{RightMember}
-use Rattle.accepted_folders.specs.Worlds.{ObjectWorld}
+use Rattle.linked_entries.specs.Accepted.{IsAccepted}
+use Rattle.linked_entries.specs.Bodies.{AreBodies}
+use Rattle.linked_entries.specs.Rules.{RightMember}
+use Rattle.linked_entries.specs.Worlds.{ObjectWorld}
 use Rattle.file_listings.specs.Listed.{AreBytes}
 use Rattle.helper_rules.specs.declared.kinds.Helper.{Helper}
-use Rattle.linked_pieces.specs.Used.{used_of}
+use Rattle.linked_entries.specs.Used.{used_of}
 use Rattle.object_folders.specs.Running.{CanRun}
 use Rattle.sj_names.specs.declared.entry_points.EntryPoint.{EntryPoint}
 use Rattle.sj_names.specs.declared.folders.SourceFile.{SourceFile}
 use Rattle.sj_names.specs.declared.method_names.Member.{Member}
-use Rattle.accepted_folders.specs.Emitted.{EmittedMethod}
+use Rattle.linked_entries.specs.Emitted.{EmittedMethod}
 use Rattle.sj_world.specs.Known.{Name, Classes}
 use Rattle.sj_world.specs.declared.facts.Fact.{Fact}
 

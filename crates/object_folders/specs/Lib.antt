@@ -1,28 +1,34 @@
 pub mod Laws
 pub mod Running
-pub use Rattle.accepted_folders.specs.Accepted
-pub use Rattle.accepted_folders.specs.Bodies
-pub use Rattle.accepted_folders.specs.Entries
-pub use Rattle.linked_pieces.specs.Pieces
-pub use Rattle.linked_pieces.specs.Used
-pub use Rattle.accepted_folders.specs.Reachable
-pub use Rattle.accepted_folders.specs.Emitted
-pub use Rattle.accepted_folders.specs.Standing
-pub use Rattle.accepted_folders.specs.Built
-pub use Rattle.accepted_folders.specs.Classes
-pub use Rattle.accepted_folders.specs.Pieces as PieceRulesPieces
-pub use Rattle.accepted_folders.specs.Rules
-pub use Rattle.accepted_folders.specs.Linked
-pub use Rattle.accepted_folders.specs.Worlds
-pub use Rattle.linked_pieces.specs.Order
-pub use Rattle.accepted_folders.specs.Locals
-pub use Rattle.accepted_folders.specs.Judged
-pub use Rattle.accepted_folders.specs.Settings
-pub use Rattle.accepted_folders.specs.Verdicts
-pub use Rattle.accepted_folders.specs.Refusals
-pub use Rattle.linked_pieces.specs.Laws as LinkedPiecesLaws
-pub use Rattle.accepted_folders.specs.Files
-pub use Rattle.accepted_folders.specs.Once
-pub use Rattle.accepted_folders.specs.Stages
-pub use Rattle.accepted_folders.specs.TypingRulesRules
-pub use Rattle.accepted_folders.specs.Typed
+pub use Rattle.linked_entries.specs.Accepted
+pub use Rattle.linked_entries.specs.Bodies
+pub use Rattle.linked_entries.specs.Entries
+pub use Rattle.linked_entries.specs.LinkedPiecesPieces as Pieces
+pub use Rattle.linked_entries.specs.Used
+pub use Rattle.linked_entries.specs.Reachable
+pub use Rattle.linked_entries.specs.Emitted
+pub use Rattle.linked_entries.specs.Standing
+pub use Rattle.linked_entries.specs.Built
+pub use Rattle.linked_entries.specs.Classes
+pub use Rattle.linked_entries.specs.Pieces as PieceRulesPieces
+pub use Rattle.linked_entries.specs.ReachRulesRules as Rules
+pub use Rattle.linked_entries.specs.Linked
+pub use Rattle.linked_entries.specs.Worlds
+pub use Rattle.linked_entries.specs.Order
+pub use Rattle.linked_entries.specs.Locals
+pub use Rattle.linked_entries.specs.Judged
+pub use Rattle.linked_entries.specs.Settings
+pub use Rattle.linked_entries.specs.Verdicts
+pub use Rattle.linked_entries.specs.Refusals
+pub use Rattle.linked_entries.specs.LinkedPiecesLaws
+pub use Rattle.linked_entries.specs.Files
+pub use Rattle.linked_entries.specs.Once
+pub use Rattle.linked_entries.specs.Stages
+pub use Rattle.linked_entries.specs.TypingRulesRules
+pub use Rattle.linked_entries.specs.Typed
+pub use Rattle.linked_entries.specs.Boxes
+pub use Rattle.linked_entries.specs.Kept
+pub use Rattle.linked_entries.specs.Label
+pub use Rattle.linked_entries.specs.Nodes
+pub use Rattle.linked_entries.specs.Typing
+pub use Rattle.linked_entries.specs.Targets

@@ -1,20 +1,20 @@
 -- What can run, where the pieces of some classes of a folder are written: what is written finds there what it uses.
 use Rattle.std.specs.Prelude.{◌≡◌, true, List}
 use Rattle.std.specs.List.{Contains}
-use Rattle.accepted_folders.specs.Typing.{is_built_with}
-use Rattle.accepted_folders.specs.Entries.{IsLive}
+use Rattle.linked_entries.specs.Typing.{is_built_with}
+use Rattle.linked_entries.specs.Entries.{IsLive}
 use Rattle.helper_rules.specs.Helpers.{failure_class, used_helpers}
 use Rattle.helper_rules.specs.declared.kinds.Failure.{Failure}
 use Rattle.helper_rules.specs.declared.kinds.Failure.TheVariants.{Cast}
 use Rattle.helper_rules.specs.declared.kinds.Helper.{Helper}
 use Rattle.helper_rules.specs.declared.kinds.Helper.TheVariants.{Throws}
-use Rattle.linked_pieces.specs.Used.{used_of, is_cast}
-use Rattle.accepted_folders.specs.Reachable.{Reachable}
-use Rattle.accepted_folders.specs.Rules.{message_constructor}
-use Rattle.accepted_folders.specs.Files.{HasFunction}
+use Rattle.linked_entries.specs.Used.{used_of, is_cast}
+use Rattle.linked_entries.specs.Reachable.{Reachable}
+use Rattle.linked_entries.specs.ReachRulesRules.{message_constructor}
+use Rattle.linked_entries.specs.Files.{HasFunction}
 use Rattle.sj_names.specs.WellKnown.{object}
 use Rattle.sj_names.specs.declared.entry_points.EntryPoint.{EntryPoint}
-use Rattle.accepted_folders.specs.Emitted.{EmittedMethod}
+use Rattle.linked_entries.specs.Emitted.{EmittedMethod}
 use Rattle.sj_world.specs.Known.{Name, Classes}
 use Rattle.sj_world.specs.declared.facts.Fact.{Fact}
 use Rattle.sj_world.specs.declared.facts.Fact.TheVariants.{Body}

@@ -1,2 +1,31 @@
 pub mod Helpers
 pub mod Laws
+pub use Rattle.body_uses.specs.Written
+pub use Rattle.body_uses.specs.Accepted
+pub use Rattle.body_uses.specs.Bodies
+pub use Rattle.body_uses.specs.Built
+pub use Rattle.proper_pieces.specs.Emitted
+pub use Rattle.body_uses.specs.Entries
+pub use Rattle.body_uses.specs.Files
+pub use Rattle.body_uses.specs.Judged
+pub use Rattle.body_uses.specs.Linked
+pub use Rattle.body_uses.specs.LinkedPiecesLaws
+pub use Rattle.body_uses.specs.Locals
+pub use Rattle.proper_pieces.specs.Once
+pub use Rattle.proper_pieces.specs.Order
+pub use Rattle.proper_pieces.specs.Pieces
+pub use Rattle.body_uses.specs.Reachable
+pub use Rattle.body_uses.specs.Refusals
+pub use Rattle.body_uses.specs.Rules
+pub use Rattle.body_uses.specs.Running
+pub use Rattle.body_uses.specs.Stages
+pub use Rattle.body_uses.specs.Standing
+pub use Rattle.body_uses.specs.Typed
+pub use Rattle.body_uses.specs.TypingRulesRules
+pub use Rattle.body_uses.specs.Used
+pub use Rattle.body_uses.specs.Verdicts
+pub use Rattle.body_uses.specs.Worlds
+pub use Rattle.proper_pieces.specs.Laws as ProperPiecesLaws
+pub use Rattle.proper_pieces.specs.Modules
+pub use Rattle.body_uses.specs.Given
+pub use Rattle.body_uses.specs.Laws as BodyUsesLaws

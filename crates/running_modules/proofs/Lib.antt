@@ -16,3 +16,38 @@ pub use Rattle.closed_pieces.proofs.Edits
 pub use Rattle.closed_pieces.proofs.Links
 pub use Rattle.closed_pieces.proofs.One
 pub use Rattle.closed_pieces.proofs.Names
+pub use Rattle.closed_pieces.proofs.Boxes
+pub use Rattle.closed_pieces.proofs.Given
+pub use Rattle.closed_pieces.proofs.BodyUsesUses
+pub use Rattle.declared_files.proofs.KindHelpers
+pub use Rattle.closed_pieces.proofs.Markers
+pub use Rattle.closed_pieces.proofs.Assembled
+pub use Rattle.closed_pieces.proofs.Blocks
+pub use Rattle.closed_pieces.proofs.Chains
+pub use Rattle.closed_pieces.proofs.Tested
+pub use Rattle.closed_pieces.proofs.Calls
+pub use Rattle.closed_pieces.proofs.DeclaredPiecesChains
+pub use Rattle.closed_pieces.proofs.Derivations
+pub use Rattle.closed_pieces.proofs.EachTyped
+pub use Rattle.closed_pieces.proofs.Fields
+pub use Rattle.closed_pieces.proofs.Judged
+pub use Rattle.closed_pieces.proofs.Live
+pub use Rattle.closed_pieces.proofs.Members
+pub use Rattle.closed_pieces.proofs.ObjectFoldersFields
+pub use Rattle.closed_pieces.proofs.Methods
+pub use Rattle.closed_pieces.proofs.ObjectFoldersWorlds as Worlds
+pub use Rattle.closed_pieces.proofs.Objects
+pub use Rattle.closed_pieces.proofs.Parts
+pub use Rattle.closed_pieces.proofs.Standing
+pub use Rattle.closed_pieces.proofs.Throwing
+pub use Rattle.closed_pieces.proofs.Verdict
+pub use Rattle.closed_pieces.proofs.Whole as DeclaredPiecesWhole
+pub use Rattle.closed_pieces.proofs.Worlds as AcceptedFoldersWorlds
+pub use Rattle.closed_pieces.proofs.Written
+pub use Rattle.module_files.proofs.Entries
+pub use Rattle.module_files.proofs.Found
+pub use Rattle.module_files.proofs.FromLinked
+pub use Rattle.module_files.proofs.Reached
+pub use Rattle.module_files.proofs.Read
+pub use Rattle.module_files.proofs.Running
+pub use Rattle.module_files.proofs.Whole as ModuleFilesWhole
