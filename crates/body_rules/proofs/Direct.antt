@@ -1,8 +1,8 @@
--- A call that is looked up on a receiver whose class is hijacked keeps the rules of a call of the member that this class runs.
+-- A call that is looked up on a receiver whose class is hijacked keeps the rules of a call of the member that this class runs; any other is of a method that is looked up.
 use Rattle.std.proofs.Common.{◌≡◌, ◌∙◌, true, ◌&&◌, List, ap, sym}
 use Rattle.std.proofs.lemmas.Bool.{and_parts}
 use Rattle.body_rules.specs.Typing.{Scene, Here, may_check}
-use Rattle.built_forms.proofs.Direct.{IsCalled, is_called}
+use Rattle.built_forms.proofs.Direct.{IsCalled, IsCalledByLookup, Calls, calls_member, looks_up, is_called}
 use Rattle.built_forms.specs.Built.{Usable, can_call}
 use Rattle.sj_emit_expr.specs.Callee.{Callee}
 use Rattle.sj_emit_expr.specs.Desugar.{member, callee_of}
@@ -20,8 +20,16 @@ pub record Direct (w : Classes) (has : Usable) (s : Scene) (p : Position) (e : T
   pub checked : may_check has s.sure e ≡ true
   pub here : Here w has s (apply_statically p e is.direct.class Public m ts t)
 
-pub direct : (w : Classes) (has : Usable) (s : Scene) (p : Position) (e : Term) (m : MethodName) (ts : Terms) (t : IrType) → Here w has s (apply p e m ts t) → Direct w has s p e m ts t
-direct w has s p e m ts t h = record {
+pub record ByLookup (w : Classes) (has : Usable) (s : Scene) (e : Term) (m : MethodName) : Type 0 where
+  pub is : IsCalledByLookup has (type_of_term e) m
+  pub checked : may_check has s.sure e ≡ true
+
+pub data Applied (w : Classes) (has : Usable) (s : Scene) (p : Position) (e : Term) (m : MethodName) (ts : Terms) (t : IrType) : Type 0 where
+  directly : Direct w has s p e m ts t → Applied w has s p e m ts t
+  by_lookup : ByLookup w has s e m → Applied w has s p e m ts t
+
+direct : (w : Classes) (has : Usable) (s : Scene) (p : Position) (e : Term) (m : MethodName) (ts : Terms) (t : IrType) → Here w has s (apply p e m ts t) → IsCalled (type_of_term e) m → Direct w has s p e m ts t
+direct w has s p e m ts t h is = record {
   is = is;
   there = sym same ∙ its.0;
   checked = its.1;
@@ -31,8 +39,15 @@ direct w has s p e m ts t h = record {
     its : (can_call has (callee_of (type_of_term e) m) ≡ true) × (may_check has s.sure e ≡ true)
     its = and_parts (can_call has (callee_of (type_of_term e) m)) (may_check has s.sure e) h.built
 
-    is : IsCalled (type_of_term e) m
-    is = is_called has (type_of_term e) m its.0
-
     same : can_call has (callee_of (type_of_term e) m) ≡ has.received (has.lookup.target (member is.direct.class Public m))
     same = ap (can_call has) is.callee
+
+pub applied : (w : Classes) (has : Usable) (s : Scene) (p : Position) (e : Term) (m : MethodName) (ts : Terms) (t : IrType) → Here w has s (apply p e m ts t) → Applied w has s p e m ts t
+applied w has s p e m ts t h = by (is_called has (type_of_term e) m its.0)
+  where
+    its : (can_call has (callee_of (type_of_term e) m) ≡ true) × (may_check has s.sure e ≡ true)
+    its = and_parts (can_call has (callee_of (type_of_term e) m)) (may_check has s.sure e) h.built
+
+    by : Calls has (type_of_term e) m → Applied w has s p e m ts t
+    by (calls_member is) = directly (direct w has s p e m ts t h is)
+    by (looks_up is) = by_lookup (record { is = is; checked = its.1 })

@@ -10,3 +10,4 @@ pub mod Emission
 pub use Rattle.ir_mean.proofs.AncestorsFound
 pub use Rattle.ir_mean.proofs.HijackedCalls
 pub use Rattle.ir_mean.proofs.LawsHold
+pub use Rattle.ir_mean.proofs.LookedUpCalls

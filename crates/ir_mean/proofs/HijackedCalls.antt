@@ -1,6 +1,6 @@
 -- A call that is looked up on a receiver whose class is hijacked runs what this class decides, whatever the value is.
-use Rattle.std.proofs.Common.{◌≡◌, ◌∙◌, Bool, true, List, [], ◌∷◌, Option, Some, refl, ap, if◌then◌else◌}
-use Rattle.ir_mean.specs.Meaning.{Low, call_method, call_virtual, call_on, target_in, is_fixed_class, static_target}
+use Rattle.std.proofs.Common.{◌≡◌, ◌∙◌, Bool, true, List, [], ◌∷◌, Option, Some, None, refl, ap, if◌then◌else◌}
+use Rattle.ir_mean.specs.Meaning.{Low, call_method, call_virtual, call_on, target_in, is_fixed_class, class_looked_up, looked_class, static_target, taking}
 use Rattle.ir_mean.specs.States.{Value, Env, State, Run}
 use Rattle.ir_mean.specs.World.{World, class_of_value}
 use Rattle.sj_names.specs.declared.method_names.MethodName.{MethodName}
@@ -20,3 +20,11 @@ module _ (w : World) (low : Low) (t : IrType) (m : MethodName) (c : Name) (recei
 
   pub hijacked_call : (r : TypeRef) → m.result ≡ Some r → call_method w low t m m.result ≡ call_on w low (static_target w c Public m)
   hijacked_call r named = ap (call_method w low t m) named ∙ (λ i vs env s. runs vs env s i)
+
+  -- and it takes any receiver
+  not_looked_up : (r : Option TypeRef) → class_looked_up t r ≡ None
+  not_looked_up None = refl
+  not_looked_up (Some r) = ap looked_class receiver ∙ ap (λ (b : Bool). if b then None else Some c) hijacked
+
+  pub takes_any : (r : Run) → taking w (class_looked_up t m.result) r ≡ r
+  takes_any r = ap (λ (o : Option Name). taking w o r) (not_looked_up m.result)

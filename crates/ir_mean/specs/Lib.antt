@@ -15,3 +15,4 @@ pub use Rattle.sj_world.specs.Paths
 pub use Rattle.sj_world.specs.Refusals
 pub use Rattle.sj_world.specs.Resolution
 pub use Rattle.sj_world.specs.Subtypes
+pub use Rattle.sj_world.specs.Calls

@@ -333,6 +333,23 @@ module _ (world : World) where
   target_in None m = None
   target_in (Some c) m = method_found (resolved world c m)
 
+  -- the class of which the receiver of Apply has to be an instance: the receiver class, where the value's own class decides where the call looks
+  abbrev pub looked_class : Option (List ℕ) → Option (List ℕ)
+  looked_class None = None
+  looked_class (Some c) = if is_hijacked c then None else Some c
+
+  abbrev pub class_looked_up : IrType → Option TypeRef → Option (List ℕ)
+  class_looked_up t None = None
+  class_looked_up t (Some r) = looked_class (receiver_class t)
+
+  -- a receiver of such a call: what is no instance takes none, and so its arguments aren't evaluated
+  abbrev pub only_instance : List ℕ → Value → Run
+  only_instance c v env s = if is_instance world s v c then given v env s else wrong
+
+  abbrev pub taking : Option (List ℕ) → Run → Run
+  taking None r = r
+  taking (Some c) r = λ env s. go_on (r env s) (only_instance c)
+
   -- Apply with a receiver class: a hijacked one decides where the call looks, and else the value's own class
   abbrev pub is_fixed_class : Option (List ℕ) → Bool
   is_fixed_class None = false
@@ -414,7 +431,7 @@ module _ (world : World) where
     step low (store_module p c e) env s = in_order (step low e ∷ []) (store c) env s
     step low (select p e c f t) env s = in_order (receiving (is_sure env.sure e) low (step low e) ∷ []) (select_field c f) env s
     step low (select_static p c f t) env s = value_or_wrong (s.statics c f) env s
-    step low (apply p e m ts t) env s = in_order (receiving (is_sure env.sure e) low (step low e) ∷ operands low ts) (call_method low (type_of_term e) m m.result) env s
+    step low (apply p e m ts t) env s = in_order (taking (class_looked_up (type_of_term e) m.result) (receiving (is_sure env.sure e) low (step low e)) ∷ operands low ts) (call_method low (type_of_term e) m m.result) env s
     step low (apply_statically p e c n m ts t) env s = in_order (receiving (is_sure env.sure e) low (step low e) ∷ operands low ts) (call_on low (static_target c n m)) env s
     step low (apply_static p c n m ts t) env s = in_order (operands low ts) (call low (member_of world c n m) None) env s
     step low (unary_op p op e) env s = in_order (step low e ∷ []) (unary low op) env s

@@ -195,3 +195,7 @@ finals = all_of (says (try_catch nowhere (try_finally nowhere (throw nowhere (wo
 -- a value that travels past a finalizer that gives its own jump up
 abbrev pub given_up : Term
 given_up = says (labeled nowhere (codes "l") types.Int (try_finally nowhere (return_to nowhere (whole 1) (codes "l")) (labeled nowhere (codes "m") types.NoType (try_finally nowhere (return_to nowhere (whole 2) (codes "l")) (return_to nowhere (skip nowhere) (codes "m"))))))
+
+-- a call on what is no instance of the class that it names: its arguments aren't evaluated
+abbrev pub sent_to_text : Term
+sent_to_text = all_of (var_def nowhere (codes "a") a_type false (word (codes "w")) ∷ apply nowhere (var_ref nowhere (codes "a") a_type) (text_name (codes "n")) (block (all_of (logs (codes "late") ∷ word [] ∷ []) ∷ [])) types.String ∷ [])

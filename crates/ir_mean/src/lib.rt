@@ -89,6 +89,7 @@ pub fn worked_objects()
     ensures sent_to_null { objects.shown (objects.sent_to_null) 2 ≡ record { lines = codes "null" ∷ []; end = Done (uncaught (object_of (codes "java.lang.NullPointerException"))) } }
     ensures made_last { objects.given (objects.made_last) 2 ≡ Some (reference 1) }
     ensures set_on_text { objects.shown (objects.set_on_text) 2 ≡ record { lines = []; end = Wrong } }
+    ensures sent_to_text { objects.shown (objects.sent_to_text) 2 ≡ record { lines = []; end = Wrong } }
     ensures mutable_local { objects.shown (objects.sure_local true) 2 ≡ record { lines = codes "null" ∷ []; end = Done (uncaught (object_of (codes "java.lang.NullPointerException"))) } }
     ensures sure_local { objects.shown (objects.sure_local false) 2 ≡ record { lines = []; end = Wrong } }
     ensures order { objects.shown (objects.order) 2 ≡ record { lines = codes "index" ∷ codes "value" ∷ codes "0" ∷ []; end = Done (uncaught (object_of (codes "java.lang.ArrayIndexOutOfBoundsException"))) } }

@@ -15,6 +15,7 @@ restricted has uses = record {
   linked = λ m. has.linked m && uses (function_binding m);
   lookup = has.lookup;
   received = λ m. has.received m && uses (function_binding m);
+  looked_up = has.looked_up;
   built = λ m. has.built m && uses (function_binding m);
   made = λ c. has.made c && uses (class_use c);
   field = has.field;

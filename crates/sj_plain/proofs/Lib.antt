@@ -16,3 +16,4 @@ pub mod Plain
 pub mod Runs
 pub mod Boxes
 pub use Rattle.ir_mean.proofs.HijackedCalls
+pub use Rattle.ir_mean.proofs.LookedUpCalls
