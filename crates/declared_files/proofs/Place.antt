@@ -346,7 +346,7 @@ module _ (z : Spread) where
 
       -- nothing is made, and what stands on the heap is the emitted code's own
       abbrev pub begun : World
-      begun = record { place = λ i. None; owned = λ a. slice_get t.heap a; pending = λ a. None; boxes = box_link place ∷ [] }
+      begun = record { place = λ i. None; classes = λ i. None; owned = λ a. slice_get t.heap a; pending = λ a. None; boxes = box_link place ∷ [] }
 
       none_there : {A : Type 0} (o : A) → None ≡ Some o → ⊥
       none_there o e = cc
@@ -361,7 +361,8 @@ module _ (z : Spread) where
         unborn = λ i a o e g. none_there a e;
         separate = λ a o b e g. none_there b g;
         marked = λ a constants e. marks_ancestors z.classes (all_items z) can.marked constants (made a (js.plain [] constants) e);
-        free = λ i a e. absurd (none_there a e);
+        free = λ i c e. absurd (none_there c e);
+        made = λ i c e. absurd (none_there c e);
         boxes = refl;
       }
 

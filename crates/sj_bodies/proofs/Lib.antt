@@ -19,6 +19,7 @@ pub use Rattle.sj_proper.proofs.Mutable
 pub use Rattle.sj_proper.proofs.RulesGive
 pub use Rattle.sj_proper.proofs.BuiltFormsStatics as Statics
 pub use Rattle.sj_plain.proofs.Boxes
+pub use Rattle.sj_plain.proofs.Classes
 pub use Rattle.sj_plain.proofs.Divisions
 pub use Rattle.sj_plain.proofs.Heaps
 pub use Rattle.sj_plain.proofs.Objects

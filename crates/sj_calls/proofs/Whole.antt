@@ -74,8 +74,8 @@ long_shown (pos n) f = let h : n < 2 ^ 63 = f.sfits in grind arith
 long_shown (negsuc n) f = let h : n < 2 ^ 63 = f.sfits in grind arith
 
 -- what stands at an address, and what stands for it there, are shown alike: by the class of the object, which its marker tells
-stored_alike : (p : Place) (q : js.Program) (d : Direction) (w : World) (s : List ir.Stored) (u : js.State) → SameHeap p w s u.heap → (o : Option ir.Stored) (g : Option js.Stored) → SameStored p w o g → Sim d ◌≡◌ (ir_showing.uncaught_or_wrong (ir_showing.thrown_stored o)) (js_showing.uncaught_or_wrong (js_showing.object_shown (js_showing.class_shown (js_showing.marker_in q u (js_objects.stored_property q g (codes "k")))) (js_objects.stored_property q g (codes "c"))))
-stored_alike p q d w s u heaps _ _ (same_object c fields properties told fs) = subst (λ o. Sim d ◌≡◌ (done (uncaught (shown.object_of c))) (js_showing.uncaught_or_wrong o)) (sym is) (sim_done d ◌≡◌ (uncaught (shown.object_of c)) (uncaught (shown.object_of c)) refl)
+stored_alike : (p : Place) (q : js.Program) (d : Direction) (w : World) (s : List ir.Stored) (u : js.State) → SameHeap p w s u.heap → (c : List ℕ) (o : Option ir.Stored) (g : Option js.Stored) → SameStored p w c o g → Sim d ◌≡◌ (ir_showing.uncaught_or_wrong (ir_showing.thrown_stored o)) (js_showing.uncaught_or_wrong (js_showing.object_shown (js_showing.class_shown (js_showing.marker_in q u (js_objects.stored_property q g (codes "k")))) (js_objects.stored_property q g (codes "c"))))
+stored_alike p q d w s u heaps _ _ _ (same_object c fields properties told bare fs) = subst (λ o. Sim d ◌≡◌ (done (uncaught (shown.object_of c))) (js_showing.uncaught_or_wrong o)) (sym is) (sim_done d ◌≡◌ (uncaught (shown.object_of c)) (uncaught (shown.object_of c)) refl)
   where
     ls : List js.ClassLink
     ls = links_of p c
@@ -134,7 +134,7 @@ uncaught_alike place p d w _ _ s u same (same_box r n a f b) h = box_alike place
 uncaught_alike place p d w _ _ s u same (same_number n f) h = subst (λ (b : Bool). Sim d ◌≡◌ (done (uncaught (shown.number n))) (js_showing.uncaught_or_wrong (if b then Some (shown.number n) else None))) (sym (number_shown n f)) (sim_done d ◌≡◌ (uncaught (shown.number n)) (uncaught (shown.number n)) refl)
 uncaught_alike place p d w _ _ s u same (same_long n f) h = subst (λ (b : Bool). Sim d ◌≡◌ (done (uncaught (shown.long n))) (js_showing.uncaught_or_wrong (if b then Some (shown.long n) else None))) (sym (long_shown n f)) (sim_done d ◌≡◌ (uncaught (shown.long n)) (uncaught (shown.long n)) refl)
 uncaught_alike place p d w _ _ s u same (same_text us) h = sim_done d ◌≡◌ (uncaught (shown.text us)) (uncaught (shown.text us)) refl
-uncaught_alike place p d w _ _ s u same (same_reference i a e) h = stored_alike place p d w s.heap u same.heaps (slice_get s.heap i) (slice_get u.heap a) (same.heaps.objects i a e)
+uncaught_alike place p d w _ _ s u same (same_reference i a e) h = let o = same.heaps.objects i a e in stored_alike place p d w s.heap u same.heaps o.class (slice_get s.heap i) (slice_get u.heap a) o.alike
 
 -- calls of initializers in a file that reaches them by name
 module _ (p : Place) (f : Name) (reaches : Reaches p f) where
@@ -231,7 +231,8 @@ nothing_there o e = cc
 no_heaps : (p : Place) → SameHeap p (nothing_made (box_link p ∷ [])) [] []
 no_heaps p = record {
   objects = λ i a e. absurd (nothing_there a e);
-  free = λ i a e. absurd (nothing_there a e);
+  free = λ i c e. absurd (nothing_there c e);
+  made = λ i c e. absurd (nothing_there c e);
   differ = λ i j a e g. absurd (nothing_there a e);
   owned = λ a o e. absurd (nothing_there o e);
   marked = λ a constants e. absurd (nothing_there (js.plain [] constants) e);

@@ -38,7 +38,7 @@ use Rattle.sj_calls.specs.Objects.{RunsOn, Constructs}
 pub record Stands (p : Place) (c : List ℕ) (w : World) (u : js.State) : Type 0 where
   pub own : Name → Option js.Value
   pub makers : Makers p.program (link_of p) u (chain_of p.classes c) own
-  pub shape : SameStored p w (Some (zeroed p c)) (Some (js.plain (links_of p c) own))
+  pub shape : SameStored p w c (Some (zeroed p c)) (Some (js.plain (links_of p c) own))
 
 -- objects of the class can be made in each state, and the units beyond those of the IR are enough for its chain
 pub record IsMade (p : Place) (c : List ℕ) : Type 0 where

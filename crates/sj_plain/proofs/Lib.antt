@@ -1,6 +1,7 @@
 pub mod Standing
 pub mod Worlds
 pub mod Heaps
+pub mod Classes
 pub mod Operators
 pub mod Told
 pub mod Orders

@@ -24,11 +24,13 @@ use Rattle.sj_core.specs.Terms as core
 use Rattle.body_rules.specs.Coercions.{is_char}
 use Rattle.body_rules.specs.Tests.{test_name, cast_name}
 use Rattle.body_rules.specs.Templates.{called_member, check_name, member_name, static_name, setter_name, expression_template, statement_templates}
-use Rattle.sj_mangling.specs.Bindings.{class_binding, field_binding}
+use Rattle.sj_mangling.specs.Bindings.{class_binding, field_binding, method_binding}
 use Rattle.sj_mangling.specs.declared.bindings.ClassBinding.TheVariants.{Class, Constants, Marker}
 use Rattle.sj_mangling.specs.declared.bindings.FieldBinding.TheVariants.{Property}
+use Rattle.sj_mangling.specs.declared.bindings.MethodBinding.TheVariants.{Entry}
 use Rattle.sj_names.specs.Same.{is_same_text}
 use Rattle.sj_names.specs.declared.method_names.Member.{Member}
+use Rattle.sj_names.specs.declared.method_names.MethodName.{MethodName}
 use Rattle.body_rules.specs.Subtyping.{IsSubtyping}
 use Rattle.sj_plain.specs.Standing.{suits}
 use Rattle.sj_plain.specs.Worlds.{World, with_pending, Grows, SameValue, SameValues}
@@ -191,26 +193,38 @@ links_of p c = map (link_of p) (chain_of p.classes c)
 abbrev pub box_link : Place → js.ClassLink
 box_link p = record { file = p.home (a_helper BoxedChar); name = helper_name BoxedChar }
 
--- what stands at an address of the IR, and what stands at the address that it has in the world: an object of a class, made by the class that stands for
--- it and by those that this one extends, with a property for each field
-pub data SameStored (p : Place) (w : World) : Option ir.Stored → Option js.Stored → Type 0 where
-  same_object : (c : List ℕ) (fields : ir.Fields) (properties : Name → Option js.Value) → TellsClass w c properties → ((d f : List ℕ) (t : IrType) → IsField p.classes d f t → SameField w t (fields d f) (properties (field_binding Property d f))) → SameStored p w (Some (ir.object c fields)) (Some (js.plain (links_of p c) properties))
+-- no entry of a method is among an object's own properties
+abbrev pub HasNoEntries : (Name → Option js.Value) → Type 0
+HasNoEntries properties = (m : MethodName) → properties (method_binding Entry m) ≡ None
+
+-- what stands at an address of the IR, and what stands at the address that it has in the world: an object of this class, made by the class that stands for
+-- it and by those that this one extends, with a property for each field and no entry of a method
+pub data SameStored (p : Place) (w : World) : List ℕ → Option ir.Stored → Option js.Stored → Type 0 where
+  same_object : (c : List ℕ) (fields : ir.Fields) (properties : Name → Option js.Value) → TellsClass w c properties → HasNoEntries properties → ((d f : List ℕ) (t : IrType) → IsField p.classes d f t → SameField w t (fields d f) (properties (field_binding Property d f))) → SameStored p w c (Some (ir.object c fields)) (Some (js.plain (links_of p c) properties))
 
 -- constants with the marker of a class under `s` have the markers of the classes that stand above it, and of no other
 abbrev pub MarksAncestors : ir_world.World → (Name → Option js.Value) → Type 0
 MarksAncestors classes constants = (c b : List ℕ) → constants (codes "s") ≡ Some (js.text (class_binding Marker c)) → (is_some (constants (class_binding Marker b)) ≡ true) ↔ IsAncestor classes c b
 
--- an object of the IR is of no hijacked class: the values of these are primitive
-abbrev pub IsFree : Option ir.Stored → Type 0
-IsFree (Some (ir.object c fields)) = is_hijacked c ≡ false
-IsFree _ = Unit {0}
+-- the class that the world tells of an address of the IR, and what stands there on both sides
+pub record ObjectAt (p : Place) (w : World) (i : ℕ) (o : Option ir.Stored) (q : Option js.Stored) : Type 0 where
+  pub class : List ℕ
+  pub told : w.classes i ≡ Some class
+  pub alike : SameStored p w class o q
 
--- the heaps stand for each other: what has an address in the world stands on both, and is of no hijacked class; two addresses of the IR have two; what the emitted
--- code has for itself, or has made before the IR, stands where it stood, at no address of the world; constants among it have the markers of ancestors; and objects
--- that hold chars are of their class
+-- the code of some file can make objects of the class
+pub record MadeSomewhere (p : Place) (c : List ℕ) : Type 0 where
+  pub file : Name
+  pub made : (p.has file).made c ≡ true
+
+-- the heaps stand for each other: what has an address in the world stands on both, and is of the class that the world tells, which is no hijacked one, since the
+-- values of these are primitive, and one of which some file's code can make objects; two addresses of the IR have two; what the emitted code has for itself, or has
+-- made before the IR, stands where it stood, at no address of the world; constants among it have the markers of ancestors; and objects that hold chars are of
+-- their class
 pub record SameHeap (p : Place) (w : World) (s : List ir.Stored) (u : List js.Stored) : Type 0 where
-  pub objects : (i a : ℕ) → w.place i ≡ Some a → SameStored p w (slice_get s i) (slice_get u a)
-  pub free : (i a : ℕ) → w.place i ≡ Some a → IsFree (slice_get s i)
+  pub objects : (i a : ℕ) → w.place i ≡ Some a → ObjectAt p w i (slice_get s i) (slice_get u a)
+  pub free : (i : ℕ) (c : List ℕ) → w.classes i ≡ Some c → is_hijacked c ≡ false
+  pub made : (i : ℕ) (c : List ℕ) → w.classes i ≡ Some c → MadeSomewhere p c
   pub differ : (i j a : ℕ) → w.place i ≡ Some a → w.place j ≡ Some a → i ≡ j
   pub owned : (a : ℕ) (o : js.Stored) → w.owned a ≡ Some o → slice_get u a ≡ Some o
   pub marked : (a : ℕ) (constants : Name → Option js.Value) → w.owned a ≡ Some (js.plain [] constants) → MarksAncestors p.classes constants
@@ -294,7 +308,7 @@ zeroed p c = ir.object c (ir_world.new_fields p.classes c)
 
 -- `new` of a class: the emitted code makes the object, and the IR does nothing yet
 pub data Makes (p : Place) (from : World) (c : List ℕ) (env : ir.Env) (s : ir.State) : ir.Ended → js.ExpressionEnd → Type 0 where
-  makes : (a : ℕ) (o : js.Stored) (u : js.State) → ((b : js.Stored) → from.pending a ≡ Some b → ⊥) → SameStored p from (Some (zeroed p c)) (Some o) → SameState p (with_pending a o from) s u → Makes p from c env s (ir.ends (ir.gives ir.undefined) env s) (js.gives (js.object a) u)
+  makes : (a : ℕ) (o : js.Stored) (u : js.State) → ((b : js.Stored) → from.pending a ≡ Some b → ⊥) → SameStored p from c (Some (zeroed p c)) (Some o) → SameState p (with_pending a o from) s u → Makes p from c env s (ir.ends (ir.gives ir.undefined) env s) (js.gives (js.object a) u)
 
 abbrev pub MakesAlike : Setting → List ℕ → Type 0
 MakesAlike z c = (w : World) (env : ir.Env) (s : ir.State) (u : js.State) → SameState z.place w s u → Sim z.direction (Makes z.place w c env s) (done (ir.ends (ir.gives ir.undefined) env s)) (js_meaning.construct z.place.program z.js_low (links_of z.place c) (links_of z.place c) [] u)

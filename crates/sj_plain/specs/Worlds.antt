@@ -10,32 +10,35 @@ use Rattle.sj_mangling.specs.declared.bindings.ClassBinding.TheVariants.{Marker}
 use Rattle.sj_plain.specs.Standing.{suits}
 use Rattle.sj_trees.specs.declared.types.IrType.{IrType}
 
--- the address that the emitted code has for each address of the IR; what it has for itself at other addresses (constants of classes, and objects that hold
+-- the address that the emitted code has for each address of the IR, and the class of the IR's object at it; what it has for itself at other addresses (constants of classes, and objects that hold
 -- chars), which stays as it is; the objects that it has already made and the IR hasn't yet, as they stand; and the class of objects that hold chars
 pub record World : Type 0 where
   pub place : ℕ → Option ℕ
+  pub classes : ℕ → Option (List ℕ)
   pub owned : ℕ → Option js.Stored
   pub pending : ℕ → Option js.Stored
   pub boxes : List js.ClassLink
 
 -- the world of a program that begins
 abbrev pub nothing_made : List js.ClassLink → World
-nothing_made boxes = record { place = λ i. None; owned = λ a. None; pending = λ a. None; boxes = boxes }
+nothing_made boxes = record { place = λ i. None; classes = λ i. None; owned = λ a. None; pending = λ a. None; boxes = boxes }
 
 -- the world in which the emitted code has made this object at this address, and the IR hasn't yet
 abbrev pub with_pending : ℕ → js.Stored → World → World
-with_pending a o w = record { place = w.place; owned = w.owned; pending = λ b. if b == a then Some o else w.pending b; boxes = w.boxes }
+with_pending a o w = record { place = w.place; classes = w.classes; owned = w.owned; pending = λ b. if b == a then Some o else w.pending b; boxes = w.boxes }
 
 -- the world in which the emitted code has made this object for itself at this address
 abbrev pub with_owned : ℕ → js.Stored → World → World
-with_owned a o w = record { place = w.place; owned = λ b. if b == a then Some o else w.owned b; pending = w.pending; boxes = w.boxes }
+with_owned a o w = record { place = w.place; classes = w.classes; owned = λ b. if b == a then Some o else w.owned b; pending = w.pending; boxes = w.boxes }
 
--- the world in which the IR has made its own, at this address, for the one that was pending there
-abbrev pub with_born : ℕ → ℕ → World → World
-with_born i a w = record { place = λ j. if j == i then Some a else w.place j; owned = w.owned; pending = λ b. if b == a then None else w.pending b; boxes = w.boxes }
+-- the world in which the IR has made its own, of this class at this address, for the one that was pending there
+abbrev pub with_born : ℕ → ℕ → List ℕ → World → World
+with_born i a c w = record { place = λ j. if j == i then Some a else w.place j; classes = λ j. if j == i then Some c else w.classes j; owned = w.owned; pending = λ b. if b == a then None else w.pending b; boxes = w.boxes }
 
+-- a world in which what had an address has it still, with its class; and what the emitted code had, it has
 pub record Grows (old new : World) : Type 0 where
   pub places : (i a : ℕ) → old.place i ≡ Some a → new.place i ≡ Some a
+  pub classes : (i a : ℕ) (c : List ℕ) → old.place i ≡ Some a → old.classes i ≡ Some c → new.classes i ≡ Some c
   pub owns : (a : ℕ) (o : js.Stored) → old.owned a ≡ Some o → new.owned a ≡ Some o
   pub pends : (a : ℕ) (o : js.Stored) → old.pending a ≡ Some o → new.pending a ≡ Some o
   pub boxes : old.boxes ≡ new.boxes
