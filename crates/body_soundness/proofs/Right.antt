@@ -6,9 +6,8 @@ use Rattle.std.proofs.lemmas.Bool.{and_parts, or_right}
 use Rattle.std.specs.Cmp.Lexicographic.{pointwise}
 use Rattle.std.specs.List.{list_any}
 use Rattle.std.specs.Ordering.{int_eq}
-use Rattle.outcomes.specs.Outcome.{Lines, End, Done, Going, Wrong, Out, then_do, after}
+use Rattle.outcomes.specs.Outcome.{Lines, End, Done, Going, Wrong, Out, wrong, then_do, after}
 use Rattle.dispatch_laws.proofs.OwnTargets.{own_target}
-use Rattle.dispatch_laws.specs.Calls.{receiver_class}
 use Rattle.dispatch_laws.specs.Dispatch.{chain_of, is_ancestor_of_any}
 use Rattle.dispatch_laws.specs.Meaning as ir_meaning
 use Rattle.dispatch_laws.specs.Operators.{Answer, answers, unary_value, binary_value}
@@ -19,11 +18,11 @@ use Rattle.body_soundness.proofs.Instances.{IsObject, an_object, tested_type, te
 use Rattle.body_soundness.proofs.Sured.{Sured, sured-parts, sure-named, body-sured}
 use Rattle.dispatch_laws.specs.Targets.{IsTargetOf}
 use Rattle.body_soundness.specs.Laws.{HasReceivers, reads, calls, looks, IsClassBelow, made_below, kind_below, Answers, null_pointer, arithmetic, class_cast, ObjectLaws}
-use Rattle.dispatch_laws.specs.World.{World, class_of, method_among, method_in, member_of, class_of_value, stored_class, is_small_number, is_of_type, type_text, zeros_in, zero_of, new_fields}
+use Rattle.dispatch_laws.specs.World.{World, class_of, method_among, method_in, member_of, class_of_value, stored_class, is_instance, is_small_number, is_of_type, type_text, zeros_in, zero_of, new_fields}
 use Rattle.sj_proper.specs.Desugar.{member, has_no_value}
 use Rattle.sj_proper.proofs.Direct.{Applied, directly, by_lookup, applied}
 use Rattle.dispatch_laws.proofs.HijackedCalls.{hijacked_call, takes_any}
-use Rattle.dispatch_laws.proofs.LookedUpCalls.{not_fixed, calls_virtually, takes_instances}
+use Rattle.dispatch_laws.proofs.LookedUpCalls.{calls_instance, takes_instances}
 use Rattle.dispatch_laws.specs.Templates.{check_name, called_member}
 use Rattle.sj_proper.specs.Plain.{is_no_type}
 use Rattle.sj_names.specs.Same.{is_same_text, is_same_namespace, is_same_method}
@@ -861,8 +860,8 @@ module _ (w : World) (law : IsSubtyping (IsSub w)) (has : Usable) where
         go _ (an_object fields) = refl
 
     -- a method that can be looked up on the objects of a class takes each receiver of the class's type
-    instance_is : (c : List ℕ) (m : MethodName) → has.looked_up c m ≡ true → (at : Classes) (v : ir.Value) (env : ir.Env) (st : ir.State) → HasType (IsSub w) law at v (class_type c) → Full v → HeapTyped at st → ir_meaning.only_instance w c v env st ≡ ir.given v env st
-    instance_is c m is at v env st h n heap = ap (λ (o : Option (List ℕ)). if (is_ancestor_of_any w o c || is_small_number v c) then ir.given v env st else ir.wrong) l.told ∙ ap (λ (b : Bool). if (b || is_small_number v c) then ir.given v env st else ir.wrong) (laws.looked c m is l.class l.below).below
+    instance_if : (c : List ℕ) (m : MethodName) → has.looked_up c m ≡ true → (at : Classes) (v : ir.Value) (env : ir.Env) (st : ir.State) (goes : Out ir.Ended) → HasType (IsSub w) law at v (class_type c) → Full v → HeapTyped at st → (if is_instance w st v c then goes else wrong) ≡ goes
+    instance_if c m is at v env st goes h n heap = ap (λ (o : Option (List ℕ)). if (is_ancestor_of_any w o c || is_small_number v c) then goes else wrong) l.told ∙ ap (λ (b : Bool). if (b || is_small_number v c) then goes else wrong) (laws.looked c m is l.class l.below).below
       where
         l : LooksAt at st c v
         l = looks_at at st heap c v h n
@@ -871,16 +870,19 @@ module _ (w : World) (law : IsSubtyping (IsSub w)) (has : Usable) where
     taken_right c m is s own sub at o h = comes_then (λ a. CameRight at s s.locals own a × Only Full a) (λ a. CameRight at s s.locals own a × Only Full a) o (ir.onward (ir_meaning.only_instance w c)) h (λ a p. each a p.0 p.1)
       where
         each : (a : ir.Ended) → CameRight at s s.locals own a → Only Full a → Comes (λ a. CameRight at s s.locals own a × Only Full a) (ir.onward (ir_meaning.only_instance w c) a).end
-        each _ (gave k v env st a g e) n = subst (λ (x : Out ir.Ended). Comes (λ a. CameRight at s s.locals own a × Only Full a) x.end) (sym (instance_is c m is k v env st (operand-type k v own (class_type c) g sub (value-not (class_type c) (class_has_value c))) n e.heap)) (gave k v env st a g e, n)
+        each _ (gave k v env st a g e) n = subst (λ (x : Out ir.Ended). Comes (λ a. CameRight at s s.locals own a × Only Full a) x.end) (sym (instance_if c m is k v env st (ir.given v env st) (operand-type k v own (class_type c) g sub (value-not (class_type c) (class_has_value c))) n e.heap)) (gave k v env st a g e, n)
         each _ (left k l v env st r a i g e) n = (left k l v env st r a i g e, tt)
         each _ (threw k v env st a i e) n = (threw k v env st a i e, tt)
 
     -- a call of a method that is looked up
-    looked_right : (c : List ℕ) (m : MethodName) → has.looked_up c m ≡ true → (s : Scene) (t own : IrType) → t ≡ call_type m.result → ir_meaning.is_fixed_class w (receiver_class own) ≡ false → IsSub w own (class_type c) → (k : Classes) (v : ir.Value) → GivesType k v own → Full v → (y : Classes) → Adds k y → (vs : List ir.Value) (env : ir.Env) (st : ir.State) → ValuesFit y vs m.params → Ready y (frame_of s) s.locals env st → Right y s t (ir_meaning.call_virtual w low own m (v ∷ vs) env st)
-    looked_right c m is s t own result free sub k v g full y b vs env st q i = subst (λ (o : Option (List ℕ)). Right y s t (ir_meaning.call_on w low (ir_meaning.target_in w o m) (v ∷ vs) env st)) (sym (ap (λ (b : Bool). if b then receiver_class own else class_of_value st v) free ∙ l.told)) (received_right l.class Namespace.Public m (member a.owner Namespace.Public m) (laws.received (member a.owner Namespace.Public m) a.received) a.target s t (class_type l.class) result (law.same (class_type l.class)) y v (inr l.typed) full y (adds-refl y) vs env st q i)
+    looked_right : (c : List ℕ) (m : MethodName) → has.looked_up c m ≡ true → (s : Scene) (t own : IrType) → t ≡ call_type m.result → IsSub w own (class_type c) → (k : Classes) (v : ir.Value) → GivesType k v own → Full v → (y : Classes) → Adds k y → (vs : List ir.Value) (env : ir.Env) (st : ir.State) → ValuesFit y vs m.params → Ready y (frame_of s) s.locals env st → Right y s t (ir_meaning.call_instance w low c m (v ∷ vs) env st)
+    looked_right c m is s t own result sub k v g full y b vs env st q i = subst (λ (x : Out ir.Ended). Right y s t x) (sym (instance_if c m is y v env st (ir_meaning.call_on w low (ir_meaning.target_in w (class_of_value st v) m) (v ∷ vs) env st) on full i.heap)) (subst (λ (o : Option (List ℕ)). Right y s t (ir_meaning.call_on w low (ir_meaning.target_in w o m) (v ∷ vs) env st)) (sym l.told) (received_right l.class Namespace.Public m (member a.owner Namespace.Public m) (laws.received (member a.owner Namespace.Public m) a.received) a.target s t (class_type l.class) result (law.same (class_type l.class)) y v (inr l.typed) full y (adds-refl y) vs env st q i))
       where
+        on : HasType (IsSub w) law y v (class_type c)
+        on = type-lift (IsSub w) law k y b v (class_type c) (operand-type k v own (class_type c) g sub (value-not (class_type c) (class_has_value c)))
+
         l : LooksAt y st c v
-        l = looks_at y st i.heap c v (type-lift (IsSub w) law k y b v (class_type c) (operand-type k v own (class_type c) g sub (value-not (class_type c) (class_has_value c)))) full
+        l = looks_at y st i.heap c v on full
 
         a : Answers w has c l.class m
         a = laws.looked c m is l.class l.below
@@ -894,7 +896,7 @@ module _ (w : World) (law : IsSubtyping (IsSub w)) (has : Usable) where
 
         by : Applied w has s p e m ts t → Right at s t (step (apply p e m ts t) env st)
         by (directly q) = let c = q.is.direct.class in subst (λ (r : ir.Run). Right at s t (ir_meaning.in_order (r ∷ ir_meaning.operands w low ts) (ir_meaning.call_method w low (type_of_term e) m m.result) env st)) (sym (takes_any w low (type_of_term e) m c q.is.direct.receiver q.is.direct.hijacked received)) (subst (λ (act : List ir.Value → ir.Run). Right at s t (ir_meaning.in_order (received ∷ ir_meaning.operands w low ts) act env st)) (sym (hijacked_call w low (type_of_term e) m c q.is.direct.receiver q.is.direct.hijacked q.is.result q.is.named)) (go_on_both at s s.locals (type_of_term e) s.locals t Full (received env st) (λ a. ir_meaning.in_order (ir_meaning.operands w low ts) (λ vs. ir_meaning.call_on w low (ir_meaning.static_target w c Namespace.Public m) (a ∷ vs))) (receiver_right (calls (has.lookup.target (member c Namespace.Public m)) q.there) e s h.1 (check_there e s q.checked) at env st i does) (λ y b a env st g n i. others y (λ vs. ir_meaning.call_on w low (ir_meaning.static_target w c Namespace.Public m) (a ∷ vs)) env st i (λ z d vs env st k i. received_right c Namespace.Public m (has.lookup.target (member c Namespace.Public m)) (laws.received (has.lookup.target (member c Namespace.Public m)) q.there) (laws.targets (member c Namespace.Public m) q.there) s t (type_of_term e) h.0.meets.1 (q.is.direct.below w) y a g n z d vs env st k i))))
-        by (by_lookup q) = let l = q.is.lookup in let c = l.class in subst (λ (r : ir.Run). Right at s t (ir_meaning.in_order (r ∷ ir_meaning.operands w low ts) (ir_meaning.call_method w low (type_of_term e) m m.result) env st)) (sym (takes_instances w (type_of_term e) m c l.receiver l.free q.is.result q.is.named received)) (subst (λ (act : List ir.Value → ir.Run). Right at s t (ir_meaning.in_order ((λ env s. ir.go_on (received env s) (ir_meaning.only_instance w c)) ∷ ir_meaning.operands w low ts) act env st)) (sym (calls_virtually w (type_of_term e) m c l.receiver l.free q.is.result q.is.named low)) (go_on_both at s s.locals (type_of_term e) s.locals t Full (ir.go_on (received env st) (ir_meaning.only_instance w c)) (λ a. ir_meaning.in_order (ir_meaning.operands w low ts) (λ vs. ir_meaning.call_virtual w low (type_of_term e) m (a ∷ vs))) (taken_right c m l.there s (type_of_term e) (l.below w) at (received env st) (receiver_right (looks c m l.there) e s h.1 (check_there e s q.checked) at env st i does)) (λ y b a env st g n i. others y (λ vs. ir_meaning.call_virtual w low (type_of_term e) m (a ∷ vs)) env st i (λ z d vs env st k i. looked_right c m l.there s t (type_of_term e) h.0.meets.1 (not_fixed w (type_of_term e) m c l.receiver l.free q.is.result q.is.named) (l.below w) y a g n z d vs env st k i))))
+        by (by_lookup q) = let l = q.is.lookup in let c = l.class in subst (λ (r : ir.Run). Right at s t (ir_meaning.in_order (r ∷ ir_meaning.operands w low ts) (ir_meaning.call_method w low (type_of_term e) m m.result) env st)) (sym (takes_instances w (type_of_term e) m c l.receiver l.free q.is.result q.is.named received)) (subst (λ (act : List ir.Value → ir.Run). Right at s t (ir_meaning.in_order ((λ env s. ir.go_on (received env s) (ir_meaning.only_instance w c)) ∷ ir_meaning.operands w low ts) act env st)) (sym (calls_instance w (type_of_term e) m c l.receiver l.free q.is.result q.is.named low)) (go_on_both at s s.locals (type_of_term e) s.locals t Full (ir.go_on (received env st) (ir_meaning.only_instance w c)) (λ a. ir_meaning.in_order (ir_meaning.operands w low ts) (λ vs. ir_meaning.call_instance w low c m (a ∷ vs))) (taken_right c m l.there s (type_of_term e) (l.below w) at (received env st) (receiver_right (looks c m l.there) e s h.1 (check_there e s q.checked) at env st i does)) (λ y b a env st g n i. others y (λ vs. ir_meaning.call_instance w low c m (a ∷ vs)) env st i (λ z d vs env st k i. looked_right c m l.there s t (type_of_term e) h.0.meets.1 (l.below w) y a g n z d vs env st k i))))
 
     -- a definition: the local is in scope behind it
     definition_right : (p : Position) (x : List ℕ) (t : IrType) (b : Bool) (e : Term) → TreeRight e → (s : Scene) → InScope (frame_of s) s.locals → Typed w has s (var_def p x t b e) → Fresh s (Own (var_def p x t b e)) → Sures s (definitions (var_def p x t b e)) → (at : Classes) (env : ir.Env) (st : ir.State) → Ready at (frame_of s) s.locals env st → Comes (CameRight at s (record { name = x; «mutable» = b; tpe = t } ∷ s.locals) NoType) (step (var_def p x t b e) env st).end

@@ -16,4 +16,3 @@ pub use Rattle.ir_mean.specs.Refusals
 pub use Rattle.ir_mean.specs.Subtypes
 pub use Rattle.emit_questions.specs.Names
 pub use Rattle.emit_questions.specs.Tests
-pub use Rattle.ir_mean.specs.Calls

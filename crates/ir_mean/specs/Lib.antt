@@ -15,4 +15,3 @@ pub use Rattle.sj_world.specs.Paths
 pub use Rattle.sj_world.specs.Refusals
 pub use Rattle.sj_world.specs.Resolution
 pub use Rattle.sj_world.specs.Subtypes
-pub use Rattle.sj_world.specs.Calls

@@ -25,7 +25,7 @@ use Rattle.ir_mean.specs.Operators.{Answer, answers, raises, lacks, unary_value,
 use Rattle.sj_names.specs.Same.{is_same_text}
 use Rattle.ir_mean.specs.States.{Value, undefined, null, boolean, char, number, long, text, reference, Stored, object, array, State, Locals, Env, Kind, gives, throws, leaves, stops, Ended, ends, Run, given, go_on, next_address, with_stored, at_address, with_field, with_static, with_cell}
 use Rattle.sure_receivers.specs.Sure.{is_sure, sure_locals}
-use Rattle.ir_mean.specs.World.{World, member_of, new_fields, class_of_value, is_of_type, zero_of, cast_of_null, type_text}
+use Rattle.ir_mean.specs.World.{World, member_of, new_fields, class_of_value, is_instance, is_of_type, zero_of, cast_of_null, type_text}
 
 -- trees evaluated with one unit less than what stands around them: the bodies of calls and the next turns of loops
 abbrev pub Low : Type 0
@@ -350,14 +350,14 @@ module _ (world : World) where
   taking None r = r
   taking (Some c) r = λ env s. go_on (r env s) (only_instance c)
 
-  -- Apply with a receiver class: a hijacked one decides where the call looks, and else the value's own class
-  abbrev pub is_fixed_class : Option (List ℕ) → Bool
-  is_fixed_class None = false
-  is_fixed_class (Some c) = is_hijacked c
+  -- Apply with a receiver class: a hijacked one decides where the call looks, and else the value's own class, where the value is an instance
+  abbrev pub call_instance : Low → List ℕ → MethodName → List Value → Run
+  call_instance low c m (v ∷ vs) env s = if is_instance world s v c then call_on low (target_in (class_of_value s v) m) (v ∷ vs) env s else wrong
+  call_instance low c m [] env s = wrong
 
-  abbrev pub call_virtual : Low → IrType → MethodName → List Value → Run
-  call_virtual low t m (v ∷ vs) env s = call_on low (target_in (if is_fixed_class (receiver_class t) then receiver_class t else class_of_value s v) m) (v ∷ vs) env s
-  call_virtual low t m [] env s = wrong
+  abbrev pub call_virtual : Low → Option (List ℕ) → MethodName → List Value → Run
+  call_virtual low None m vs env s = wrong
+  call_virtual low (Some c) m vs env s = if is_hijacked c then call_on low (target_in (Some c) m) vs env s else call_instance low c m vs env s
 
   -- a reflective call: the proxy target of the value's own class, resolved again from that class
   abbrev pub call_named : Low → MethodName → List ℕ → Option MethodDef → List Value → Run
@@ -375,7 +375,7 @@ module _ (world : World) where
   -- a name without a result is that of a reflective call
   abbrev pub call_method : Low → IrType → MethodName → Option TypeRef → List Value → Run
   call_method low t m None = call_reflective low m
-  call_method low t m (Some r) = call_virtual low t m
+  call_method low t m (Some r) = call_virtual low (receiver_class t) m
 
   -- ApplyStatically: in Public the target of the class that is named, else its own member
   abbrev pub static_target : List ℕ → Namespace → MethodName → Option MethodDef
