@@ -1,7 +1,7 @@
 -- A body that keeps the rules is never wrong by the IR; what it gives or throws is of its type, and each object keeps its class, with fields of their
 -- types.
 use Rattle.std.proofs.Common.{◌≡◌, ℕ, zero, suc, arith, codes, ◌++◌, ◌&&◌, ◌||◌, Bool, true, false, List, [], ◌∷◌, Some, None, Option, refl, sym, ap, ◌∙◌, subst, ◌⊎◌, inl, inr, ⊎_elim, if◌then◌else◌}
-use Rattle.std.specs.Prelude.{nat_eq, slice_get, set, ◌==◌, is_some, ℤ, pos}
+use Rattle.std.specs.Prelude.{nat_eq, slice_get, set, ◌==◌, is_some, not, ℤ, pos}
 use Rattle.std.proofs.lemmas.Bool.{and_parts, or_right}
 use Rattle.std.specs.Cmp.Lexicographic.{pointwise}
 use Rattle.std.specs.List.{list_any}
@@ -896,7 +896,7 @@ module _ (w : World) (law : IsSubtyping (IsSub w)) (has : Usable) where
 
         by : Applied w has s p e m ts t → Right at s t (step (apply p e m ts t) env st)
         by (directly q) = let c = q.is.direct.class in subst (λ (r : ir.Run). Right at s t (ir_meaning.in_order (r ∷ ir_meaning.operands w low ts) (ir_meaning.call_method w low (type_of_term e) m m.result) env st)) (sym (takes_any w low (type_of_term e) m c q.is.direct.receiver q.is.direct.hijacked received)) (subst (λ (act : List ir.Value → ir.Run). Right at s t (ir_meaning.in_order (received ∷ ir_meaning.operands w low ts) act env st)) (sym (hijacked_call w low (type_of_term e) m c q.is.direct.receiver q.is.direct.hijacked q.is.result q.is.named)) (go_on_both at s s.locals (type_of_term e) s.locals t Full (received env st) (λ a. ir_meaning.in_order (ir_meaning.operands w low ts) (λ vs. ir_meaning.call_on w low (ir_meaning.static_target w c Namespace.Public m) (a ∷ vs))) (receiver_right (calls (has.lookup.target (member c Namespace.Public m)) q.there) e s h.1 (check_there e s q.checked) at env st i does) (λ y b a env st g n i. others y (λ vs. ir_meaning.call_on w low (ir_meaning.static_target w c Namespace.Public m) (a ∷ vs)) env st i (λ z d vs env st k i. received_right c Namespace.Public m (has.lookup.target (member c Namespace.Public m)) (laws.received (has.lookup.target (member c Namespace.Public m)) q.there) (laws.targets (member c Namespace.Public m) q.there) s t (type_of_term e) h.0.meets.1 (q.is.direct.below w) y a g n z d vs env st k i))))
-        by (by_lookup q) = let l = q.is.lookup in let c = l.class in subst (λ (r : ir.Run). Right at s t (ir_meaning.in_order (r ∷ ir_meaning.operands w low ts) (ir_meaning.call_method w low (type_of_term e) m m.result) env st)) (sym (takes_instances w (type_of_term e) m c l.receiver l.free q.is.result q.is.named received)) (subst (λ (act : List ir.Value → ir.Run). Right at s t (ir_meaning.in_order ((λ env s. ir.go_on (received env s) (ir_meaning.only_instance w c)) ∷ ir_meaning.operands w low ts) act env st)) (sym (calls_instance w (type_of_term e) m c l.receiver l.free q.is.result q.is.named low)) (go_on_both at s s.locals (type_of_term e) s.locals t Full (ir.go_on (received env st) (ir_meaning.only_instance w c)) (λ a. ir_meaning.in_order (ir_meaning.operands w low ts) (λ vs. ir_meaning.call_instance w low c m (a ∷ vs))) (taken_right c m l.there s (type_of_term e) (l.below w) at (received env st) (receiver_right (looks c m l.there) e s h.1 (check_there e s q.checked) at env st i does)) (λ y b a env st g n i. others y (λ vs. ir_meaning.call_instance w low c m (a ∷ vs)) env st i (λ z d vs env st k i. looked_right c m l.there s t (type_of_term e) h.0.meets.1 (l.below w) y a g n z d vs env st k i))))
+        by (by_lookup q) = let l = q.is.lookup in let c = l.class in let up = (and_parts (has.looked_up c m) (has.dispatched m || not (has.lookup.has_hijacked c)) l.there).0 in subst (λ (r : ir.Run). Right at s t (ir_meaning.in_order (r ∷ ir_meaning.operands w low ts) (ir_meaning.call_method w low (type_of_term e) m m.result) env st)) (sym (takes_instances w (type_of_term e) m c l.receiver l.free q.is.result q.is.named received)) (subst (λ (act : List ir.Value → ir.Run). Right at s t (ir_meaning.in_order ((λ env s. ir.go_on (received env s) (ir_meaning.only_instance w c)) ∷ ir_meaning.operands w low ts) act env st)) (sym (calls_instance w (type_of_term e) m c l.receiver l.free q.is.result q.is.named low)) (go_on_both at s s.locals (type_of_term e) s.locals t Full (ir.go_on (received env st) (ir_meaning.only_instance w c)) (λ a. ir_meaning.in_order (ir_meaning.operands w low ts) (λ vs. ir_meaning.call_instance w low c m (a ∷ vs))) (taken_right c m up s (type_of_term e) (l.below w) at (received env st) (receiver_right (looks c m up) e s h.1 (check_there e s q.checked) at env st i does)) (λ y b a env st g n i. others y (λ vs. ir_meaning.call_instance w low c m (a ∷ vs)) env st i (λ z d vs env st k i. looked_right c m up s t (type_of_term e) h.0.meets.1 (l.below w) y a g n z d vs env st k i))))
 
     -- a definition: the local is in scope behind it
     definition_right : (p : Position) (x : List ℕ) (t : IrType) (b : Bool) (e : Term) → TreeRight e → (s : Scene) → InScope (frame_of s) s.locals → Typed w has s (var_def p x t b e) → Fresh s (Own (var_def p x t b e)) → Sures s (definitions (var_def p x t b e)) → (at : Classes) (env : ir.Env) (st : ir.State) → Ready at (frame_of s) s.locals env st → Comes (CameRight at s (record { name = x; «mutable» = b; tpe = t } ∷ s.locals) NoType) (step (var_def p x t b e) env st).end

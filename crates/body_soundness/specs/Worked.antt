@@ -75,6 +75,7 @@ object_use = record {
   lookup = own_targets;
   received = is_member (member class_name Private get_name);
   looked_up = λ c m. false;
+  dispatched = λ m. false;
   built = is_member (member class_name Constructor init_name);
   made = λ c. is_same_text c class_name || is_same_text c object_name;
   field = λ c f t. is_same_text c class_name && (is_same_text f field_name && is_same_type t Int);

@@ -3,7 +3,7 @@ use Rattle.std.proofs.Common.{◌≡◌, ◌∙◌, ℕ, Bool, true, false, List
 use Rattle.std.specs.Prelude.{nat_eq}
 use Rattle.std.specs.Cmp.Lexicographic.{pointwise}
 use Rattle.std.proofs.lemmas.Bool.{or_right}
-use Rattle.built_forms.specs.Built.{Usable, can_call}
+use Rattle.built_forms.specs.Built.{Usable, can_call, can_look_up}
 use Rattle.sj_desugar.specs.CalleeVariants as callees
 use Rattle.sj_desugar.specs.Desugar.{member, called_in, called_on, named_by, callee_of}
 use Rattle.sj_names.proofs.Same.{impossible}
@@ -34,7 +34,7 @@ pub record IsLookedUp (has : Usable) (t : IrType) (m : MethodName) : Type 0 wher
   pub free : is_hijacked class ≡ false
   pub called : called_on t m ≡ callees.LookedUp class m
   pub below : (w : Classes) → IsSub w t (class_type class)
-  pub there : has.looked_up class m ≡ true
+  pub there : can_look_up has class m ≡ true
 
 pub data HowCalled (has : Usable) (t : IrType) (m : MethodName) : Type 0 where
   directly : IsDirect t m → HowCalled has t m

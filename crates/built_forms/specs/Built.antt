@@ -31,13 +31,14 @@ is_nonzero_long (long_literal p z) = not (int_eq z (pos 0))
 is_nonzero_long _ = false
 
 -- what a body can use: the static members that are linked, and those that run on a receiver, with what is known of the classes where these are called; the methods that are looked
--- up on the objects of a class; the constructors that are linked; the classes of which objects are made; their fields and the static fields that can be read and those that can be set, with their types; the types for which
+-- up on the instances of a class, and those of which there is a function that tells primitive instances apart; the constructors that are linked; the classes of which objects are made; their fields and the static fields that can be read and those that can be set, with their types; the types for which
 -- there is a test, and those for which there is a cast; helpers, by their names; and whether it can throw, and name the object that it runs on
 pub record Usable : Type 0 where
   pub linked : Member → Bool
   pub lookup : Lookup
   pub received : Member → Bool
   pub looked_up : List ℕ → MethodName → Bool
+  pub dispatched : MethodName → Bool
   pub built : Member → Bool
   pub made : List ℕ → Bool
   pub field : List ℕ → List ℕ → IrType → Bool
@@ -58,7 +59,7 @@ may_make has boxed = can_box has || not boxed
 
 -- these static members and nothing else
 abbrev pub members_alone : (Member → Bool) → Usable
-members_alone linked = record { linked = linked; lookup = own_targets; received = λ m. false; looked_up = λ c m. false; built = λ m. false; made = λ c. false; field = λ c f t. false; static_field = λ c f t. false; static_setter = λ c f t. false; tests = λ t. false; casts = λ t. false; helper = λ x. false; objects = false }
+members_alone linked = record { linked = linked; lookup = own_targets; received = λ m. false; looked_up = λ c m. false; dispatched = λ m. false; built = λ m. false; made = λ c. false; field = λ c f t. false; static_field = λ c f t. false; static_setter = λ c f t. false; tests = λ t. false; casts = λ t. false; helper = λ x. false; objects = false }
 
 -- a static field can be read or set
 abbrev pub has_static : Usable → List ℕ → List ℕ → IrType → Bool
@@ -91,10 +92,14 @@ is_operation has LongDivide d = divides has LongDivide || is_nonzero_long d
 is_operation has LongRemainder d = divides has LongRemainder || is_nonzero_long d
 is_operation has _ d = true
 
+-- a method can be looked up on the instances of the class; where a hijacked class stands there or below, by the function that tells primitive ones apart
+abbrev pub can_look_up : Usable → List ℕ → MethodName → Bool
+can_look_up has c m = has.looked_up c m && (has.dispatched m || not (has.lookup.has_hijacked c))
+
 -- what is called on a receiver: the target of a public member, and a method that is looked up; one of an array, and one by its reflective name, can't be called yet
 abbrev pub can_call : Usable → Callee → Bool
 can_call has (callees.Member m) = has.received (has.lookup.target m)
-can_call has (callees.LookedUp c m) = has.looked_up c m
+can_call has (callees.LookedUp c m) = can_look_up has c m
 can_call has _ = false
 
 -- what a body can use, and the receivers that are never null or whose null check can be used
@@ -206,7 +211,7 @@ is_testable t = has_kind t
 
 -- whatever is made and used of objects, but for methods that are looked up, constructors with a value, and tests of arrays and casts to them
 abbrev pub any_object : Usable
-any_object = record { linked = λ m. true; lookup = own_targets; received = λ m. true; looked_up = λ c m. false; built = λ m. has_no_value m.method.result; made = λ c. true; field = λ c f t. true; static_field = λ c f t. true; static_setter = λ c f t. true; tests = is_testable; casts = is_testable; helper = λ x. true; objects = true }
+any_object = record { linked = λ m. true; lookup = own_targets; received = λ m. true; looked_up = λ c m. false; dispatched = λ m. false; built = λ m. has_no_value m.method.result; made = λ c. true; field = λ c f t. true; static_field = λ c f t. true; static_setter = λ c f t. true; tests = is_testable; casts = is_testable; helper = λ x. true; objects = true }
 
 -- the body is of these forms, whatever it calls, makes and reads
 abbrev pub is_object_body : MethodDef → Term → Bool

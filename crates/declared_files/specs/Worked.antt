@@ -96,6 +96,7 @@ main_use = record {
   lookup = own_targets;
   received = is_member (member class_name Private get_name);
   looked_up = λ c m. false;
+  dispatched = λ m. false;
   built = is_member (member class_name Constructor init_name);
   made = is_same_text class_name;
   field = λ c f t. false;
@@ -111,7 +112,9 @@ abbrev pub class_use : Usable
 class_use = record {
   linked = λ m. false;
   lookup = own_targets;
-  received = λ m. false; looked_up = λ c m. false;
+  received = λ m. false;
+  looked_up = λ c m. false;
+  dispatched = λ m. false;
   built = λ m. false;
   made = is_same_text object_name;
   field = λ c f t. is_same_text c class_name && (is_same_text f field_name && is_same_type t Int);

@@ -12,7 +12,7 @@ use Rattle.sj_world.specs.Known.{Name, is_hijacked}
 
 module _ (w : World) (low : Low) (t : IrType) (m : MethodName) (c : Name) (receiver : receiver_class t ≡ Some c) (hijacked : is_hijacked c ≡ true) where
   runs : call_virtual w low (receiver_class t) m ≡ call_on w low (static_target w c Public m)
-  runs = ap (λ (o : Option Name). call_virtual w low o m) receiver ∙ ap (λ (b : Bool) (vs : List Value) (env : Env) (s : State). if b then call_on w low (target_in w (Some c) m) vs env s else call_instance w low c m vs env s) hijacked
+  runs = ap (λ (o : Option Name). call_virtual w low o m) receiver ∙ ap {B = List Value → Run} (λ (b : Bool) (vs : List Value) (env : Env) (s : State). if b then call_on w low (target_in w (Some c) m) vs env s else call_instance w low c m vs env s) hijacked
 
   pub hijacked_call : (r : TypeRef) → m.result ≡ Some r → call_method w low t m m.result ≡ call_on w low (static_target w c Public m)
   hijacked_call r named = ap (call_method w low t m) named ∙ runs

@@ -287,6 +287,15 @@ abbrev pub method_found : Option Found → Option MethodDef
 method_found None = None
 method_found (Some found) = Some found.method
 
+-- the class of which the receiver of Apply has to be an instance: the receiver class, where the value's own class decides where the call looks
+abbrev pub looked_class : Option (List ℕ) → Option (List ℕ)
+looked_class None = None
+looked_class (Some c) = if is_hijacked c then None else Some c
+
+abbrev pub class_looked_up : IrType → Option TypeRef → Option (List ℕ)
+class_looked_up t None = None
+class_looked_up t (Some r) = looked_class (receiver_class t)
+
 module _ (world : World) where
   -- New: an object of the class is made, with its fields at the zeros of their types; its constructor runs on it, with one unit less; and it is given
   abbrev pub construct : Low → List ℕ → MethodName → List Value → Run
@@ -332,15 +341,6 @@ module _ (world : World) where
   abbrev pub target_in : Option (List ℕ) → MethodName → Option MethodDef
   target_in None m = None
   target_in (Some c) m = method_found (resolved world c m)
-
-  -- the class of which the receiver of Apply has to be an instance: the receiver class, where the value's own class decides where the call looks
-  abbrev pub looked_class : Option (List ℕ) → Option (List ℕ)
-  looked_class None = None
-  looked_class (Some c) = if is_hijacked c then None else Some c
-
-  abbrev pub class_looked_up : IrType → Option TypeRef → Option (List ℕ)
-  class_looked_up t None = None
-  class_looked_up t (Some r) = looked_class (receiver_class t)
 
   -- a receiver of such a call: what is no instance takes none, and so its arguments aren't evaluated
   abbrev pub only_instance : List ℕ → Value → Run

@@ -103,6 +103,7 @@ used_of w facts all live helpers written = record {
   lookup = lookup_in w;
   received = λ m. is_received m.namespace && (is_among written m.class && has_function all m);
   looked_up = λ c m. false;
+  dispatched = λ m. false;
   built = λ m. is_constructor_without_value m && (is_among written m.class && has_function all m);
   made = λ c. is_among written c && is_among live c;
   field = λ c f t. has_field_in (class_of w c) f t;

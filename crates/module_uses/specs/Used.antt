@@ -16,6 +16,7 @@ restricted has uses = record {
   lookup = has.lookup;
   received = λ m. has.received m && uses (function_binding m);
   looked_up = has.looked_up;
+  dispatched = has.dispatched;
   built = λ m. has.built m && uses (function_binding m);
   made = λ c. has.made c && uses (class_use c);
   field = has.field;

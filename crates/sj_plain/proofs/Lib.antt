@@ -11,6 +11,7 @@ pub mod Divisions
 pub mod Tops
 pub mod Divided
 pub mod Objects
+pub mod Looked
 pub mod Received
 pub mod Tests
 pub mod Plain

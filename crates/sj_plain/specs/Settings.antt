@@ -10,13 +10,14 @@ use Rattle.helper_rules.specs.declared.kinds.Helper.{Helper}
 use Rattle.helper_rules.specs.declared.kinds.Helper.TheVariants.{BoxedChar, ConstantsOf, NotNull}
 use Rattle.helper_rules.specs.declared.kinds.Helper.TheVariants as helpers
 use Rattle.helper_rules.specs.declared.kinds.Kind.TheVariants as kinds
-use Rattle.ir_mean.specs.Dispatch.{chain_of}
+use Rattle.ir_mean.specs.Dispatch.{chain_of, is_ancestor}
 use Rattle.ir_mean.specs.Meaning as ir_meaning
 use Rattle.ir_mean.specs.Operators.{binary_value}
 use Rattle.ir_mean.specs.States as ir
 use Rattle.ir_mean.specs.World as ir_world
 use Rattle.js_mean.specs.Files.{owner}
 use Rattle.js_mean.specs.Meaning as js_meaning
+use Rattle.js_mean.specs.Objects as js_objects
 use Rattle.js_mean.specs.States as js
 use Rattle.js_mean.specs.Shows.{object_shown, class_marked}
 use Rattle.outcomes.specs.Shown as shown_ends
@@ -27,7 +28,7 @@ use Rattle.body_rules.specs.Templates.{called_member, check_name, member_name, s
 use Rattle.sj_mangling.specs.Bindings.{class_binding, field_binding, method_binding}
 use Rattle.sj_mangling.specs.declared.bindings.ClassBinding.TheVariants.{Class, Constants, Marker}
 use Rattle.sj_mangling.specs.declared.bindings.FieldBinding.TheVariants.{Property}
-use Rattle.sj_mangling.specs.declared.bindings.MethodBinding.TheVariants.{Entry}
+use Rattle.sj_mangling.specs.declared.bindings.MethodBinding.TheVariants.{Entry, Dispatch}
 use Rattle.sj_names.specs.Same.{is_same_text}
 use Rattle.sj_names.specs.declared.method_names.Member.{Member}
 use Rattle.sj_names.specs.declared.method_names.MethodName.{MethodName}
@@ -37,7 +38,7 @@ use Rattle.sj_plain.specs.Worlds.{World, with_pending, Grows, SameValue, SameVal
 use Rattle.ir_mean.specs.Ancestors.{IsAncestor}
 use Rattle.ir_mean.specs.Known.{is_hijacked}
 use Rattle.ir_mean.specs.Subtypes.{IsSub}
-use Rattle.body_rules.specs.Built.{Usable, has_static, can_box, divides, compares}
+use Rattle.body_rules.specs.Built.{Usable, has_static, can_box, divides, compares, can_look_up}
 use Rattle.body_rules.specs.Locals.{Scope, HasValue}
 use Rattle.body_rules.specs.Standing.{types_referred, call_type}
 use Rattle.sj_trees.specs.declared.classes.ClassDef.{ClassDef}
@@ -50,12 +51,14 @@ use Rattle.body_rules.specs.Rules.{left_operand, right_operand}
 use Rattle.sj_trees.specs.declared.types.IrType.{IrType}
 use Rattle.sj_trees.specs.declared.types.IrType.TheVariants.{Any, Boolean, Array, NoType}
 
--- a binding at the top of a file of the emitted code: the function of a static member, of one that runs on a receiver, and of a constructor; a class, and
+-- a binding at the top of a file of the emitted code: the function of a static member, of one that runs on a receiver, and of a constructor; the function that tells
+-- the receivers of a method apart; a class, and
 -- its constants; the variable of a static field of this type, and the function that sets it; the test of a type, and the cast to it; and a helper
 pub data Top : Type 0 where
   a_function : Member → Top
   a_method : Member → Top
   a_constructor : Member → Top
+  a_dispatch : MethodName → Top
   a_class : List ℕ → Top
   some_constants : List ℕ → Top
   a_static : List ℕ → List ℕ → IrType → Top
@@ -68,6 +71,7 @@ abbrev pub top_name : Top → Name
 top_name (a_function m) = member_name m
 top_name (a_method m) = member_name m
 top_name (a_constructor m) = member_name m
+top_name (a_dispatch m) = method_binding Dispatch m
 top_name (a_class c) = class_binding Class c
 top_name (some_constants c) = class_binding Constants c
 top_name (a_static c f t) = static_name c f
@@ -81,6 +85,7 @@ abbrev pub is_usable : Usable → Top → Bool
 is_usable has (a_function m) = has.linked m
 is_usable has (a_method m) = has.received m
 is_usable has (a_constructor m) = has.built m
+is_usable has (a_dispatch m) = has.dispatched m
 is_usable has (a_class c) = has.made c
 is_usable has (some_constants c) = has.made c
 is_usable has (a_static c f t) = has.static_field c f t
@@ -331,6 +336,40 @@ BuildsAlike z m = (w : World) (v : ir.Value) (x : js.Value) (vs : List ir.Value)
 abbrev pub ReceivesAlike : Setting → Member → Type 0
 ReceivesAlike z m = (w : World) (v : ir.Value) (x : js.Value) (vs : List ir.Value) (xs : List js.Value) (env : ir.Env) (s : ir.State) (u : js.State) → IsReceiver w m.class v x → SameValues w (types_referred m.method.params) vs xs → SameState z.place w s u → Sim z.direction (Valued z.place w env (call_type m.method.result)) (ir_meaning.call z.low (ir_meaning.static_target z.place.classes m.class m.namespace m.method) (Some v) vs env s) (top_call z.place z.js_low (a_method (called_member (usable z).lookup m.namespace m)) (x ∷ xs) u)
 
+-- the class of a value: that which the world tells of the address of an object, and of a primitive value the one that it has in each state
+pub data ClassTold (w : World) : ir.Value → List ℕ → Type 0 where
+  of_object : (i a : ℕ) (c : List ℕ) → w.place i ≡ Some a → w.classes i ≡ Some c → ClassTold w (ir.reference i) c
+  of_kind : (v : ir.Value) (c : List ℕ) → ((s : ir.State) → ir_world.class_of_value s v ≡ Some c) → ClassTold w v c
+
+-- a value on which a method may be looked up that is called on instances of the class, and the one that stands for it
+pub record IsInstance (classes : ir_world.World) (w : World) (c : List ℕ) (v : ir.Value) (x : js.Value) : Type 0 where
+  pub stands : SameValue w (class_type c) v x
+  pub class : List ℕ
+  pub told : ClassTold w v class
+  pub below : is_ancestor classes class c ≡ true
+
+-- a call of the method that the class of the value decides on
+abbrev pub call_by_class : Setting → MethodName → List ℕ → ir.Value → List ir.Value → ir.Run
+call_by_class z m c v vs = ir_meaning.call_on z.place.classes z.low (ir_meaning.target_in z.place.classes (Some c) m) (v ∷ vs)
+
+-- the function that tells the receivers of a method apart, on an instance of the class
+abbrev pub DispatchesAlike : Setting → List ℕ → MethodName → Type 0
+DispatchesAlike z c m = (w : World) (v : ir.Value) (x : js.Value) (one : IsInstance z.place.classes w c v x) (vs : List ir.Value) (xs : List js.Value) (env : ir.Env) (s : ir.State) (u : js.State) → SameValues w (types_referred m.params) vs xs → SameState z.place w s u → Sim z.direction (Valued z.place w env (call_type m.result)) (call_by_class z m one.class v vs env s) (top_call z.place z.js_low (a_dispatch m) (x ∷ xs) u)
+
+-- the entry of a method that is read off an object, and what a call of it does from there on
+pub record Finds (z : Setting) (m : MethodName) (w : World) (c : List ℕ) (v : ir.Value) (x : js.Value) (u : js.State) : Type 0 where
+  pub found : js_objects.Callee
+  pub is : js_objects.callee z.place.program u x (method_binding Entry m) ≡ Some found
+  pub calls : (y : World) → Grows w y → (vs : List ir.Value) (xs : List js.Value) (env : ir.Env) (sc : js.Scope) (s : ir.State) (k : js.State) → SameValues y (types_referred m.params) vs xs → SameState z.place y s k → Sim z.direction (Valued z.place y env (call_type m.result)) (call_by_class z m c v vs env s) (js_meaning.call_with_this z.place.program z.js_low x found xs sc k)
+
+abbrev pub EntriesAlike : Setting → List ℕ → MethodName → Type 0
+EntriesAlike z c m = (w : World) (v : ir.Value) (x : js.Value) (one : IsInstance z.place.classes w c v x) (s : ir.State) (u : js.State) → SameState z.place w s u → Finds z m w one.class v x u
+
+-- a method that is looked up: where a primitive value may be the receiver, by that function, and else by the object's entry
+abbrev pub LooksUp : Bool → Setting → List ℕ → MethodName → Type 0
+LooksUp true z c m = DispatchesAlike z c m
+LooksUp false z c m = EntriesAlike z c m
+
 -- an assignment to a static field of this type, and a call of the function that sets its variable
 abbrev pub SetsAlike : Setting → List ℕ → List ℕ → IrType → Type 0
 SetsAlike z c f t = (w : World) (v : ir.Value) (x : js.Value) (env : ir.Env) (s : ir.State) (u : js.State) → SameValue w t v x → SameState z.place w s u → Sim z.direction (Valued z.place w env NoType) (ir_meaning.assign_static c f (v ∷ []) env s) (top_call z.place z.js_low (a_setter c f t) (x ∷ []) u)
@@ -367,6 +406,7 @@ pub record Based (z : Setting) : Type 0 where
   pub sets : (c f : List ℕ) (t : IrType) → (usable z).static_setter c f t ≡ true → SetsAlike z c f t
   pub calls : (m : Member) → (usable z).linked m ≡ true → CallsAlike z m
   pub receives : (m : Member) → (usable z).received (called_member (usable z).lookup m.namespace m) ≡ true → ReceivesAlike z m
+  pub looks : (c : List ℕ) (m : MethodName) → can_look_up (usable z) c m ≡ true → LooksUp ((usable z).lookup.has_hijacked c) z c m
   pub builds : (m : Member) → (usable z).built m ≡ true → BuildsAlike z m
   pub makes : (c : List ℕ) → (usable z).made c ≡ true → MakesAlike z c
   pub objects : (c : List ℕ) → (usable z).made c ≡ true → is_hijacked c ≡ false
