@@ -239,7 +239,7 @@ module _ (z : Setting) (lawful : Lawful z) (low : LowAlike z) where
       code_is = ap (λ a. (then_use (spill_case a object.here.fixed object.here.plain object.here (value.here ∷ []) (spill (value.here ∷ [])) j) both).statements) (not_all object.here.plain value.here.plain not_plain) ∙ first-is z lawful object.here.fixed object.here.plain object.here (value.here ∷ []) j both
 
       on : Onwards z lawful c discard w sc c.kept j sc w object.here.tpe (λ v. act (v ∷ [])) rest
-      on k i v x y env s sc2 u more sub so ah l h ready kb kp states told lasting = goes v lasting
+      on k i v x y env s sc2 u more sub so ah l h ready kb kp states told held alike lasting = goes v lasting
         where
           final : (n : ℕ) → Lasting z lawful k y sc2 object.here.tpe (ir.reference n) x → Final z lawful c discard w sc k i sc2 y (type_of_term e ∷ []) (λ vs. ir_meaning.assign_field d f (ir.reference n ∷ vs)) (λ es. both (x ∷ es))
           final n last b m _ _ at env2 s2 sc3 u2 more2 so2 ah2 l2 h2 ready2 kb2 ks2 states2 (more_operands _ a g _ _ _ told2 alike no_operands) = set_alike c p object.here.tpe d f t (stood t (type_of_term e) fits.0) has (stood-fits t (type_of_term e) fits.0) w sc at env2 s2 sc3 u2 (grows-trans w y at h h2) ready2 kb2 states2 (ir.given (ir.reference n)) a x (coerced t (type_of_term e) g) (more_operands object.here.tpe (ir.given (ir.reference n)) x [] [] [] told (last at env2 sc3 h2 ks2) no_operands) (stood_told z lawful.base at env2 sc3 ready2.sees.inside t (type_of_term e) fits.0 g told2) (stood_alike z lawful.base at env2 sc3 ready2.sees.inside t (type_of_term e) fits.0 fits.1 a g alike)

@@ -29,7 +29,7 @@ use Rattle.sj_names.specs.declared.method_names.MethodName.{MethodName}
 use Rattle.sj_trees.specs.Types.{class_type}
 use Rattle.sj_trees.specs.declared.types.IrType.{IrType}
 use Rattle.sj_trees.specs.declared.types.IrType.TheVariants.{Any}
-use Rattle.sj_plain.specs.Settings.{Place, Setting, shown, usable, SameState, Valued, valued, thrown, Based, Inside, a_dispatch, top_function, ClassTold, of_object, of_kind, IsInstance, call_by_class, LooksUp, EntriesAlike}
+use Rattle.sj_plain.specs.Settings.{Place, Setting, shown, usable, SameState, Valued, valued, thrown, Based, Inside, a_dispatch, top_function, ClassTold, of_object, of_kind, HasClass, IsInstance, call_by_class, LooksUp, EntriesAlike}
 use Rattle.sj_plain.proofs.Classes.{class_there, object_there}
 use Rattle.sj_plain.proofs.Orders.{OperandAlike, OperandsAlike, more_operands, operands-lift, all_shown, in_order_alike, valued-weaken}
 use Rattle.sj_plain.proofs.Tops.{row_shown, top_seen}
@@ -86,26 +86,29 @@ module _ (p : Place) (w : World) (s : ir.State) (u : js.State) (same : SameState
   told_class _ _ (of_object i a c there told) = ap ir_world.stored_class (object_there p w s u same i a there c told).stored
   told_class _ _ (of_kind v c h) = h s
 
-  -- an instance by the test at run time is one by what the world tells
-  pub an_instance : (c : List ℕ) (own : IrType) (v : ir.Value) (x : js.Value) → is_hijacked c ≡ false → Fits (class_type c) own → SameValue w own v x → ir_world.is_instance p.classes s v c ≡ true → IsInstance p.classes w c v x
-  an_instance c own v x free fit a h = record { stands = value-fits w (class_type c) own v x fit a; class = d.class; told = class_told (is_char own) v x d.class a.stands d.is; below = d.below }
+  -- an instance by the test at run time is of a class that the world tells
+  pub has_class : (c : List ℕ) (own : IrType) (v : ir.Value) (x : js.Value) → is_hijacked c ≡ false → SameValue w own v x → ir_world.is_instance p.classes s v c ≡ true → HasClass p.classes w c v
+  has_class c own v x free a h = record { class = d.class; told = class_told (is_char own) v x d.class a.stands d.is; below = d.below }
     where
       d : OwnClass p.classes c (ir_world.class_of_value s v)
       d = own_class p.classes c (ir_world.class_of_value s v) (ir_world.is_small_number v c) (not_small v c free) h
 
   -- and the other way round
-  instance_is : (c : List ℕ) (v : ir.Value) (x : js.Value) → IsInstance p.classes w c v x → ir_world.is_instance p.classes s v c ≡ true
-  instance_is c v x one = ap (λ (o : Option (List ℕ)). is_ancestor_of_any p.classes o c || ir_world.is_small_number v c) (told_class v one.class one.told) ∙ ap (λ (b : Bool). b || ir_world.is_small_number v c) one.below
+  instance_is : (c : List ℕ) (v : ir.Value) → HasClass p.classes w c v → ir_world.is_instance p.classes s v c ≡ true
+  instance_is c v one = ap (λ (o : Option (List ℕ)). is_ancestor_of_any p.classes o c || ir_world.is_small_number v c) (told_class v one.class one.told) ∙ ap (λ (b : Bool). b || ir_world.is_small_number v c) one.below
 
-  pub call_is : (low : ir_meaning.Low) (c : List ℕ) (m : MethodName) (v : ir.Value) (x : js.Value) (one : IsInstance p.classes w c v x) (vs : List ir.Value) (env : ir.Env) → ir_meaning.call_instance p.classes low c m (v ∷ vs) env s ≡ ir_meaning.call_on p.classes low (ir_meaning.target_in p.classes (Some one.class) m) (v ∷ vs) env s
-  call_is low c m v x one vs env = ap (λ (b : Bool). if b then ir_meaning.call_on p.classes low (ir_meaning.target_in p.classes (ir_world.class_of_value s v) m) (v ∷ vs) env s else wrong) (instance_is c v x one) ∙ ap (λ (o : Option (List ℕ)). ir_meaning.call_on p.classes low (ir_meaning.target_in p.classes o m) (v ∷ vs) env s) (told_class v one.class one.told)
+  pub call_is : (low : ir_meaning.Low) (c : List ℕ) (m : MethodName) (v : ir.Value) (one : HasClass p.classes w c v) (vs : List ir.Value) (env : ir.Env) → ir_meaning.call_instance p.classes low c m (v ∷ vs) env s ≡ ir_meaning.call_on p.classes low (ir_meaning.target_in p.classes (Some one.class) m) (v ∷ vs) env s
+  call_is low c m v one vs env = ap (λ (b : Bool). if b then ir_meaning.call_on p.classes low (ir_meaning.target_in p.classes (ir_world.class_of_value s v) m) (v ∷ vs) env s else wrong) (instance_is c v one) ∙ ap (λ (o : Option (List ℕ)). ir_meaning.call_on p.classes low (ir_meaning.target_in p.classes o m) (v ∷ vs) env s) (told_class v one.class one.told)
 
 told_lift : (w y : World) (v : ir.Value) (d : List ℕ) → Grows w y → ClassTold w v d → ClassTold y v d
 told_lift w y _ _ g (of_object i a c there told) = of_object i a c (g.places i a there) (g.classes i a c there told)
 told_lift w y _ _ g (of_kind v c h) = of_kind v c h
 
+pub class_lift : (classes : ir_world.World) (w y : World) (c : List ℕ) (v : ir.Value) → Grows w y → HasClass classes w c v → HasClass classes y c v
+class_lift classes w y c v g one = record { class = one.class; told = told_lift w y v one.class g one.told; below = one.below }
+
 pub instance_lift : (classes : ir_world.World) (w y : World) (c : List ℕ) (v : ir.Value) (x : js.Value) → Grows w y → IsInstance classes w c v x → IsInstance classes y c v x
-instance_lift classes w y c v x g one = record { stands = value-lift w y (class_type c) v x g one.stands; class = one.class; told = told_lift w y v one.class g one.told; below = one.below }
+instance_lift classes w y c v x g one = record { stands = value-lift w y (class_type c) v x g one.stands; its = class_lift classes w y c v g one.its }
 
 -- what a tree gave
 value_given : ir.Ended → ir.Value
@@ -163,13 +166,13 @@ module _ (z : Setting) (law : Based z) (c : List ℕ) (m : MethodName) (free : i
   behind_alike true looks ts fit base y env s sc u v x rs es g one others same = in_order_alike z base y env sc y ts (call_type m.result) rs es (λ vs. act (v ∷ vs)) (λ xs. js_meaning.call z.place.program z.js_low fun (x ∷ xs)) others acts y s u g (grows-refl y) (grows-refl y) same
     where
       acts : (k : World) (vs : List ir.Value) (xs : List js.Value) (s : ir.State) (u : js.State) → Grows y k → SameValues k ts vs xs → SameState z.place k s u → Sim z.direction (Valued z.place base env (call_type m.result)) (act (v ∷ vs) env s) (js_meaning.call z.place.program z.js_low fun (x ∷ xs) sc u)
-      acts k vs xs s u h alike same = let one = instance_lift z.place.classes y k c v x h one in subst (λ o. Sim z.direction (Valued z.place base env (call_type m.result)) o (js_meaning.call z.place.program z.js_low fun (x ∷ xs) sc u)) (sym (call_is z.place k s u same z.low c m v x one vs env)) (sim_weaken z.direction (Valued z.place k env (call_type m.result)) (Valued z.place base env (call_type m.result)) _ _ (λ a b. valued-weaken z base k env (call_type m.result) a b (grows-trans base y k g h)) (looks k v x one vs xs env s u (values-fit k (types_referred m.params) ts vs xs fit alike) same))
+      acts k vs xs s u h alike same = let one = instance_lift z.place.classes y k c v x h one in subst (λ o. Sim z.direction (Valued z.place base env (call_type m.result)) o (js_meaning.call z.place.program z.js_low fun (x ∷ xs) sc u)) (sym (call_is z.place k s u same z.low c m v one.its vs env)) (sim_weaken z.direction (Valued z.place k env (call_type m.result)) (Valued z.place base env (call_type m.result)) _ _ (λ a b. valued-weaken z base k env (call_type m.result) a b (grows-trans base y k g h)) (looks k v x one vs xs env s u (values-fit k (types_referred m.params) ts vs xs fit alike) same))
   behind_alike false looks ts fit base y env s sc u v x rs es g one others same = subst (λ o. Sim z.direction (Valued z.place base env (call_type m.result)) (ir_meaning.in_order rs (λ vs. act (v ∷ vs)) env s) (js_meaning.call_property z.place.program z.js_low (all_shown z es) x o sc u)) (sym entry.is) (in_order_alike z base y env sc y ts (call_type m.result) rs es (λ vs. act (v ∷ vs)) (js_meaning.call_with_this z.place.program z.js_low x entry.found) others acts y s u g (grows-refl y) (grows-refl y) same)
     where
       entry = looks y v x one s u same
 
       acts : (k : World) (vs : List ir.Value) (xs : List js.Value) (s : ir.State) (u : js.State) → Grows y k → SameValues k ts vs xs → SameState z.place k s u → Sim z.direction (Valued z.place base env (call_type m.result)) (act (v ∷ vs) env s) (js_meaning.call_with_this z.place.program z.js_low x entry.found xs sc u)
-      acts k vs xs s u h alike same = subst (λ o. Sim z.direction (Valued z.place base env (call_type m.result)) o (js_meaning.call_with_this z.place.program z.js_low x entry.found xs sc u)) (sym (call_is z.place k s u same z.low c m v x (instance_lift z.place.classes y k c v x h one) vs env)) (sim_weaken z.direction (Valued z.place k env (call_type m.result)) (Valued z.place base env (call_type m.result)) _ _ (λ a b. valued-weaken z base k env (call_type m.result) a b (grows-trans base y k g h)) (entry.calls k h vs xs env sc s u (values-fit k (types_referred m.params) ts vs xs fit alike) same))
+      acts k vs xs s u h alike same = subst (λ o. Sim z.direction (Valued z.place base env (call_type m.result)) o (js_meaning.call_with_this z.place.program z.js_low x entry.found xs sc u)) (sym (call_is z.place k s u same z.low c m v (class_lift z.place.classes y k c v h one.its) vs env)) (sim_weaken z.direction (Valued z.place k env (call_type m.result)) (Valued z.place base env (call_type m.result)) _ _ (λ a b. valued-weaken z base k env (call_type m.result) a b (grows-trans base y k g h)) (entry.calls k h vs xs env sc s u (values-fit k (types_referred m.params) ts vs xs fit alike) same))
 
   -- where a primitive value may be the receiver, the function that tells it apart is there
   dispatched_there : (usable z).lookup.has_hijacked c ≡ true → (usable z).dispatched m ≡ true
@@ -205,11 +208,11 @@ module _ (z : Setting) (law : Based z) (c : List ℕ) (m : MethodName) (free : i
 
       each : (a : ir.Ended) (b : js.ExpressionEnd) → Taken z.place w env own c a b → Sim z.direction F (ir.onward (λ v. ir_meaning.in_order rs (λ vs. act (v ∷ vs))) a) (js.with_value (behind hijacked es sc) b)
       each _ _ (taken_out y v x s u g a states) = sim_done z.direction F (ir.ends (ir.throws v) env s) (js.throws x u) (thrown y v x s u g a states)
-      each _ _ (taken y v x s u g a states k) = behind_alike hijacked looks_here ts fit w y env s sc u v x rs es g (an_instance z.place y s u states c own v x free f a k) (operands-lift z w y env sc ts rs es g others) states
+      each _ _ (taken y v x s u g a states k) = behind_alike hijacked looks_here ts fit w y env s sc u v x rs es g (record { stands = value-fits y (class_type c) own v x f a; its = has_class z.place y s u states c own v x free a k }) (operands-lift z w y env sc ts rs es g others) states
 
   -- a receiver whose value is known to be an instance
-  pub known_call_alike : (own : IrType) (ts : List IrType) (v : ir.Value) (rs : List ir.Run) (e : core.Expression) (es : List core.Expression) → Fits (class_type c) own → FitAll (types_referred m.params) ts → (w : World) (env : ir.Env) (s : ir.State) (sc : js.Scope) (u : js.State) → Inside z.place z.code sc → (x : js.Value) → IsInstance z.place.classes w c v x → OperandAlike z w env sc own (ir.given v) (shown z e) → OperandsAlike z w env sc ts rs es → SameState z.place w s u → Sim z.direction (Valued z.place w env (call_type m.result)) (ir_meaning.in_order rs (λ vs. act (v ∷ vs)) env s) (shown z (call_text e es) sc u)
-  known_call_alike own ts v rs e es f fit w env s sc u inside x one first others same = subst (λ o. Sim z.direction F (ir_meaning.in_order rs (λ vs. act (v ∷ vs)) env s) o) (sym (js_is hijacked refl e es w s sc u inside same)) (sim_then z.direction (λ a b. Valued z.place w env own a b × (a ≡ ir.ends (ir.gives v) env s)) F (ir.given v env s) (shown z e sc u) (ir.onward (λ v. ir_meaning.in_order rs (λ vs. act (v ∷ vs)))) (js.with_value (behind hijacked es sc)) (sim_known z.direction (Valued z.place w env own) (ir.ends (ir.gives v) env s) (shown z e sc u) (first w s u (grows-refl w) same)) (λ a b h. each a b h.0 h.1))
+  pub known_call_alike : (own : IrType) (ts : List IrType) (v : ir.Value) (rs : List ir.Run) (e : core.Expression) (es : List core.Expression) → Fits (class_type c) own → FitAll (types_referred m.params) ts → (w : World) (env : ir.Env) (s : ir.State) (sc : js.Scope) (u : js.State) → Inside z.place z.code sc → HasClass z.place.classes w c v → OperandAlike z w env sc own (ir.given v) (shown z e) → OperandsAlike z w env sc ts rs es → SameState z.place w s u → Sim z.direction (Valued z.place w env (call_type m.result)) (ir_meaning.in_order rs (λ vs. act (v ∷ vs)) env s) (shown z (call_text e es) sc u)
+  known_call_alike own ts v rs e es f fit w env s sc u inside one first others same = subst (λ o. Sim z.direction F (ir_meaning.in_order rs (λ vs. act (v ∷ vs)) env s) o) (sym (js_is hijacked refl e es w s sc u inside same)) (sim_then z.direction (λ a b. Valued z.place w env own a b × (a ≡ ir.ends (ir.gives v) env s)) F (ir.given v env s) (shown z e sc u) (ir.onward (λ v. ir_meaning.in_order rs (λ vs. act (v ∷ vs)))) (js.with_value (behind hijacked es sc)) (sim_known z.direction (Valued z.place w env own) (ir.ends (ir.gives v) env s) (shown z e sc u) (first w s u (grows-refl w) same)) (λ a b h. each a b h.0 h.1))
     where
       hijacked : Bool
       hijacked = (usable z).lookup.has_hijacked c
@@ -219,4 +222,4 @@ module _ (z : Setting) (law : Based z) (c : List ℕ) (m : MethodName) (free : i
 
       each : (a : ir.Ended) (b : js.ExpressionEnd) → Valued z.place w env own a b → a ≡ ir.ends (ir.gives v) env s → Sim z.direction F (ir.onward (λ v. ir_meaning.in_order rs (λ vs. act (v ∷ vs))) a) (js.with_value (behind hijacked es sc) b)
       each _ _ (thrown y q j s2 u2 g a states) e = absurd (cc)
-      each _ _ (valued y q j s2 u2 g a states) e = let is : q ≡ v = ap value_given e in subst (λ k. Sim z.direction F (ir_meaning.in_order rs (λ vs. act (k ∷ vs)) env s2) (behind hijacked es sc j u2)) (sym is) (behind_alike hijacked looks_here ts fit w y env s2 sc u2 v j rs es g (record { stands = value-fits y (class_type c) own v j f (subst (λ k. SameValue y own k j) is a); class = one.class; told = told_lift w y v one.class g one.told; below = one.below }) (operands-lift z w y env sc ts rs es g others) states)
+      each _ _ (valued y q j s2 u2 g a states) e = let is : q ≡ v = ap value_given e in subst (λ k. Sim z.direction F (ir_meaning.in_order rs (λ vs. act (k ∷ vs)) env s2) (behind hijacked es sc j u2)) (sym is) (behind_alike hijacked looks_here ts fit w y env s2 sc u2 v j rs es g (record { stands = value-fits y (class_type c) own v j f (subst (λ k. SameValue y own k j) is a); its = class_lift z.place.classes w y c v g one }) (operands-lift z w y env sc ts rs es g others) states)

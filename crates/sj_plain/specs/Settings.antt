@@ -341,12 +341,16 @@ pub data ClassTold (w : World) : ir.Value → List ℕ → Type 0 where
   of_object : (i a : ℕ) (c : List ℕ) → w.place i ≡ Some a → w.classes i ≡ Some c → ClassTold w (ir.reference i) c
   of_kind : (v : ir.Value) (c : List ℕ) → ((s : ir.State) → ir_world.class_of_value s v ≡ Some c) → ClassTold w v c
 
--- a value on which a method may be looked up that is called on instances of the class, and the one that stands for it
-pub record IsInstance (classes : ir_world.World) (w : World) (c : List ℕ) (v : ir.Value) (x : js.Value) : Type 0 where
-  pub stands : SameValue w (class_type c) v x
+-- the value is of a class at or below this one
+pub record HasClass (classes : ir_world.World) (w : World) (c : List ℕ) (v : ir.Value) : Type 0 where
   pub class : List ℕ
   pub told : ClassTold w v class
   pub below : is_ancestor classes class c ≡ true
+
+-- a value on which a method may be looked up that is called on instances of the class, and the one that stands for it
+pub record IsInstance (classes : ir_world.World) (w : World) (c : List ℕ) (v : ir.Value) (x : js.Value) : Type 0 where
+  pub stands : SameValue w (class_type c) v x
+  pub its : HasClass classes w c v
 
 -- a call of the method that the class of the value decides on
 abbrev pub call_by_class : Setting → MethodName → List ℕ → ir.Value → List ir.Value → ir.Run
@@ -354,7 +358,7 @@ call_by_class z m c v vs = ir_meaning.call_on z.place.classes z.low (ir_meaning.
 
 -- the function that tells the receivers of a method apart, on an instance of the class
 abbrev pub DispatchesAlike : Setting → List ℕ → MethodName → Type 0
-DispatchesAlike z c m = (w : World) (v : ir.Value) (x : js.Value) (one : IsInstance z.place.classes w c v x) (vs : List ir.Value) (xs : List js.Value) (env : ir.Env) (s : ir.State) (u : js.State) → SameValues w (types_referred m.params) vs xs → SameState z.place w s u → Sim z.direction (Valued z.place w env (call_type m.result)) (call_by_class z m one.class v vs env s) (top_call z.place z.js_low (a_dispatch m) (x ∷ xs) u)
+DispatchesAlike z c m = (w : World) (v : ir.Value) (x : js.Value) (one : IsInstance z.place.classes w c v x) (vs : List ir.Value) (xs : List js.Value) (env : ir.Env) (s : ir.State) (u : js.State) → SameValues w (types_referred m.params) vs xs → SameState z.place w s u → Sim z.direction (Valued z.place w env (call_type m.result)) (call_by_class z m one.its.class v vs env s) (top_call z.place z.js_low (a_dispatch m) (x ∷ xs) u)
 
 -- the entry of a method that is read off an object, and what a call of it does from there on
 pub record Finds (z : Setting) (m : MethodName) (w : World) (c : List ℕ) (v : ir.Value) (x : js.Value) (u : js.State) : Type 0 where
@@ -363,7 +367,7 @@ pub record Finds (z : Setting) (m : MethodName) (w : World) (c : List ℕ) (v : 
   pub calls : (y : World) → Grows w y → (vs : List ir.Value) (xs : List js.Value) (env : ir.Env) (sc : js.Scope) (s : ir.State) (k : js.State) → SameValues y (types_referred m.params) vs xs → SameState z.place y s k → Sim z.direction (Valued z.place y env (call_type m.result)) (call_by_class z m c v vs env s) (js_meaning.call_with_this z.place.program z.js_low x found xs sc k)
 
 abbrev pub EntriesAlike : Setting → List ℕ → MethodName → Type 0
-EntriesAlike z c m = (w : World) (v : ir.Value) (x : js.Value) (one : IsInstance z.place.classes w c v x) (s : ir.State) (u : js.State) → SameState z.place w s u → Finds z m w one.class v x u
+EntriesAlike z c m = (w : World) (v : ir.Value) (x : js.Value) (one : IsInstance z.place.classes w c v x) (s : ir.State) (u : js.State) → SameState z.place w s u → Finds z m w one.its.class v x u
 
 -- a method that is looked up: where a primitive value may be the receiver, by that function, and else by the object's entry
 abbrev pub LooksUp : Bool → Setting → List ℕ → MethodName → Type 0
