@@ -11,6 +11,7 @@ pub mod Statements
 pub mod Trees
 pub mod Turns
 pub mod ObjectTrees
+pub mod LookedTrees
 pub use Rattle.sj_proper.proofs.Equal
 pub use Rattle.sj_proper.proofs.Fitting
 pub use Rattle.sj_proper.proofs.InWorld
