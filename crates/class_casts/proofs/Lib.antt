@@ -11,3 +11,5 @@ pub use Rattle.class_tests.proofs.Smallest
 pub use Rattle.class_tests.proofs.Owners
 pub use Rattle.class_tests.proofs.Markers
 pub use Rattle.class_tests.proofs.Reflective
+pub use Rattle.class_tests.proofs.Parameters
+pub use Rattle.class_tests.proofs.Telling

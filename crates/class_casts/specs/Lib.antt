@@ -18,3 +18,6 @@ pub use Rattle.class_tests.specs.KindVariants
 pub use Rattle.class_tests.specs.Classes as PieceRulesClasses
 pub use Rattle.class_tests.specs.Pieces
 pub use Rattle.class_tests.specs.Calls
+pub use Rattle.class_tests.specs.Bridges
+pub use Rattle.class_tests.specs.Dispatch
+pub use Rattle.class_tests.specs.Objects

@@ -7,3 +7,4 @@ pub use Rattle.class_code.proofs.Bridge
 pub use Rattle.class_code.proofs.Owners
 pub use Rattle.class_code.proofs.Markers
 pub use Rattle.class_code.proofs.Reflective
+pub use Rattle.class_code.proofs.Parameters

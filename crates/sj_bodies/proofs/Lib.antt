@@ -33,3 +33,4 @@ pub use Rattle.sj_plain.proofs.Tests
 pub use Rattle.sj_plain.proofs.Worlds
 pub use Rattle.sj_proper.proofs.Declared
 pub use Rattle.sj_proper.proofs.Names
+pub use Rattle.sj_plain.proofs.Looked

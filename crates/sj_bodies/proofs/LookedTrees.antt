@@ -80,12 +80,12 @@ module _ (z : Setting) (lawful : Lawful z) (low : LowAlike z) where
     arguments w env sc inside qs gs alike = operands_coerced z lawful.base w env sc inside m.params (types_of ts) qs gs fit.0 fit.1 (subst (λ is. OperandsAlike z w env sc is qs gs) (sym (types-list z lawful low c.targets ts)) alike)
 
     -- all plain: the receiver is taken where it is written
-    given : (q : ir.Run) (qs : List ir.Run) (g : core.Expression) (gs : List core.Expression) (w : World) (env : ir.Env) (s : ir.State) (sc : js.Scope) (u : js.State) → Inside z.place z.code sc → OperandsAlike z w env sc (first.here.tpe ∷ types z lawful others) (q ∷ qs) (g ∷ gs) → SameState z.place w s u → Sim z.direction (Valued z.place w env (call_type m.result)) (ir_meaning.in_order (only_instances z lawful.base d m free can q ∷ qs) act env s) (shown z (text (g ∷ gs)) sc u)
-    given q qs g gs w env s sc u inside (more_operands _ _ _ _ _ _ told one rest) same = subst (λ o. Sim z.direction (Valued z.place w env (call_type m.result)) (ir_meaning.in_order (only_instances z lawful.base d m free can q ∷ qs) act env s) (shown z o sc u)) (sym (text_is g gs)) (looked_call_alike z lawful.base d m free can (stood (class_type d) (type_of_term e) on.0) (all_stood (types_referred m.params) (types_of ts) fit.0) q qs (coerced (class_type d) (type_of_term e) g) (coerced_arguments m.params (types_of ts) gs) (stood-fits (class_type d) (type_of_term e) on.0) (all-stood-fit (types_referred m.params) (types_of ts) fit.0) w env s sc u inside (called_with z lawful low c e d m ts on fit w env sc inside q qs g gs told one rest) same)
+    given : (q : ir.Run) (qs : List ir.Run) (g : core.Expression) (gs : List core.Expression) (w : World) (env : ir.Env) (s : ir.State) (sc : js.Scope) (u : js.State) → Inside z.place z.code sc → OperandsAlike z w env sc (first.here.tpe ∷ types z lawful others) (q ∷ qs) (g ∷ gs) → SameState z.place w s u → Sim z.direction (Valued z.place w env (call_type m.result)) (ir_meaning.in_order (only_instances z lawful d m free can q ∷ qs) act env s) (shown z (text (g ∷ gs)) sc u)
+    given q qs g gs w env s sc u inside (more_operands _ _ _ _ _ _ told one rest) same = subst (λ o. Sim z.direction (Valued z.place w env (call_type m.result)) (ir_meaning.in_order (only_instances z lawful d m free can q ∷ qs) act env s) (shown z o sc u)) (sym (text_is g gs)) (looked_call_alike z lawful d m free can (stood (class_type d) (type_of_term e) on.0) (all_stood (types_referred m.params) (types_of ts) fit.0) q qs (coerced (class_type d) (type_of_term e) g) (coerced_arguments m.params (types_of ts) gs) (stood-fits (class_type d) (type_of_term e) on.0) (all-stood-fit (types_referred m.params) (types_of ts) fit.0) w env s sc u inside (called_with z lawful low c e d m ts on fit w env sc inside q qs g gs told one rest) same)
 
     -- a receiver that was taken before, and is known by an expression that lasts
     known : (v : ir.Value) (qs : List ir.Run) (g : core.Expression) (gs : List core.Expression) (w : World) (env : ir.Env) (s : ir.State) (sc : js.Scope) (u : js.State) → Inside z.place z.code sc → HasClass z.place.classes w d v → OperandAlike z w env sc first.here.tpe (ir.given v) (shown z g) → OperandsAlike z w env sc (types z lawful others) qs gs → SameState z.place w s u → Sim z.direction (Valued z.place w env (call_type m.result)) (ir_meaning.in_order qs (λ vs. act (v ∷ vs)) env s) (shown z (text (g ∷ gs)) sc u)
-    known v qs g gs w env s sc u inside one it rest same = subst (λ o. Sim z.direction (Valued z.place w env (call_type m.result)) (ir_meaning.in_order qs (λ vs. act (v ∷ vs)) env s) (shown z o sc u)) (sym (text_is g gs)) (known_call_alike z lawful.base d m free can (stood (class_type d) (type_of_term e) on.0) (all_stood (types_referred m.params) (types_of ts) fit.0) v qs (coerced (class_type d) (type_of_term e) g) (coerced_arguments m.params (types_of ts) gs) (stood-fits (class_type d) (type_of_term e) on.0) (all-stood-fit (types_referred m.params) (types_of ts) fit.0) w env s sc u inside one (stood_alike z lawful.base w env sc inside (class_type d) (type_of_term e) on.0 on.1 (ir.given v) g (subst (λ k. OperandAlike z w env sc k (ir.given v) (shown z g)) own it)) (arguments w env sc inside qs gs rest) same)
+    known v qs g gs w env s sc u inside one it rest same = subst (λ o. Sim z.direction (Valued z.place w env (call_type m.result)) (ir_meaning.in_order qs (λ vs. act (v ∷ vs)) env s) (shown z o sc u)) (sym (text_is g gs)) (known_call_alike z lawful d m free can (stood (class_type d) (type_of_term e) on.0) (all_stood (types_referred m.params) (types_of ts) fit.0) v qs (coerced (class_type d) (type_of_term e) g) (coerced_arguments m.params (types_of ts) gs) (stood-fits (class_type d) (type_of_term e) on.0) (all-stood-fit (types_referred m.params) (types_of ts) fit.0) w env s sc u inside one (stood_alike z lawful.base w env sc inside (class_type d) (type_of_term e) on.0 on.1 (ir.given v) g (subst (λ k. OperandAlike z w env sc k (ir.given v) (shown z g)) own it)) (arguments w env sc inside qs gs rest) same)
 
     module _ (j : ℕ) (ahead : Ahead c j) (ds : OperandsDo z lawful c j (first ∷ others)) (w : World) (env : ir.Env) (s : ir.State) (sc : js.Scope) (u : js.State) (r : Ready z.place z.code c.scope c.writable w env sc) (same : SameState z.place w s u) where
       abbrev rest_run : ir.Value → ir.Run
@@ -94,8 +94,8 @@ module _ (z : Setting) (lawful : Lawful z) (low : LowAlike z) where
       abbrev Goal : ir.Run → core.Statements → Type 0
       Goal run ss = Ends z lawful c c.scope k w sc (run env s) ss sc u
 
-      plainly : all_plain (operands_in z lawful (first ∷ others)) ≡ true → Ends z lawful c c.scope k w sc (ir_meaning.in_order (only_instances z lawful.base d m free can first.run ∷ runs z lawful others) act env s) (made (texts (operands_in z lawful (first ∷ others))) j).statements sc u
-      plainly h = finish_alike z lawful c k p (call_type m.result) (text (texts (operands_in z lawful (first ∷ others)))) j sound wr fits w w sc env (ir_meaning.in_order (only_instances z lawful.base d m free can first.run ∷ runs z lawful others) act env s) sc u (grows-refl w) (keeps-refl z c.kept sc) r s same (given first.run (runs z lawful others) first.here.text (texts (operands_in z lawful others)) w env s sc u r.sees.inside (all_plain_alike z lawful c j (first ∷ others) h ds w env sc r.sees) same)
+      plainly : all_plain (operands_in z lawful (first ∷ others)) ≡ true → Ends z lawful c c.scope k w sc (ir_meaning.in_order (only_instances z lawful d m free can first.run ∷ runs z lawful others) act env s) (made (texts (operands_in z lawful (first ∷ others))) j).statements sc u
+      plainly h = finish_alike z lawful c k p (call_type m.result) (text (texts (operands_in z lawful (first ∷ others)))) j sound wr fits w w sc env (ir_meaning.in_order (only_instances z lawful d m free can first.run ∷ runs z lawful others) act env s) sc u (grows-refl w) (keeps-refl z c.kept sc) r s same (given first.run (runs z lawful others) first.here.text (texts (operands_in z lawful others)) w env s sc u r.sees.inside (all_plain_alike z lawful c j (first ∷ others) h ds w env sc r.sees) same)
 
       -- the receiver goes to a variable, or is fixed
       behind_first : Onwards z lawful c k w sc c.kept j sc w first.here.tpe (λ v env s. ir.go_on (ir_meaning.only_instance z.place.classes d v env s) rest_run) (λ g i. (then_use (spill (operands_in z lawful others) i) (λ es. made (g ∷ es))).statements)
@@ -111,12 +111,12 @@ module _ (z : Setting) (lawful : Lawful z) (low : LowAlike z) where
           by true is = subst (λ (b : Bool). Ends z lawful c c.scope k w sc (ir.go_on (if b then ir.given v env s else wrong) rest_run) (then_use (spill (operands_in z lawful others) i) (λ es. made (g ∷ es))).statements sc2 u) (sym is) (spill_does z lawful c k w sc others q i (λ vs. act (v ∷ vs)) (λ es. made (g ∷ es)) y env s sc2 u (operands-later z lawful c j i others l ds.1) sub so ah (final (has_class z.place y s u states d first.here.tpe v x free alike is)) h ready kb states)
           by false is = subst (λ (b : Bool). Ends z lawful c c.scope k w sc (ir.go_on (if b then ir.given v env s else wrong) rest_run) (then_use (spill (operands_in z lawful others) i) (λ es. made (g ∷ es))).statements sc2 u) (sym is) (sim_wrong z.direction F _)
 
-      spilled : (f b : Bool) → first.here.fixed ≡ f → first.here.plain ≡ b → Ends z lawful c c.scope k w sc (ir_meaning.in_order (only_instances z lawful.base d m free can first.run ∷ runs z lawful others) act env s) (then_use (spill_case false f b first.here (operands_in z lawful others) (spill (operands_in z lawful others)) j) made).statements sc u
-      spilled f b e1 e2 = subst (λ ss. Ends z lawful c c.scope k w sc (ir_meaning.in_order (only_instances z lawful.base d m free can first.run ∷ runs z lawful others) act env s) ss sc u) (sym (first-is z lawful f b first.here (operands_in z lawful others) j made)) (subst (λ o. Ends z lawful c c.scope k w sc o (first_code z lawful f b first.here (λ g i. (then_use (spill (operands_in z lawful others) i) (λ es. made (g ∷ es))).statements) j) sc u) (sym (go_on-on (first.run env s) (ir_meaning.only_instance z.place.classes d) rest_run)) (first_does z lawful c k w sc first f b e1 e2 c.kept j (λ v env s. ir.go_on (ir_meaning.only_instance z.place.classes d v env s) rest_run) (λ g i. (then_use (spill (operands_in z lawful others) i) (λ es. made (g ∷ es))).statements) w env s sc u ds.0 (extends-refl c) sound ahead behind_first (grows-refl w) r (keeps-refl z c.kept sc) same))
+      spilled : (f b : Bool) → first.here.fixed ≡ f → first.here.plain ≡ b → Ends z lawful c c.scope k w sc (ir_meaning.in_order (only_instances z lawful d m free can first.run ∷ runs z lawful others) act env s) (then_use (spill_case false f b first.here (operands_in z lawful others) (spill (operands_in z lawful others)) j) made).statements sc u
+      spilled f b e1 e2 = subst (λ ss. Ends z lawful c c.scope k w sc (ir_meaning.in_order (only_instances z lawful d m free can first.run ∷ runs z lawful others) act env s) ss sc u) (sym (first-is z lawful f b first.here (operands_in z lawful others) j made)) (subst (λ o. Ends z lawful c c.scope k w sc o (first_code z lawful f b first.here (λ g i. (then_use (spill (operands_in z lawful others) i) (λ es. made (g ∷ es))).statements) j) sc u) (sym (go_on-on (first.run env s) (ir_meaning.only_instance z.place.classes d) rest_run)) (first_does z lawful c k w sc first f b e1 e2 c.kept j (λ v env s. ir.go_on (ir_meaning.only_instance z.place.classes d v env s) rest_run) (λ g i. (then_use (spill (operands_in z lawful others) i) (λ es. made (g ∷ es))).statements) w env s sc u ds.0 (extends-refl c) sound ahead behind_first (grows-refl w) r (keeps-refl z c.kept sc) same))
 
-      pub looked_up : Ends z lawful c c.scope k w sc (ir_meaning.in_order (only_instances z lawful.base d m free can first.run ∷ runs z lawful others) act env s) (then_use (spill (operands_in z lawful (first ∷ others)) j) made).statements sc u
+      pub looked_up : Ends z lawful c c.scope k w sc (ir_meaning.in_order (only_instances z lawful d m free can first.run ∷ runs z lawful others) act env s) (then_use (spill (operands_in z lawful (first ∷ others)) j) made).statements sc u
       looked_up = by (first.here.plain && all_plain (operands_in z lawful others)) refl
         where
-          by : (a : Bool) → (first.here.plain && all_plain (operands_in z lawful others)) ≡ a → Ends z lawful c c.scope k w sc (ir_meaning.in_order (only_instances z lawful.base d m free can first.run ∷ runs z lawful others) act env s) (then_use (spill_case (first.here.plain && all_plain (operands_in z lawful others)) first.here.fixed first.here.plain first.here (operands_in z lawful others) (spill (operands_in z lawful others)) j) made).statements sc u
-          by true h = subst (λ (a : Bool). Ends z lawful c c.scope k w sc (ir_meaning.in_order (only_instances z lawful.base d m free can first.run ∷ runs z lawful others) act env s) (then_use (spill_case a first.here.fixed first.here.plain first.here (operands_in z lawful others) (spill (operands_in z lawful others)) j) made).statements sc u) (sym h) (plainly h)
-          by false h = subst (λ (a : Bool). Ends z lawful c c.scope k w sc (ir_meaning.in_order (only_instances z lawful.base d m free can first.run ∷ runs z lawful others) act env s) (then_use (spill_case a first.here.fixed first.here.plain first.here (operands_in z lawful others) (spill (operands_in z lawful others)) j) made).statements sc u) (sym h) (spilled first.here.fixed first.here.plain refl refl)
+          by : (a : Bool) → (first.here.plain && all_plain (operands_in z lawful others)) ≡ a → Ends z lawful c c.scope k w sc (ir_meaning.in_order (only_instances z lawful d m free can first.run ∷ runs z lawful others) act env s) (then_use (spill_case (first.here.plain && all_plain (operands_in z lawful others)) first.here.fixed first.here.plain first.here (operands_in z lawful others) (spill (operands_in z lawful others)) j) made).statements sc u
+          by true h = subst (λ (a : Bool). Ends z lawful c c.scope k w sc (ir_meaning.in_order (only_instances z lawful d m free can first.run ∷ runs z lawful others) act env s) (then_use (spill_case a first.here.fixed first.here.plain first.here (operands_in z lawful others) (spill (operands_in z lawful others)) j) made).statements sc u) (sym h) (plainly h)
+          by false h = subst (λ (a : Bool). Ends z lawful c c.scope k w sc (ir_meaning.in_order (only_instances z lawful d m free can first.run ∷ runs z lawful others) act env s) (then_use (spill_case a first.here.fixed first.here.plain first.here (operands_in z lawful others) (spill (operands_in z lawful others)) j) made).statements sc u) (sym h) (spilled first.here.fixed first.here.plain refl refl)

@@ -13,3 +13,4 @@ pub use Rattle.class_casts.specs.PieceRulesClasses as Classes
 pub use Rattle.class_casts.specs.Pieces
 pub use Rattle.sj_bodies.specs.Settings
 pub use Rattle.sj_bodies.specs.Worlds as SjPlainWorlds
+pub mod Looked

@@ -29,7 +29,7 @@ use Rattle.sj_names.specs.declared.method_names.MethodName.{MethodName}
 use Rattle.sj_trees.specs.Types.{class_type}
 use Rattle.sj_trees.specs.declared.types.IrType.{IrType}
 use Rattle.sj_trees.specs.declared.types.IrType.TheVariants.{Any}
-use Rattle.sj_plain.specs.Settings.{Place, Setting, shown, usable, SameState, Valued, valued, thrown, Based, Inside, a_dispatch, top_function, ClassTold, of_object, of_kind, HasClass, IsInstance, call_by_class, LooksUp, EntriesAlike}
+use Rattle.sj_plain.specs.Settings.{Place, Setting, shown, usable, SameState, Valued, valued, thrown, Lawful, Inside, a_dispatch, top_function, ClassTold, of_object, of_kind, HasClass, IsInstance, call_by_class, LooksUp, EntriesAlike}
 use Rattle.sj_plain.proofs.Classes.{class_there, object_there}
 use Rattle.sj_plain.proofs.Orders.{OperandAlike, OperandsAlike, more_operands, operands-lift, all_shown, in_order_alike, valued-weaken}
 use Rattle.sj_plain.proofs.Tops.{row_shown, top_seen}
@@ -132,7 +132,7 @@ data Taken (p : Place) (from : World) (env : ir.Env) (own : IrType) (c : List �
   taken : (w : World) (v : ir.Value) (x : js.Value) (s : ir.State) (u : js.State) → Grows from w → SameValue w own v x → SameState p w s u → ir_world.is_instance p.classes s v c ≡ true → Taken p from env own c (ir.ends (ir.gives v) env s) (js.gives x u)
   taken_out : (w : World) (v : ir.Value) (x : js.Value) (s : ir.State) (u : js.State) → Grows from w → SameValue w Any v x → SameState p w s u → Taken p from env own c (ir.ends (ir.throws v) env s) (js.throws x u)
 
-module _ (z : Setting) (law : Based z) (c : List ℕ) (m : MethodName) (free : is_hijacked c ≡ false) (can : can_look_up (usable z) c m ≡ true) where
+module _ (z : Setting) (lawful : Lawful z) (c : List ℕ) (m : MethodName) (free : is_hijacked c ≡ false) (can : can_look_up (usable z) c m ≡ true) where
   abbrev pub only_instances : ir.Run → ir.Run
   only_instances r = λ env s. ir.go_on (r env s) (ir_meaning.only_instance z.place.classes c)
 
@@ -190,11 +190,11 @@ module _ (z : Setting) (law : Based z) (c : List ℕ) (m : MethodName) (free : i
   js_is b h e es w s sc u inside same = ap (λ (q : Bool). js_meaning.evaluate z.place.program z.js_low (looked_up_template q m (expression_template z.place.name z.place.label (usable z).lookup e) (expression_templates z.place.name z.place.label (usable z).lookup (expressions_of es))) sc u) h ∙ by b h
     where
       by : (b : Bool) → (usable z).lookup.has_hijacked c ≡ b → js_meaning.evaluate z.place.program z.js_low (looked_up_template b m (expression_template z.place.name z.place.label (usable z).lookup e) (expression_templates z.place.name z.place.label (usable z).lookup (expressions_of es))) sc u ≡ then_do (shown z e sc u) (js.with_value (behind b es sc))
-      by true h = ap (λ o. then_do o (js.with_value (λ g. js_meaning.in_order (shown z e ∷ js_meaning.arguments z.place.program z.js_low (expression_templates z.place.name z.place.label (usable z).lookup (expressions_of es))) (js_meaning.call z.place.program z.js_low g) sc))) (top_seen z law (a_dispatch m) fun sc u (dispatched_there h) inside (same.tops z.code.file (a_dispatch m) (dispatched_there h))) ∙ ap (λ args. js_meaning.in_order (shown z e ∷ args) (js_meaning.call z.place.program z.js_low fun) sc u) (row_shown z es)
+      by true h = ap (λ o. then_do o (js.with_value (λ g. js_meaning.in_order (shown z e ∷ js_meaning.arguments z.place.program z.js_low (expression_templates z.place.name z.place.label (usable z).lookup (expressions_of es))) (js_meaning.call z.place.program z.js_low g) sc))) (top_seen z lawful.base (a_dispatch m) fun sc u (dispatched_there h) inside (same.tops z.code.file (a_dispatch m) (dispatched_there h))) ∙ ap (λ args. js_meaning.in_order (shown z e ∷ args) (js_meaning.call z.place.program z.js_low fun) sc u) (row_shown z es)
       by false h = ap (λ args. then_do (shown z e sc u) (js.with_value (λ v s. js_meaning.call_property z.place.program z.js_low args v (js_objects.callee z.place.program s v (method_binding Entry m)) sc s))) (row_shown z es)
 
   abbrev looks_here : LooksUp ((usable z).lookup.has_hijacked c) z c m
-  looks_here = law.looks c m can
+  looks_here = lawful.looks c m can
 
   -- a receiver that is taken first, whatever it is behind
   pub looked_call_alike : (own : IrType) (ts : List IrType) (r : ir.Run) (rs : List ir.Run) (e : core.Expression) (es : List core.Expression) → Fits (class_type c) own → FitAll (types_referred m.params) ts → (w : World) (env : ir.Env) (s : ir.State) (sc : js.Scope) (u : js.State) → Inside z.place z.code sc → OperandsAlike z w env sc (own ∷ ts) (r ∷ rs) (e ∷ es) → SameState z.place w s u → Sim z.direction (Valued z.place w env (call_type m.result)) (ir_meaning.in_order (only_instances r ∷ rs) act env s) (shown z (call_text e es) sc u)

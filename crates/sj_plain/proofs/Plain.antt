@@ -449,7 +449,7 @@ module _ (z : Setting) (lawful : Lawful z) (scope : Scope) where
     -- a call of a method that is looked up
     looked_tree : (p : Position) (e : Term) (m : MethodName) (ts : Terms) (t : IrType) (d : ByLookup z.place.classes (usable z) scene e m) → t ≡ call_type m.result → MayStand (usable z) (class_type d.is.lookup.class) (type_of_term e) × ArgumentsFit z.place.classes (usable z) ts m.params → TreeAlike e → (ArgumentsFit z.place.classes (usable z) ts m.params → RowAlike ts) → TreeAlike (apply p e m ts t)
     looked_tree p e m ts t d result may one others = record {
-      alike = λ w env s sc u sees same. by_equal w env t _ _ _ _ ((λ i. ir_meaning.in_order (takes env i ∷ ir_meaning.operands z.place.classes z.low ts) (ir_meaning.call_method z.place.classes z.low (type_of_term e) m m.result) env s) ∙ (λ i. ir_meaning.in_order ((λ env' s'. ir.go_on (received env env' s') (ir_meaning.only_instance z.place.classes l.class)) ∷ ir_meaning.operands z.place.classes z.low ts) (runs i) env s)) (λ i. shown z (written i) sc u) (subst (λ k. Sim z.direction (Valued z.place w env k) (ir_meaning.in_order ((λ env' s'. ir.go_on (received env env' s') (ir_meaning.only_instance z.place.classes l.class)) ∷ ir_meaning.operands z.place.classes z.low ts) (ir_meaning.call_instance z.place.classes z.low l.class m) env s) (shown z (core.receiver_call (callees.LookedUp l.class m) (coerced (class_type l.class) (type_of_term e) (received_text (is_sure z.code.sure e) (expression_of z.code.sure e))) (expressions_of (coerced_arguments m.params (types_of ts) (all_expressions z.code.sure ts)))) sc u)) (sym result) (looked_call_alike z lawful.base l.class m l.free l.there (stood (class_type l.class) (type_of_term e) on.0) (all_stood (types_referred m.params) (types_of ts) fit.0) (received env) (ir_meaning.operands z.place.classes z.low ts) (coerced (class_type l.class) (type_of_term e) (received_text (is_sure z.code.sure e) (expression_of z.code.sure e))) (coerced_arguments m.params (types_of ts) (all_expressions z.code.sure ts)) (stood-fits (class_type l.class) (type_of_term e) on.0) (all-stood-fit (types_referred m.params) (types_of ts) fit.0) w env s sc u sees.inside (in_front _ _ _ w env sc _ _ _ (receiver_stood l.class (type_of_term e) on _ _ w env sc sees.inside (receiver_alike e one d.checked w env sc sees)) (passed m.params ts fit w env sc sees.inside (others may.1 w env sc sees))) same));
+      alike = λ w env s sc u sees same. by_equal w env t _ _ _ _ ((λ i. ir_meaning.in_order (takes env i ∷ ir_meaning.operands z.place.classes z.low ts) (ir_meaning.call_method z.place.classes z.low (type_of_term e) m m.result) env s) ∙ (λ i. ir_meaning.in_order ((λ env' s'. ir.go_on (received env env' s') (ir_meaning.only_instance z.place.classes l.class)) ∷ ir_meaning.operands z.place.classes z.low ts) (runs i) env s)) (λ i. shown z (written i) sc u) (subst (λ k. Sim z.direction (Valued z.place w env k) (ir_meaning.in_order ((λ env' s'. ir.go_on (received env env' s') (ir_meaning.only_instance z.place.classes l.class)) ∷ ir_meaning.operands z.place.classes z.low ts) (ir_meaning.call_instance z.place.classes z.low l.class m) env s) (shown z (core.receiver_call (callees.LookedUp l.class m) (coerced (class_type l.class) (type_of_term e) (received_text (is_sure z.code.sure e) (expression_of z.code.sure e))) (expressions_of (coerced_arguments m.params (types_of ts) (all_expressions z.code.sure ts)))) sc u)) (sym result) (looked_call_alike z lawful l.class m l.free l.there (stood (class_type l.class) (type_of_term e) on.0) (all_stood (types_referred m.params) (types_of ts) fit.0) (received env) (ir_meaning.operands z.place.classes z.low ts) (coerced (class_type l.class) (type_of_term e) (received_text (is_sure z.code.sure e) (expression_of z.code.sure e))) (coerced_arguments m.params (types_of ts) (all_expressions z.code.sure ts)) (stood-fits (class_type l.class) (type_of_term e) on.0) (all-stood-fit (types_referred m.params) (types_of ts) fit.0) w env s sc u sees.inside (in_front _ _ _ w env sc _ _ _ (receiver_stood l.class (type_of_term e) on _ _ w env sc sees.inside (receiver_alike e one d.checked w env sc sees)) (passed m.params ts fit w env sc sees.inside (others may.1 w env sc sees))) same));
       told = subst (λ x. tells t (expression_template z.place.name z.place.label (usable z).lookup x) ≡ true) (sym written) (looked_told t ((usable z).lookup.has_hijacked l.class) m _ _);
     }
       where

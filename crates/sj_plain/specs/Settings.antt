@@ -410,7 +410,6 @@ pub record Based (z : Setting) : Type 0 where
   pub sets : (c f : List ℕ) (t : IrType) → (usable z).static_setter c f t ≡ true → SetsAlike z c f t
   pub calls : (m : Member) → (usable z).linked m ≡ true → CallsAlike z m
   pub receives : (m : Member) → (usable z).received (called_member (usable z).lookup m.namespace m) ≡ true → ReceivesAlike z m
-  pub looks : (c : List ℕ) (m : MethodName) → can_look_up (usable z) c m ≡ true → LooksUp ((usable z).lookup.has_hijacked c) z c m
   pub builds : (m : Member) → (usable z).built m ≡ true → BuildsAlike z m
   pub makes : (c : List ℕ) → (usable z).made c ≡ true → MakesAlike z c
   pub objects : (c : List ℕ) → (usable z).made c ≡ true → is_hijacked c ≡ false
@@ -455,9 +454,10 @@ BoxesAlike z = (t : IrType) (c : ℕ) (w : World) (env : ir.Env) (s : ir.State) 
 abbrev pub MayBox : Setting → IrType → IrType → Type 0
 MayBox z expected own = (is_char own && not (is_char expected)) ≡ true → ((usable z).helper (helper_name BoxedChar) ≡ true) × BoxesAlike z
 
--- what the levels below give to trees, with what helpers do
+-- what the levels below give to trees, with what is looked up and what helpers do
 pub record Lawful (z : Setting) : Type 0 where
   pub base : Based z
+  pub looks : (c : List ℕ) (m : MethodName) → can_look_up (usable z) c m ≡ true → LooksUp ((usable z).lookup.has_hijacked c) z c m
   pub checks : (usable z).helper check_name ≡ true → ChecksAlike z
   pub divisions : (o : BinaryOp) → divides (usable z) o ≡ true → DividesAlike z o
   pub boxes : can_box (usable z) ≡ true → BoxesAlike z
