@@ -13,3 +13,4 @@ pub use Rattle.class_tests.proofs.Markers
 pub use Rattle.class_tests.proofs.Reflective
 pub use Rattle.class_tests.proofs.Parameters
 pub use Rattle.class_tests.proofs.Telling
+pub use Rattle.class_tests.proofs.Shortly as ClassTestsShortly

@@ -26,7 +26,7 @@ use Rattle.sj_proper.specs.Coercions.{coerced, coerced_arguments, coerced_receiv
 use Rattle.sj_proper.specs.Desugar.{into, receiver, operand, operands, finish, first_of, rest_of, types_of, callee_of}
 use Rattle.sj_proper.specs.Spill.{Destination, Code, Operand, spill, spill_case, then_use, all_plain, texts}
 use Rattle.sj_proper.specs.Standing.{types_referred, call_type}
-use Rattle.sj_proper.specs.Sure.{is_sure}
+use Rattle.sure_receivers.specs.Sure.{is_sure}
 use Rattle.sj_proper.specs.Built.{Usable, can_look_up}
 use Rattle.sj_names.specs.declared.method_names.MethodName.{MethodName}
 use Rattle.sj_names.specs.declared.references.TypeRef.{TypeRef}

@@ -71,7 +71,7 @@ module _ (p : Place) (ordered : IsSubtyping (IsSub p.classes)) (names : NamesDif
   }
 
   lawful : (d : Direction) (n k : ℕ) → Levels d n → Enough p.room p.room.each d n k → (f : Code) → Reaches p f.file → (is_mutable : List ℕ → Bool) → Lawful (within f d is_mutable n k)
-  lawful d n k levels h f reaches is_mutable = record { base = based d n k levels (fewer d p.room.each n k h) f reaches is_mutable; checks = λ i. impossible (sym (alone.helper f.file check_name) ∙ i); divisions = λ o i. no_division (p.has f.file) (alone.helper f.file) o i; boxes = λ i. impossible (sym (alone.helper f.file (codes "$C")) ∙ i); tests = λ t i. impossible (sym (alone.tests f.file t) ∙ i); casts = λ t i. impossible (sym (alone.casts f.file t) ∙ i); compares = λ i. impossible (sym (alone.helper f.file (codes "$eq")) ∙ i) }
+  lawful d n k levels h f reaches is_mutable = record { base = based d n k levels (fewer d p.room.each n k h) f reaches is_mutable; looks = λ c m i. impossible (sym (alone.looked f.file c m) ∙ (and_parts ((p.has f.file).looked_up c m) ((p.has f.file).dispatched m || not ((p.has f.file).lookup.has_hijacked c)) i).0); checks = λ i. impossible (sym (alone.helper f.file check_name) ∙ i); divisions = λ o i. no_division (p.has f.file) (alone.helper f.file) o i; boxes = λ i. impossible (sym (alone.helper f.file (codes "$C")) ∙ i); tests = λ t i. impossible (sym (alone.tests f.file t) ∙ i); casts = λ t i. impossible (sym (alone.casts f.file t) ∙ i); compares = λ i. impossible (sym (alone.helper f.file (codes "$eq")) ∙ i) }
 
   next : (d : Direction) (n k : ℕ) → Levels d n → Enough p.room p.room.each d n k → Level d (suc n) (suc k)
   next d n k levels h f reaches is_mutable c q j t sound ahead out wr fine w env s sc u ready same = does (within f d is_mutable n k) (lawful d n k levels h f reaches is_mutable) (levels k (fewer d p.room.each n k h) f reaches is_mutable) t c q j sound ahead out wr fine w env s sc u ready same

@@ -1,10 +1,12 @@
 -- A method that is looked up on an instance, and the function of the target: by the entry of an object, and by the function that tells primitive receivers apart.
 use Rattle.std.proofs.Common.{◌≡◌, ℕ, zero, suc, ◌+◌, ◌++◌, arith, Bool, true, false, List, [], ◌∷◌, ◌||◌, length, slice_get, Contains, Some, None, Option, codes, refl, sym, ap, ◌∙◌, subst, ◌⊎◌, ⊎_elim, inl, inr, if◌then◌else◌}
 use Rattle.std.proofs.lemmas.List.{length-append}
-use Rattle.outcomes.specs.Outcome.{Out}
-use Rattle.outcomes.specs.Agreement.{Direction, Sim}
+use Rattle.outcomes.specs.Outcome.{Out, going}
+use Rattle.outcomes.specs.Agreement.{Direction, backward, Sim}
+use Rattle.outcomes.proofs.Simulation.{sim_going}
 use Rattle.class_casts.proofs.Bridge.{bridges_hand_on}
 use Rattle.class_casts.proofs.Parameters.{no_parameter}
+use Rattle.class_casts.proofs.ClassTestsShortly.{short_calls_go}
 use Rattle.class_casts.proofs.Telling.{dispatch_tells, others_call_methods}
 use Rattle.class_casts.specs.ClassTestsKinds.{is_of, is_told, CaseStands, CasesStand, cases_none, cases_more, dispatch_code, told_outcome}
 use Rattle.class_casts.specs.Dispatch.{Told}
@@ -38,7 +40,7 @@ use Rattle.sj_bodies.specs.SjPlainStanding.{suits}
 use Rattle.sj_calls.proofs.Boxed.{boxes, box_below, object_apart}
 use Rattle.sj_calls.proofs.Testing.{kind_stands}
 use Rattle.sj_calls.specs.Objects.{RunsOn}
-use Rattle.sj_proper.specs.Coercions.{is_char}
+use Rattle.sj_bodies.specs.Coercions.{is_char}
 use Rattle.sj_trees.specs.Types.{class_type}
 use Rattle.sj_trees.specs.declared.classes.MethodDef.{MethodDef}
 use Rattle.sj_mangling.specs.Bindings.{method_binding}
@@ -143,6 +145,17 @@ chosen p n home boxes m (t ∷ ts) k x xs last u of_k has = by (is_of u boxes t.
     by false h (inl e) = impossible (sym h ∙ ap (λ (j : Kind). is_of u boxes j x) e ∙ of_k)
     by false h (inr c) = let r = chosen p n home boxes m ts k x xs last u of_k c in record { case = r.case; among = further_on t ts r.case r.among; kind_is = r.kind_is; outcome = ap (whole (told_outcome p n home boxes m ts x xs last u)) h ∙ r.outcome }
 
+-- what a case uses stands there
+case_stands : (p : Place) (m : MethodName) (w : World) (s : ir.State) (u : js.State) → SameState p w s u → (t : Told) → CaseRuns p m t → CaseStands p.program (p.home (a_dispatch m)) (λ o. p.home (a_method (member o Public m))) (boxes p) m u t
+case_stands p m w s u same t r = let k = kind_stands p w s u same (p.home (a_dispatch m)) t.kind r.test in record {
+  test_home = k.home;
+  kind_told = r.told;
+  test = k.test;
+  test_is = k.test_is;
+  boxes_stand = k.boxes_stand;
+  called = record { const = false; cell_is = subst (λ (o : List ℕ). js_meaning.top_cell (owner p.program (p.home (a_dispatch m)) (public_function o m)) (public_function o m) u ≡ js.holds false (js.function (p.home (a_method (member o Public m))) (public_function o m))) r.owner_is (ap (λ h. js_meaning.top_cell h (public_function r.its.owner m) u) r.its.reached ∙ same.tops r.its.user (a_method (member r.its.owner Public m)) r.its.usable) };
+}
+
 module _ (z : Setting) (c : List ℕ) (m : MethodName) where
   abbrev p : Place
   p = z.place
@@ -177,8 +190,18 @@ module _ (z : Setting) (c : List ℕ) (m : MethodName) where
   object_receiver : (w y : World) (cls : List ℕ) (i a : ℕ) (u : js.State) → Grows w y → AnObject w cls i a u → IsReceiver y cls (ir.reference i) (js.object a)
   object_receiver w y cls i a u g o = record { stands = record { stands = same_reference i a (g.places i a o.there); suits = open-refers (class_type cls) i (type-open cls o.free) }; there = λ e. cc }
 
+  -- what a call of the entry does that an object finds
+  abbrev pub EntryCalls : Type 0
+  EntryCalls = (cls : List ℕ) (f : FindsTarget p cls m) (y : World) (i : ℕ) (x : js.Value) (vs : List ir.Value) (xs : List js.Value) (env : ir.Env) (sc : js.Scope) (s : ir.State) (u : js.State) → IsReceiver y cls (ir.reference i) x → SameValues y (types_referred m.params) vs xs → SameState p y s u → Sim z.direction (Valued p y env (call_type m.result)) (by_class p z.direction z.low m cls (ir.reference i) vs env s) (js_meaning.call_with_this p.program z.js_low x (js_objects.value_called (js.method (link_of p f.at ∷ f.above) (method_binding Entry m))) xs sc u)
+
+  pub calls_on : (n : ℕ) → z.js_low ≡ js_meaning.below p.program (suc n) → TargetsAlike p z.direction z.low (js_meaning.below p.program n) → EntryCalls
+  calls_on n level alike cls f y i x vs xs env sc s u this values same = subst (λ l. Sim z.direction (Valued p y env (call_type m.result)) (by_class p z.direction z.low m cls (ir.reference i) vs env s) (js_meaning.call_with_this p.program l x (js_objects.value_called (js.method (link_of p f.at ∷ f.above) (method_binding Entry m))) xs sc u)) (sym level) (bridge_alike p z.direction z.low n alike cls m f y i x vs xs env sc s u this values same)
+
+  pub calls_going : z.direction ≡ backward → z.js_low ≡ js_meaning.below p.program zero → EntryCalls
+  calls_going back level cls f y i x vs xs env sc s u this values same = subst (λ d. Sim d (Valued p y env (call_type m.result)) (by_class p z.direction z.low m cls (ir.reference i) vs env s) (js_meaning.call_with_this p.program z.js_low x (js_objects.value_called (js.method (link_of p f.at ∷ f.above) (method_binding Entry m))) xs sc u)) (sym back) (subst (λ o. Sim backward (Valued p y env (call_type m.result)) (by_class p z.direction z.low m cls (ir.reference i) vs env s) o) (sym (ap (λ l. js_meaning.call_with_this p.program l x (js_objects.value_called (js.method (link_of p f.at ∷ f.above) (method_binding Entry m))) xs sc u) level ∙ ap (λ q. js_meaning.method_call (js_meaning.below p.program 0) (link_of p f.at) f.above q x xs u) f.code)) (sim_going (Valued p y env (call_type m.result)) (by_class p z.direction z.low m cls (ir.reference i) vs env s)))
+
   -- where no primitive value is an instance: the entry of the object
-  module _ (n : ℕ) (level : z.js_low ≡ js_meaning.below p.program (suc n)) (alike : TargetsAlike p z.direction z.low (js_meaning.below p.program n)) (objects : (e : List ℕ) → MadeSomewhere p e → is_ancestor p.classes e c ≡ true → FindsTarget p e m) (none : (h : List ℕ) → is_hijacked h ≡ true → is_ancestor p.classes h c ≡ false) where
+  module _ (calls : EntryCalls) (objects : (e : List ℕ) → MadeSomewhere p e → is_ancestor p.classes e c ≡ true → FindsTarget p e m) (none : (h : List ℕ) → is_hijacked h ≡ true → is_ancestor p.classes h c ≡ false) where
     no_kind : {A : Type 0} (h cls : List ℕ) → is_hijacked h ≡ true → Some h ≡ Some cls → is_ancestor p.classes cls c ≡ true → A
     no_kind h cls is e below = impossible (sym (none h is) ∙ ap (λ (q : List ℕ). is_ancestor p.classes q c) (some_class h cls e) ∙ below)
 
@@ -189,7 +212,7 @@ module _ (z : Setting) (c : List ℕ) (m : MethodName) where
         object i a cls o = record {
           found = js_objects.value_called (js.method (link_of p o.finds.at ∷ o.finds.above) (method_binding Entry m));
           is = o.property;
-          calls = λ y g vs xs env sc t k values states. subst (λ l. Sim z.direction (Valued p y env (call_type m.result)) (by_class p z.direction z.low m cls (ir.reference i) vs env t) (js_meaning.call_with_this p.program l (js.object a) (js_objects.value_called (js.method (link_of p o.finds.at ∷ o.finds.above) (method_binding Entry m))) xs sc k)) (sym level) (bridge_alike p z.direction z.low n alike cls m o.finds y i (js.object a) vs xs env sc t k (object_receiver w y cls i a u g o) values states);
+          calls = λ y g vs xs env sc t k values states. calls cls o.finds y i (js.object a) vs xs env sc t k (object_receiver w y cls i a u g o) values states;
         }
 
         by : (v : ir.Value) (x : js.Value) → Stands w (is_char (class_type c)) v x → (cls : List ℕ) → ir_world.class_of_value s v ≡ Some cls → is_ancestor p.classes cls c ≡ true → Finds z m w cls v x u
@@ -212,31 +235,28 @@ module _ (z : Setting) (c : List ℕ) (m : MethodName) where
     file = p.home (a_dispatch m)
 
     module _ (w : World) (s : ir.State) (u : js.State) (same : SameState p w s u) where
-      one_case : (t : Told) → CaseRuns p m t → CaseStands p.program file home (boxes p) m u t
-      one_case t r = let k = kind_stands p w s u same file t.kind r.test in record { test_home = k.home; kind_told = r.told; test = k.test; test_is = k.test_is; boxes_stand = k.boxes_stand; called = record { const = false; cell_is = subst (λ (o : List ℕ). js_meaning.top_cell (owner p.program file (public_function o m)) (public_function o m) u ≡ js.holds false (js.function (home o) (public_function o m))) r.owner_is (ap (λ h. js_meaning.top_cell h (public_function r.its.owner m) u) r.its.reached ∙ same.tops r.its.user (a_method (member r.its.owner Public m)) r.its.usable) } }
-
       cases_stand : (ts : List Told) → ((t : Told) → Contains ts t → CaseRuns p m t) → CasesStand p.program file home (boxes p) m u ts
       cases_stand [] runs = cases_none
-      cases_stand (t ∷ ts) runs = cases_more t ts (one_case t (runs t (at_front t ts))) (cases_stand ts (λ q i. runs q (further_on t ts q i)))
+      cases_stand (t ∷ ts) runs = cases_more t ts (case_stands p m w s u same t (runs t (at_front t ts))) (cases_stand ts (λ q i. runs q (further_on t ts q i)))
 
       -- what the function comes to
       abbrev last : js.Value → List js.Value → Out js.ExpressionEnd
-      last x xs = call_found p.program (js_meaning.below p.program (suc n)) x (js_objects.callee p.program u x (method_binding Entry m)) xs (js_meaning.function_scope file (dispatch_code m st.cases) (x ∷ xs)) u
+      last x xs = call_found p.program (js_meaning.below p.program (suc n)) x (js_objects.callee p.program u x (method_binding Entry m)) xs (js_meaning.function_scope file (dispatch_code m (st.first ∷ st.others)) (x ∷ xs)) u
 
-      comes_to : (x : js.Value) (vs : List ir.Value) (xs : List js.Value) → SameValues w (types_referred m.params) vs xs → top_call p z.js_low (a_dispatch m) (x ∷ xs) u ≡ told_outcome p.program (suc n) home (boxes p) m st.cases x xs (last x xs) u
-      comes_to x vs xs values = ap (λ l. top_call p l (a_dispatch m) (x ∷ xs) u) level ∙ ap (λ q. js_meaning.code_call (js_meaning.below p.program (suc (suc n))) file q (x ∷ xs) u) st.code ∙ dispatch_tells p.program n file home (boxes p) m st.cases x xs u (cases_stand st.cases st.runs) st.distinct (handed w m vs xs values)
+      comes_to : (x : js.Value) (vs : List ir.Value) (xs : List js.Value) → SameValues w (types_referred m.params) vs xs → top_call p z.js_low (a_dispatch m) (x ∷ xs) u ≡ told_outcome p.program (suc n) home (boxes p) m (st.first ∷ st.others) x xs (last x xs) u
+      comes_to x vs xs values = ap (λ l. top_call p l (a_dispatch m) (x ∷ xs) u) level ∙ ap (λ q. js_meaning.code_call (js_meaning.below p.program (suc (suc n))) file q (x ∷ xs) u) st.code ∙ dispatch_tells p.program n file home (boxes p) m (st.first ∷ st.others) x xs u (cases_stand (st.first ∷ st.others) st.runs) st.distinct (handed w m vs xs values)
 
       of_kind : (k : Kind) (v : ir.Value) (x : js.Value) (vs : List ir.Value) (xs : List js.Value) (env : ir.Env) → is_told k ≡ true → is_of u (boxes p) k x ≡ true → is_ancestor p.classes (kind_class k) c ≡ true → IsReceiver w (kind_class k) v x → (v ≡ ir.null → ⊥) → SameValues w (types_referred m.params) vs xs → Sim z.direction (Valued p w env (call_type m.result)) (by_class p z.direction z.low m (kind_class k) v vs env s) (top_call p z.js_low (a_dispatch m) (x ∷ xs) u)
       of_kind k v x vs xs env told of_k below this there values = subst (λ o. Sim z.direction (Valued p w env (call_type m.result)) (by_class p z.direction z.low m (kind_class k) v vs env s) o) (sym (comes_to x vs xs values ∙ r.outcome)) (subst (λ o. Sim z.direction (Valued p w env (call_type m.result)) o (top_call p (js_meaning.below p.program (suc n)) (a_method (member r.case.owner Public m)) (x ∷ xs) u)) (sym (called_on p.classes z.low (ir_meaning.target_in p.classes (Some (kind_class k)) m) v vs env s there)) (subst (λ (q : Kind). Sim z.direction (Valued p w env (call_type m.result)) (ir_meaning.call z.low (ir_meaning.target_in p.classes (Some (kind_class q)) m) (Some v) vs env s) (top_call p (js_meaning.below p.program (suc n)) (a_method (member r.case.owner Public m)) (x ∷ xs) u)) r.kind_is (subst (λ (q : List ℕ). Sim z.direction (Valued p w env (call_type m.result)) (ir_meaning.call z.low (ir_meaning.target_in p.classes (Some (kind_class r.case.kind)) m) (Some v) vs env s) (top_call p (js_meaning.below p.program (suc n)) (a_method (member q Public m)) (x ∷ xs) u)) runs.owner_is (one_less (member (kind_class r.case.kind) Public m) (member runs.its.owner Public m) runs.its.target runs.its.runs w v x vs xs env s u (subst (λ (q : Kind). IsReceiver w (kind_class q) v x) (sym r.kind_is) this) values same))))
         where
-          r : Chosen p.program (suc n) home (boxes p) m st.cases k x xs (last x xs) u
-          r = chosen p.program (suc n) home (boxes p) m st.cases k x xs (last x xs) u of_k (st.each k told below)
+          r : Chosen p.program (suc n) home (boxes p) m (st.first ∷ st.others) k x xs (last x xs) u
+          r = chosen p.program (suc n) home (boxes p) m (st.first ∷ st.others) k x xs (last x xs) u of_k (st.each k told below)
 
           runs : CaseRuns p m r.case
           runs = st.runs r.case r.among
 
       of_object : (i a : ℕ) (cls : List ℕ) (vs : List ir.Value) (xs : List js.Value) (env : ir.Env) → AnObject w cls i a u → SameValues w (types_referred m.params) vs xs → Sim z.direction (Valued p w env (call_type m.result)) (by_class p z.direction z.low m cls (ir.reference i) vs env s) (top_call p z.js_low (a_dispatch m) (js.object a ∷ xs) u)
-      of_object i a cls vs xs env o values = subst (λ q. Sim z.direction (Valued p w env (call_type m.result)) (by_class p z.direction z.low m cls (ir.reference i) vs env s) q) (sym (comes_to (js.object a) vs xs values ∙ others_call_methods p.program (suc n) a home (boxes p) m st.cases xs (last (js.object a) xs) u (object_apart p w s u same i a o.there) ∙ ap (λ q. call_found p.program (js_meaning.below p.program (suc n)) (js.object a) q xs (js_meaning.function_scope file (dispatch_code m st.cases) (js.object a ∷ xs)) u) o.property)) (bridge_alike p z.direction z.low n two_less cls m o.finds w i (js.object a) vs xs env (js_meaning.function_scope file (dispatch_code m st.cases) (js.object a ∷ xs)) s u (object_receiver w w cls i a u (grows-refl w) o) values same)
+      of_object i a cls vs xs env o values = subst (λ q. Sim z.direction (Valued p w env (call_type m.result)) (by_class p z.direction z.low m cls (ir.reference i) vs env s) q) (sym (comes_to (js.object a) vs xs values ∙ others_call_methods p.program (suc n) a home (boxes p) m (st.first ∷ st.others) xs (last (js.object a) xs) u (object_apart p w s u same i a o.there) ∙ ap (λ q. call_found p.program (js_meaning.below p.program (suc n)) (js.object a) q xs (js_meaning.function_scope file (dispatch_code m (st.first ∷ st.others)) (js.object a ∷ xs)) u) o.property)) (bridge_alike p z.direction z.low n two_less cls m o.finds w i (js.object a) vs xs env (js_meaning.function_scope file (dispatch_code m (st.first ∷ st.others)) (js.object a ∷ xs)) s u (object_receiver w w cls i a u (grows-refl w) o) values same)
 
       -- a value of a kind is of the type of the kind's class
       receiver : (k : Kind) (v : ir.Value) (x : js.Value) → is_char (class_type (kind_class k)) ≡ false → Stands w false v x → suits (class_type (kind_class k)) v ≡ true → (v ≡ ir.null → ⊥) → IsReceiver w (kind_class k) v x
@@ -261,3 +281,18 @@ module _ (z : Setting) (c : List ℕ) (m : MethodName) where
 
     pub dispatches_alike : DispatchesAlike z c m
     dispatches_alike w v x one vs xs env s u values same = by_value w s u same v x (subst (λ (b : Bool). Stands w b v x) (class-no-char c) one.stands.stands) one.its.class (told_class p w s u same v one.its.class one.its.told) one.its.below vs xs env values
+
+  -- within a unit or none it is going
+  module _ (st : DispatchStands p c m) where
+    pub dispatches_going : z.direction ≡ backward → (z.js_low ≡ js_meaning.below p.program 0) ⊎ (z.js_low ≡ js_meaning.below p.program 1) → DispatchesAlike z c m
+    dispatches_going back short w v x one vs xs env s u values same = subst (λ d. Sim d (Valued p w env (call_type m.result)) (by_class p z.direction z.low m one.its.class v vs env s) (top_call p z.js_low (a_dispatch m) (x ∷ xs) u)) (sym back) (subst (λ o. Sim backward (Valued p w env (call_type m.result)) (by_class p z.direction z.low m one.its.class v vs env s) o) (sym (goes short)) (sim_going (Valued p w env (call_type m.result)) (by_class p z.direction z.low m one.its.class v vs env s)))
+      where
+        file : Name
+        file = p.home (a_dispatch m)
+
+        called : (l : js_meaning.Low) → top_call p l (a_dispatch m) (x ∷ xs) u ≡ js_meaning.code_call l file (Some (dispatch_code m (st.first ∷ st.others))) (x ∷ xs) u
+        called l = ap (λ q. js_meaning.code_call l file q (x ∷ xs) u) st.code
+
+        goes : (z.js_low ≡ js_meaning.below p.program 0) ⊎ (z.js_low ≡ js_meaning.below p.program 1) → top_call p z.js_low (a_dispatch m) (x ∷ xs) u ≡ going
+        goes (inl e) = ap (λ l. top_call p l (a_dispatch m) (x ∷ xs) u) e ∙ called (js_meaning.below p.program 0)
+        goes (inr e) = ap (λ l. top_call p l (a_dispatch m) (x ∷ xs) u) e ∙ called (js_meaning.below p.program 1) ∙ short_calls_go.dispatch p.program file (λ o. p.home (a_method (member o Public m))) (boxes p) m st.first st.others x xs u (case_stands p m w s u same st.first (st.runs st.first (at_front st.first st.others))) st.distinct (handed w m vs xs values)

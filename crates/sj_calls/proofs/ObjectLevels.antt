@@ -84,6 +84,10 @@ module _ (p : Place) (plain : IsPlain p.classes) (ordered : IsSubtyping (IsSub p
   two_fewer forward n k h = let e = has.each in omega (arith, e, h)
   two_fewer backward n k h = omega (arith, h)
 
+  one_fewer : (d : Direction) (n k : ℕ) → Enough p.room p.room.each d n (suc k) → Enough p.room 0 d n k
+  one_fewer forward n k h = let e = has.each in omega (arith, e, h)
+  one_fewer backward n k h = omega (arith, h)
+
   times-suc : (a n : ℕ) → a * suc n ≡ a + a * n
   times-suc a n = grind arith
 
@@ -98,11 +102,24 @@ module _ (p : Place) (plain : IsPlain p.classes) (ordered : IsSubtyping (IsSub p
   taken_by : (w : World) (m o : Member) (v : ir.Value) (x : js.Value) → IsTargetOf p.classes m o → IsReceiver w m.class v x → IsReceiver w o.class v x
   taken_by w m o v x its this = record { stands = value-fits w (class_type o.class) (class_type m.class) v x (fits-sub p.classes ordered (class_type o.class) (class_type m.class) its.above (ap (λ b. b && not (is_char (class_type o.class))) (class-no-char m.class))) this.stands; there = this.there }
 
+  target_alike : (d : Direction) (n k : ℕ) → Level d n k → TargetsAlike p d (ir_meaning.below p.classes n) (js_meaning.below p.program k)
+  target_alike d n k level m o its l w v x vs xs env s u this values same = subst (λ (g : MethodName). Sim d (Valued p w env (call_type g.result)) (ir_meaning.call (ir_meaning.below p.classes n) (ir_meaning.static_target p.classes m.class m.namespace m.method) (Some v) vs env s) (top_call p (js_meaning.below p.program k) (a_method o) (x ∷ xs) u)) its.method (receive_alike p names d (ir_meaning.below p.classes n) (js_meaning.below p.program k) o l (ir_meaning.static_target p.classes m.class m.namespace m.method) (its.runs l.definition l.its_body l.has_body l.found) (level (record { file = p.home (a_method o); owner = o.class; sure = sure_locals l.its_body }) l.reaches (is_mutable_in l.definition l.its_body)) w v x vs xs env s u (taken_by w m o v x its this) (subst (λ (g : MethodName). SameValues w (types_referred g.params) vs xs) (sym its.method) values) same)
+
   method_alike : (f : Code) (is_mutable : List ℕ → Bool) (d : Direction) (n k : ℕ) → Level d n k → (m : Member) → IsTargetOf p.classes m (called_member (p.has f.file).lookup m.namespace m) → RunsOn p (called_member (p.has f.file).lookup m.namespace m) → ReceivesAlike (within f d is_mutable n k) m
-  method_alike f is_mutable d n k level m its l w v x vs xs env s u this values same = subst (λ (g : MethodName). Sim d (Valued p w env (call_type g.result)) (ir_meaning.call (ir_meaning.below p.classes n) (ir_meaning.static_target p.classes m.class m.namespace m.method) (Some v) vs env s) (top_call p (js_meaning.below p.program k) (a_method o) (x ∷ xs) u)) its.method (receive_alike p names d (ir_meaning.below p.classes n) (js_meaning.below p.program k) o l (ir_meaning.static_target p.classes m.class m.namespace m.method) (its.runs l.definition l.its_body l.has_body l.found) (level (record { file = p.home (a_method o); owner = o.class; sure = sure_locals l.its_body }) l.reaches (is_mutable_in l.definition l.its_body)) w v x vs xs env s u (taken_by w m o v x its this) (subst (λ (g : MethodName). SameValues w (types_referred g.params) vs xs) (sym its.method) values) same)
-    where
-      o : Member
-      o = called_member (p.has f.file).lookup m.namespace m
+  method_alike f is_mutable d n k level m its l = target_alike d n k level m (called_member (p.has f.file).lookup m.namespace m) its l
+
+  -- a method that is looked up takes a unit where an object is asked, and two where a function tells receivers apart
+  entries_at : (f : Code) (is_mutable : List ℕ → Bool) (c : List ℕ) (m : MethodName) → ((e : List ℕ) → MadeSomewhere p e → is_ancestor p.classes e c ≡ true → FindsTarget p e m) → ((h : List ℕ) → is_hijacked h ≡ true → is_ancestor p.classes h c ≡ false) → (d : Direction) (n k : ℕ) → Levels d n → Enough p.room p.room.each d n k → EntriesAlike (within f d is_mutable n k) c m
+  entries_at f is_mutable c m objects none d n (suc k) levels h = entries_alike (within f d is_mutable n (suc k)) c m (calls_on (within f d is_mutable n (suc k)) c m k refl (target_alike d n k (levels k (one_fewer d n k h)))) objects none
+  entries_at f is_mutable c m objects none forward n zero levels h = let e = has.beyond in absurd (omega (arith, e, h))
+  entries_at f is_mutable c m objects none backward n zero levels h = entries_alike (within f backward is_mutable n zero) c m (calls_going (within f backward is_mutable n zero) c m refl refl) objects none
+
+  dispatches_at : (f : Code) (is_mutable : List ℕ → Bool) (c : List ℕ) (m : MethodName) → ((e : List ℕ) → MadeSomewhere p e → is_ancestor p.classes e c ≡ true → FindsTarget p e m) → DispatchStands p c m → (d : Direction) (n k : ℕ) → Levels d n → Enough p.room p.room.each d n k → DispatchesAlike (within f d is_mutable n k) c m
+  dispatches_at f is_mutable c m objects st d n (suc (suc k)) levels h = dispatches_alike (within f d is_mutable n (suc (suc k))) c m k refl (target_alike d n (suc k) (levels (suc k) (one_fewer d n (suc k) h))) (target_alike d n k (levels k (two_fewer d n k h))) objects st
+  dispatches_at f is_mutable c m objects st forward n (suc zero) levels h = let e = has.each in absurd (omega (arith, e, h))
+  dispatches_at f is_mutable c m objects st forward n zero levels h = let e = has.beyond in absurd (omega (arith, e, h))
+  dispatches_at f is_mutable c m objects st backward n (suc zero) levels h = dispatches_going (within f backward is_mutable n 1) c m st refl (inr refl)
+  dispatches_at f is_mutable c m objects st backward n zero levels h = dispatches_going (within f backward is_mutable n 0) c m st refl (inl refl)
 
   constructor_alike : (f : Code) (is_mutable : List ℕ → Bool) (d : Direction) (n k : ℕ) → Enough p.room 0 d n k → Level d n k → (m : Member) → Constructs p m → BuildsAlike (within f d is_mutable n k) m
   constructor_alike f is_mutable d n (suc k) h level m l = build_alike p names d (ir_meaning.below p.classes n) k m l (level (record { file = p.home (a_constructor m); owner = m.class; sure = sure_locals l.its_body }) l.reaches (is_mutable_in l.definition l.its_body))
@@ -195,8 +212,15 @@ module _ (p : Place) (plain : IsPlain p.classes) (ordered : IsSubtyping (IsSub p
   box_room forward n k h e = let b = has.beyond in omega (arith, b, h)
   box_room backward n k h e = absurd (cc)
 
+  looks_at : (f : Code) (is_mutable : List ℕ → Bool) (c : List ℕ) (m : MethodName) (b : Bool) → LooksUpThere p c m b → (d : Direction) (n k : ℕ) → Levels d n → Enough p.room p.room.each d n k → LooksUp b (within f d is_mutable n k) c m
+  looks_at f is_mutable c m b there = by b there.kinds
+    where
+      by : (b : Bool) → KindsRun p c m b → (d : Direction) (n k : ℕ) → Levels d n → Enough p.room p.room.each d n k → LooksUp b (within f d is_mutable n k) c m
+      by _ (no_kinds none) d n k levels h = entries_at f is_mutable c m there.objects none d n k levels h
+      by _ (some_kinds st) d n k levels h = dispatches_at f is_mutable c m there.objects st d n k levels h
+
   lawful : (d : Direction) (n k : ℕ) → Levels d n → Enough p.room p.room.each d n k → (f : Code) → Reaches p f.file → (is_mutable : List ℕ → Bool) → Lawful (within f d is_mutable n k)
-  lawful d n k levels h f reaches is_mutable = record { base = based d n k levels (fewer d p.room.each n k h) f reaches is_mutable; checks = λ i. checks_at (has.checked f.file i) f is_mutable d n k levels h; divisions = λ o i. divides_at f is_mutable o i (has.divided f.file o i) d n k levels h; boxes = λ i. boxes_alike (within f d is_mutable n k) k (has.boxes f.file i) refl (box_room d n k h); tests = λ t i. test_there f is_mutable t (has.tested f.file t i) d n k h; casts = λ t i. cast_there f is_mutable t (has.cast f.file t i) d n k levels h; compares = λ i. compares_at f is_mutable (has.compared f.file i) d n k h }
+  lawful d n k levels h f reaches is_mutable = record { base = based d n k levels (fewer d p.room.each n k h) f reaches is_mutable; looks = λ c m i. looks_at f is_mutable c m ((p.has f.file).lookup.has_hijacked c) (has.looked f.file c m i) d n k levels h; checks = λ i. checks_at (has.checked f.file i) f is_mutable d n k levels h; divisions = λ o i. divides_at f is_mutable o i (has.divided f.file o i) d n k levels h; boxes = λ i. boxes_alike (within f d is_mutable n k) k (has.boxes f.file i) refl (box_room d n k h); tests = λ t i. test_there f is_mutable t (has.tested f.file t i) d n k h; casts = λ t i. cast_there f is_mutable t (has.cast f.file t i) d n k levels h; compares = λ i. compares_at f is_mutable (has.compared f.file i) d n k h }
 
   next : (d : Direction) (n k : ℕ) → Levels d n → Enough p.room p.room.each d n k → Level d (suc n) (suc k)
   next d n k levels h f reaches is_mutable c q j t sound ahead out wr fine w env s sc u ready same = does (within f d is_mutable n k) (lawful d n k levels h f reaches is_mutable) (levels k (fewer d p.room.each n k h) f reaches is_mutable) t c q j sound ahead out wr fine w env s sc u ready same

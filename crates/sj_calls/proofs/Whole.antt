@@ -302,7 +302,7 @@ module _ (w : ir_world.World) (id : List ℕ) (fs : List EmittedMethod) (es : Li
         top_there (a_helper h) l = impossible l
 
     no_objects : CallsAlone place
-    no_objects = record { received = λ f m. refl; built = λ f m. refl; made = λ f c. refl; field = λ f c g t. refl; static_field = λ f c g t. refl; static_setter = λ f c g t. refl; tests = λ f t. refl; casts = λ f t. refl; helper = λ f x. refl }
+    no_objects = record { received = λ f m. refl; looked = λ f c m. refl; built = λ f m. refl; made = λ f c. refl; field = λ f c g t. refl; static_field = λ f c g t. refl; static_setter = λ f c g t. refl; tests = λ f t. refl; casts = λ f t. refl; helper = λ f x. refl }
 
     names : NamesDiffer place
     names = emitted_names_differ w program (λ t. file) (λ f. has) no_room

@@ -55,13 +55,14 @@ pub record HasCase (cases : List Told) (k : Kind) : Type 0 where
   pub among : Contains cases case
   pub kind_is : case.kind ≡ k
 
--- the function stands in its file, with a case for each kind whose class is at or below this one
+-- the function stands in its file, with a case for each kind whose class is at or below this one, of which there are some
 pub record DispatchStands (p : Place) (c : List ℕ) (m : MethodName) : Type 0 where
-  pub cases : List Told
-  pub code : js_meaning.code_of p.program (p.home (a_dispatch m)) (method_binding Dispatch m) ≡ Some (dispatch_code m cases)
+  pub first : Told
+  pub others : List Told
+  pub code : js_meaning.code_of p.program (p.home (a_dispatch m)) (method_binding Dispatch m) ≡ Some (dispatch_code m (first ∷ others))
   pub distinct : are_distinct (codes "x" ∷ parameters_of m) ≡ true
-  pub runs : (t : Told) → Contains cases t → CaseRuns p m t
-  pub each : (k : Kind) → is_told k ≡ true → is_ancestor p.classes (kind_class k) c ≡ true → HasCase cases k
+  pub runs : (t : Told) → Contains (first ∷ others) t → CaseRuns p m t
+  pub each : (k : Kind) → is_told k ≡ true → is_ancestor p.classes (kind_class k) c ≡ true → HasCase (first ∷ others) k
 
 -- by whether a hijacked class stands at or below this one
 pub data KindsRun (p : Place) (c : List ℕ) (m : MethodName) : Bool → Type 0 where
