@@ -1,7 +1,7 @@
 -- All levels: trees and calls are alike at bounds that stand to each other as the direction says, by induction on the IR's bound alone, for each
 -- bound of the emitted code that is enough for it.
-use Rattle.std.specs.Prelude.{◌+◌, ◌*◌, codes}
-use Rattle.std.proofs.Common.{◌≡◌, ℕ, zero, suc, Bool, true, List, arith, sym, ◌∙◌}
+use Rattle.std.specs.Prelude.{◌+◌, ◌*◌, codes, not}
+use Rattle.std.proofs.Common.{◌≡◌, ℕ, zero, suc, Bool, true, List, arith, sym, ◌∙◌, ◌||◌}
 use Rattle.sj_names.proofs.Same.{impossible}
 use Rattle.dispatch_laws.specs.Templates.{called_member, check_name, statement_templates}
 use Rattle.sure_receivers.specs.Sure.{sure_locals}
@@ -19,7 +19,7 @@ use Rattle.sj_bodies.proofs.Contexts.{Came}
 use Rattle.sj_bodies.proofs.Main.{does}
 use Rattle.sj_bodies.proofs.Trees.{LowAlike}
 use Rattle.sj_bodies.proofs.Worlds.{World, SameValues}
-use Rattle.std.proofs.lemmas.Bool.{or_from}
+use Rattle.std.proofs.lemmas.Bool.{or_from, and_parts}
 use Rattle.sj_bodies.specs.Standing.{types_referred, call_type}
 use Rattle.sj_calls.specs.Methods.{Linked, CallsAlone, CallsAgree, ir_call, js_call}
 use Rattle.sj_calls.proofs.Calls.{call_alike}

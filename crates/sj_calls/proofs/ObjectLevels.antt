@@ -1,6 +1,8 @@
 -- All levels, where code makes objects and uses them: trees and calls are alike at bounds that stand to each other as the direction says.
+use Rattle.sj_calls.proofs.Looking.{TargetsAlike, calls_on, calls_going, entries_alike, dispatches_alike, dispatches_going}
+use Rattle.sj_calls.specs.Looked.{DispatchStands, FindsTarget, KindsRun, no_kinds, some_kinds, LooksUpThere}
 use Rattle.std.specs.Prelude.{◌+◌, ◌*◌, ◌≤◌, ◌&&◌, not, codes}
-use Rattle.std.proofs.Common.{◌≡◌, ℕ, zero, suc, Bool, true, false, List, [], ◌∷◌, Some, length, refl, sym, ap, subst, arith}
+use Rattle.std.proofs.Common.{◌≡◌, ℕ, zero, suc, Bool, true, false, List, [], ◌∷◌, Some, length, refl, sym, ap, subst, arith, inl, inr}
 use Rattle.outcomes.specs.Agreement.{Direction, forward, backward, Enough, Sim}
 use Rattle.outcomes.proofs.Simulation.{sim_over, sim_going}
 use Rattle.class_casts.specs.FailureVariants.{NullReceiver, Division, Cast}
@@ -10,7 +12,7 @@ use Rattle.sj_bodies.specs.Helper.{Helper}
 use Rattle.class_casts.specs.HelperVariants.{Equal, NotNull, Throws}
 use Rattle.dispatch_laws.proofs.OwnTargets.{called_target}
 use Rattle.dispatch_laws.specs.Targets.{IsTargetOf}
-use Rattle.dispatch_laws.specs.Dispatch.{chain_of}
+use Rattle.dispatch_laws.specs.Dispatch.{chain_of, is_ancestor}
 use Rattle.dispatch_laws.specs.Meaning as ir_meaning
 use Rattle.dispatch_laws.specs.States as ir
 use Rattle.dispatch_laws.specs.World.{member_of}
@@ -25,7 +27,7 @@ use Rattle.sj_bodies.specs.Coercions.{is_char}
 use Rattle.sj_bodies.proofs.Fitting.{fits-sub}
 use Rattle.sj_bodies.proofs.Boxes.{class-no-char}
 use Rattle.sure_receivers.specs.Sure.{sure_locals}
-use Rattle.sj_bodies.specs.Settings.{Place, Code, a_function, a_method, a_constructor, a_setter, a_helper, division_helper, Setting, SameState, Valued, Built, NamesDiffer, Reaches, Based, Lawful, BuildsAlike, ReceivesAlike, SetsAlike, ChecksAlike, DividesAlike, HasFunction, TestsAlike, CastsAlike, ComparesAlike, IsReceiver, a_test, a_cast, top_call}
+use Rattle.sj_bodies.specs.Settings.{Place, Code, a_function, a_method, a_constructor, a_setter, a_helper, division_helper, Setting, SameState, Valued, Built, NamesDiffer, Reaches, Based, Lawful, BuildsAlike, ReceivesAlike, SetsAlike, ChecksAlike, DividesAlike, HasFunction, TestsAlike, CastsAlike, ComparesAlike, IsReceiver, a_test, a_cast, top_call, DispatchesAlike, EntriesAlike, LooksUp, MadeSomewhere}
 use Rattle.sj_bodies.specs.Standing.{Fits, types_referred, call_type}
 use Rattle.sj_bodies.proofs.Statics.{set_static}
 use Rattle.sj_bodies.specs.Built.{divides}
