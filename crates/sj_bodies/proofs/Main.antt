@@ -1,5 +1,5 @@
 -- The theorem on trees: one induction, both directions.
-use Rattle.sj_proper.specs.Standing.{call_type, types_referred}
+use Rattle.sj_proper.specs.Standing.{call_type, types_referred, MayStand}
 use Rattle.std.specs.Prelude.{ℤ, pos, ◌&&◌, ◌||◌, not}
 use Rattle.std.proofs.Common.{◌≡◌, ℕ, Bool, true, false, List, [], ◌∷◌, Some, refl, sym, ap, ◌∙◌, subst, ◌⊎◌, inl, inr, ⊎_elim}
 use mathlib.Core.Path.{fun_ext}
@@ -423,8 +423,10 @@ module _ (z : Setting) (lawful : Lawful z) (low : LowAlike z) where
       Goal : ir.Run → (List ir.Value → ir.Run) → (List core.Expression → core.Expression) → IrType → Type 0
       Goal run a text i = Ends z lawful c c.scope k w sc (ir_meaning.in_order (run ∷ ir_meaning.operands z.place.classes z.low ts) a env s) (then_use (spill (receiver z.is_mutable z.code.sure e (λ k j. into z.is_mutable z.code.sure c.targets k j e) ∷ operands z.is_mutable z.code.sure c.targets ts) j) (λ es. finish k p i false (text es))).statements sc u
 
+      makes : Makes (is_boxed_at (goal_of k) t) × Makes (is_boxed Any e || any_is_boxed m.params ts) × Makes (operand_boxes (goals_of c.targets) e) × Makes (operands_box (goals_of c.targets) ts)
       makes = called e m ts t c k fine.boxed
 
+      may : MayStand (usable z) (class_type l.class) (type_of_term e) × ArgumentsFit z.place.classes (usable z) ts m.params
       may = looked_stand z.place.classes (usable z) e l.class m ts makes.1 fine.typed.0.finds fine.typed.0.meets.2
 
       on : StandsFor z (class_type l.class) (type_of_term e)

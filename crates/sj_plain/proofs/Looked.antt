@@ -29,7 +29,7 @@ use Rattle.sj_names.specs.declared.method_names.MethodName.{MethodName}
 use Rattle.sj_trees.specs.Types.{class_type}
 use Rattle.sj_trees.specs.declared.types.IrType.{IrType}
 use Rattle.sj_trees.specs.declared.types.IrType.TheVariants.{Any}
-use Rattle.sj_plain.specs.Settings.{Place, Setting, shown, usable, SameState, Valued, valued, thrown, Lawful, Inside, a_dispatch, top_function, ClassTold, of_object, of_kind, HasClass, IsInstance, call_by_class, LooksUp, EntriesAlike}
+use Rattle.sj_plain.specs.Settings.{Place, Setting, shown, usable, SameState, Valued, valued, thrown, Lawful, Inside, a_dispatch, top_function, ClassTold, of_object, of_kind, HasClass, IsInstance, call_by_class, Finds, LooksUp}
 use Rattle.sj_plain.proofs.Classes.{class_there, object_there}
 use Rattle.sj_plain.proofs.Orders.{OperandAlike, OperandsAlike, more_operands, operands-lift, all_shown, in_order_alike, valued-weaken}
 use Rattle.sj_plain.proofs.Tops.{row_shown, top_seen}
@@ -100,18 +100,18 @@ module _ (p : Place) (w : World) (s : ir.State) (u : js.State) (same : SameState
   pub call_is : (low : ir_meaning.Low) (c : List ℕ) (m : MethodName) (v : ir.Value) (one : HasClass p.classes w c v) (vs : List ir.Value) (env : ir.Env) → ir_meaning.call_instance p.classes low c m (v ∷ vs) env s ≡ ir_meaning.call_on p.classes low (ir_meaning.target_in p.classes (Some one.class) m) (v ∷ vs) env s
   call_is low c m v one vs env = ap (λ (b : Bool). if b then ir_meaning.call_on p.classes low (ir_meaning.target_in p.classes (ir_world.class_of_value s v) m) (v ∷ vs) env s else wrong) (instance_is c v one) ∙ ap (λ (o : Option (List ℕ)). ir_meaning.call_on p.classes low (ir_meaning.target_in p.classes o m) (v ∷ vs) env s) (told_class v one.class one.told)
 
-told_lift : (w y : World) (v : ir.Value) (d : List ℕ) → Grows w y → ClassTold w v d → ClassTold y v d
+pub told_lift : (w y : World) (v : ir.Value) (d : List ℕ) → Grows w y → ClassTold w v d → ClassTold y v d
 told_lift w y _ _ g (of_object i a c there told) = of_object i a c (g.places i a there) (g.classes i a c there told)
 told_lift w y _ _ g (of_kind v c h) = of_kind v c h
 
-pub class_lift : (classes : ir_world.World) (w y : World) (c : List ℕ) (v : ir.Value) → Grows w y → HasClass classes w c v → HasClass classes y c v
+abbrev pub class_lift : (classes : ir_world.World) (w y : World) (c : List ℕ) (v : ir.Value) → Grows w y → HasClass classes w c v → HasClass classes y c v
 class_lift classes w y c v g one = record { class = one.class; told = told_lift w y v one.class g one.told; below = one.below }
 
 pub instance_lift : (classes : ir_world.World) (w y : World) (c : List ℕ) (v : ir.Value) (x : js.Value) → Grows w y → IsInstance classes w c v x → IsInstance classes y c v x
 instance_lift classes w y c v x g one = record { stands = value-lift w y (class_type c) v x g one.stands; its = class_lift classes w y c v g one.its }
 
 -- what a tree gave
-value_given : ir.Ended → ir.Value
+abbrev value_given : ir.Ended → ir.Value
 value_given (ir.ends (ir.gives v) env s) = v
 value_given _ = ir.undefined
 
@@ -169,6 +169,7 @@ module _ (z : Setting) (lawful : Lawful z) (c : List ℕ) (m : MethodName) (free
       acts k vs xs s u h alike same = let one = instance_lift z.place.classes y k c v x h one in subst (λ o. Sim z.direction (Valued z.place base env (call_type m.result)) o (js_meaning.call z.place.program z.js_low fun (x ∷ xs) sc u)) (sym (call_is z.place k s u same z.low c m v one.its vs env)) (sim_weaken z.direction (Valued z.place k env (call_type m.result)) (Valued z.place base env (call_type m.result)) _ _ (λ a b. valued-weaken z base k env (call_type m.result) a b (grows-trans base y k g h)) (looks k v x one vs xs env s u (values-fit k (types_referred m.params) ts vs xs fit alike) same))
   behind_alike false looks ts fit base y env s sc u v x rs es g one others same = subst (λ o. Sim z.direction (Valued z.place base env (call_type m.result)) (ir_meaning.in_order rs (λ vs. act (v ∷ vs)) env s) (js_meaning.call_property z.place.program z.js_low (all_shown z es) x o sc u)) (sym entry.is) (in_order_alike z base y env sc y ts (call_type m.result) rs es (λ vs. act (v ∷ vs)) (js_meaning.call_with_this z.place.program z.js_low x entry.found) others acts y s u g (grows-refl y) (grows-refl y) same)
     where
+      entry : Finds z m y one.its.class v x u
       entry = looks y v x one s u same
 
       acts : (k : World) (vs : List ir.Value) (xs : List js.Value) (s : ir.State) (u : js.State) → Grows y k → SameValues k ts vs xs → SameState z.place k s u → Sim z.direction (Valued z.place base env (call_type m.result)) (act (v ∷ vs) env s) (js_meaning.call_with_this z.place.program z.js_low x entry.found xs sc u)
