@@ -55,7 +55,7 @@ use Rattle.sj_bodies.proofs.Statements.{finish_alike, valued_then, valued_done, 
 use Rattle.sj_bodies.proofs.Trees.{written, LowAlike, TreeDoes, FineHere, piece, operand_does, list_of, operands-list, runs-list, types-list}
 
 -- a receiver is of its type, checked or not
-received-type : (b : Bool) (o : Operand) → (received b o).tpe ≡ o.tpe
+pub received-type : (b : Bool) (o : Operand) → (received b o).tpe ≡ o.tpe
 received-type true o = refl
 received-type false o = refl
 
@@ -249,7 +249,7 @@ module _ (z : Setting) (lawful : Lawful z) (low : LowAlike z) where
           goes _ last = sim_wrong z.direction (Came z.place z.code c c.scope discard w sc) _
 
   -- a receiver and arguments as they are coerced
-  called_with : (c : Context) (e : Term) (d : List ℕ) (m : MethodName) (ts : Terms) (on : StandsFor z (class_type d) (type_of_term e)) (fit : StandForAll z (types_referred m.params) (types_of ts)) (w : World) (env : ir.Env) (sc : js.Scope) → Inside z.place z.code sc → (q : ir.Run) (qs : List ir.Run) (g : core.Expression) (gs : List core.Expression) → tells (receiver_piece c.targets e).here.tpe (text_of z g) ≡ true → OperandAlike z w env sc (receiver_piece c.targets e).here.tpe q (shown z g) → OperandsAlike z w env sc (types z lawful (list_of z lawful low c.targets ts)) qs gs → OperandsAlike z w env sc (stood (class_type d) (type_of_term e) on.0 ∷ all_stood (types_referred m.params) (types_of ts) fit.0) (q ∷ qs) (coerced (class_type d) (type_of_term e) g ∷ coerced_arguments m.params (types_of ts) gs)
+  pub called_with : (c : Context) (e : Term) (d : List ℕ) (m : MethodName) (ts : Terms) (on : StandsFor z (class_type d) (type_of_term e)) (fit : StandForAll z (types_referred m.params) (types_of ts)) (w : World) (env : ir.Env) (sc : js.Scope) → Inside z.place z.code sc → (q : ir.Run) (qs : List ir.Run) (g : core.Expression) (gs : List core.Expression) → tells (receiver_piece c.targets e).here.tpe (text_of z g) ≡ true → OperandAlike z w env sc (receiver_piece c.targets e).here.tpe q (shown z g) → OperandsAlike z w env sc (types z lawful (list_of z lawful low c.targets ts)) qs gs → OperandsAlike z w env sc (stood (class_type d) (type_of_term e) on.0 ∷ all_stood (types_referred m.params) (types_of ts) fit.0) (q ∷ qs) (coerced (class_type d) (type_of_term e) g ∷ coerced_arguments m.params (types_of ts) gs)
   called_with c e d m ts on fit w env sc inside q qs g gs told one others = more_operands (stood (class_type d) (type_of_term e) on.0) q (coerced (class_type d) (type_of_term e) g) (all_stood (types_referred m.params) (types_of ts) fit.0) qs (coerced_arguments m.params (types_of ts) gs) (stood_told z lawful.base w env sc inside (class_type d) (type_of_term e) on.0 g (subst (λ k. tells k (text_of z g) ≡ true) own told)) (stood_alike z lawful.base w env sc inside (class_type d) (type_of_term e) on.0 on.1 q g (subst (λ k. OperandAlike z w env sc k q (shown z g)) own one)) (operands_coerced z lawful.base w env sc inside m.params (types_of ts) qs gs fit.0 fit.1 (subst (λ is. OperandsAlike z w env sc is qs gs) (sym (types-list z lawful low c.targets ts)) others))
     where
       own : (receiver_piece c.targets e).here.tpe ≡ type_of_term e
