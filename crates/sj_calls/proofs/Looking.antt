@@ -94,7 +94,7 @@ called_on classes low o ir.null vs env s n = absurd (n refl)
 called_on classes low o v vs env s n = refl
 
 -- the kind that is told of a value
-kind_for : js.Value → Option Kind
+abbrev kind_for : js.Value → Option Kind
 kind_for js.undefined = Some kinds.Undefined
 kind_for (js.boolean b) = Some kinds.Boolean
 kind_for (js.number z) = Some kinds.Int
@@ -135,15 +135,15 @@ record Chosen (p : js.Program) (n : ℕ) (home : Name → Name) (boxes : List js
 
 chosen : (p : js.Program) (n : ℕ) (home : Name → Name) (boxes : List js.ClassLink) (m : MethodName) (ts : List Told) (k : Kind) (x : js.Value) (xs : List js.Value) (last : Out js.ExpressionEnd) (u : js.State) → is_of u boxes k x ≡ true → HasCase ts k → Chosen p n home boxes m ts k x xs last u
 chosen p n home boxes m [] k x xs last u of_k has = nothing_in has.case has.among
-chosen p n home boxes m (t ∷ ts) k x xs last u of_k has = by (is_of u boxes t.kind x) refl (⊎_elim (λ e. inl (ap (λ (q : Told). q.kind) e ∙ has.kind_is)) (λ i. inr (record { case = has.case; among = i; kind_is = has.kind_is })) (in_front_or_behind t ts has.case has.among))
+chosen p n home boxes m (t ∷ ts) k x xs last u of_k has = by (λ c. chosen p n home boxes m ts k x xs last u of_k c) (is_of u boxes t.kind x) refl (⊎_elim (λ e. inl (ap (λ (q : Told). q.kind) e ∙ has.kind_is)) (λ i. inr (record { case = has.case; among = i; kind_is = has.kind_is })) (in_front_or_behind t ts has.case has.among))
   where
     whole : Out js.ExpressionEnd → Bool → Out js.ExpressionEnd
     whole other b = if b then js_meaning.code_call (js_meaning.below p n) (home t.owner) (js_meaning.code_of p (home t.owner) (public_function t.owner m)) (x ∷ xs) u else other
 
-    by : (b : Bool) → is_of u boxes t.kind x ≡ b → (t.kind ≡ k) ⊎ HasCase ts k → Chosen p n home boxes m (t ∷ ts) k x xs last u
-    by true h c = record { case = t; among = at_front t ts; kind_is = one_kind u boxes t.kind k x h of_k; outcome = ap (whole (told_outcome p n home boxes m ts x xs last u)) h }
-    by false h (inl e) = impossible (sym h ∙ ap (λ (j : Kind). is_of u boxes j x) e ∙ of_k)
-    by false h (inr c) = let r = chosen p n home boxes m ts k x xs last u of_k c in record { case = r.case; among = further_on t ts r.case r.among; kind_is = r.kind_is; outcome = ap (whole (told_outcome p n home boxes m ts x xs last u)) h ∙ r.outcome }
+    by : (HasCase ts k → Chosen p n home boxes m ts k x xs last u) → (b : Bool) → is_of u boxes t.kind x ≡ b → (t.kind ≡ k) ⊎ HasCase ts k → Chosen p n home boxes m (t ∷ ts) k x xs last u
+    by later true h c = record { case = t; among = at_front t ts; kind_is = one_kind u boxes t.kind k x h of_k; outcome = ap (whole (told_outcome p n home boxes m ts x xs last u)) h }
+    by later false h (inl e) = impossible (sym h ∙ ap (λ (j : Kind). is_of u boxes j x) e ∙ of_k)
+    by later false h (inr c) = let r = later c in record { case = r.case; among = further_on t ts r.case r.among; kind_is = r.kind_is; outcome = ap (whole (told_outcome p n home boxes m ts x xs last u)) h ∙ r.outcome }
 
 -- what a case uses stands there
 case_stands : (p : Place) (m : MethodName) (w : World) (s : ir.State) (u : js.State) → SameState p w s u → (t : Told) → CaseRuns p m t → CaseStands p.program (p.home (a_dispatch m)) (λ o. p.home (a_method (member o Public m))) (boxes p) m u t
@@ -265,18 +265,18 @@ module _ (z : Setting) (c : List ℕ) (m : MethodName) where
       kind_by : (k : Kind) (cls : List ℕ) → Some (kind_class k) ≡ Some cls → is_ancestor p.classes cls c ≡ true → is_ancestor p.classes (kind_class k) c ≡ true
       kind_by k cls e below = ap (λ (q : List ℕ). is_ancestor p.classes q c) (some_class (kind_class k) cls e) ∙ below
 
-      at_class : (k : Kind) (cls : List ℕ) → Some (kind_class k) ≡ Some cls → {v : ir.Value} {x : js.Value} {vs : List ir.Value} {xs : List js.Value} {env : ir.Env} → Sim z.direction (Valued p w env (call_type m.result)) (by_class p z.direction z.low m (kind_class k) v vs env s) (top_call p z.js_low (a_dispatch m) (x ∷ xs) u) → Sim z.direction (Valued p w env (call_type m.result)) (by_class p z.direction z.low m cls v vs env s) (top_call p z.js_low (a_dispatch m) (x ∷ xs) u)
-      at_class k cls e {v} {x} {vs} {xs} {env} h = subst (λ (q : List ℕ). Sim z.direction (Valued p w env (call_type m.result)) (by_class p z.direction z.low m q v vs env s) (top_call p z.js_low (a_dispatch m) (x ∷ xs) u)) (some_class (kind_class k) cls e) h
+      at_class : (k : Kind) (cls : List ℕ) → Some (kind_class k) ≡ Some cls → (v : ir.Value) (x : js.Value) (vs : List ir.Value) (xs : List js.Value) (env : ir.Env) → Sim z.direction (Valued p w env (call_type m.result)) (by_class p z.direction z.low m (kind_class k) v vs env s) (top_call p z.js_low (a_dispatch m) (x ∷ xs) u) → Sim z.direction (Valued p w env (call_type m.result)) (by_class p z.direction z.low m cls v vs env s) (top_call p z.js_low (a_dispatch m) (x ∷ xs) u)
+      at_class k cls e v x vs xs env h = subst (λ (q : List ℕ). Sim z.direction (Valued p w env (call_type m.result)) (by_class p z.direction z.low m q v vs env s) (top_call p z.js_low (a_dispatch m) (x ∷ xs) u)) (some_class (kind_class k) cls e) h
 
       pub by_value : (v : ir.Value) (x : js.Value) → Stands w false v x → (cls : List ℕ) → ir_world.class_of_value s v ≡ Some cls → is_ancestor p.classes cls c ≡ true → (vs : List ir.Value) (xs : List js.Value) (env : ir.Env) → SameValues w (types_referred m.params) vs xs → Sim z.direction (Valued p w env (call_type m.result)) (by_class p z.direction z.low m cls v vs env s) (top_call p z.js_low (a_dispatch m) (x ∷ xs) u)
       by_value _ _ same_null cls e below vs xs env values = impossible (cc)
       by_value _ _ (same_char r q f) cls e below vs xs env values = impossible r
-      by_value _ _ same_undefined cls e below vs xs env values = at_class kinds.Undefined cls e (of_kind kinds.Undefined ir.undefined js.undefined vs xs env refl refl (kind_by kinds.Undefined cls e below) (receiver kinds.Undefined ir.undefined js.undefined refl same_undefined refl (λ e. cc)) (λ e. cc) values)
-      by_value _ _ (same_boolean b) cls e below vs xs env values = at_class kinds.Boolean cls e (of_kind kinds.Boolean (ir.boolean b) (js.boolean b) vs xs env refl refl (kind_by kinds.Boolean cls e below) (receiver kinds.Boolean (ir.boolean b) (js.boolean b) refl (same_boolean b) refl (λ e. cc)) (λ e. cc) values)
-      by_value _ _ (same_box r q a f b) cls e below vs xs env values = at_class kinds.Char cls e (of_kind kinds.Char (ir.char q) (js.object a) vs xs env refl (box_below p w s u same q a b) (kind_by kinds.Char cls e below) (receiver kinds.Char (ir.char q) (js.object a) refl (same_box r q a f b) refl (λ e. cc)) (λ e. cc) values)
-      by_value _ _ (same_number q f) cls e below vs xs env values = at_class kinds.Int cls e (of_kind kinds.Int (ir.number q) (js.number q) vs xs env refl refl (kind_by kinds.Int cls e below) (receiver kinds.Int (ir.number q) (js.number q) refl (same_number q f) refl (λ e. cc)) (λ e. cc) values)
-      by_value _ _ (same_long q f) cls e below vs xs env values = at_class kinds.Long cls e (of_kind kinds.Long (ir.long q) (js.big_int q) vs xs env refl refl (kind_by kinds.Long cls e below) (receiver kinds.Long (ir.long q) (js.big_int q) refl (same_long q f) refl (λ e. cc)) (λ e. cc) values)
-      by_value _ _ (same_text us) cls e below vs xs env values = at_class kinds.Text cls e (of_kind kinds.Text (ir.text us) (js.text us) vs xs env refl refl (kind_by kinds.Text cls e below) (receiver kinds.Text (ir.text us) (js.text us) refl (same_text us) refl (λ e. cc)) (λ e. cc) values)
+      by_value _ _ same_undefined cls e below vs xs env values = at_class kinds.Undefined cls e ir.undefined js.undefined vs xs env (of_kind kinds.Undefined ir.undefined js.undefined vs xs env refl refl (kind_by kinds.Undefined cls e below) (receiver kinds.Undefined ir.undefined js.undefined refl same_undefined refl (λ e. cc)) (λ e. cc) values)
+      by_value _ _ (same_boolean b) cls e below vs xs env values = at_class kinds.Boolean cls e (ir.boolean b) (js.boolean b) vs xs env (of_kind kinds.Boolean (ir.boolean b) (js.boolean b) vs xs env refl refl (kind_by kinds.Boolean cls e below) (receiver kinds.Boolean (ir.boolean b) (js.boolean b) refl (same_boolean b) refl (λ e. cc)) (λ e. cc) values)
+      by_value _ _ (same_box r q a f b) cls e below vs xs env values = at_class kinds.Char cls e (ir.char q) (js.object a) vs xs env (of_kind kinds.Char (ir.char q) (js.object a) vs xs env refl (box_below p w s u same q a b) (kind_by kinds.Char cls e below) (receiver kinds.Char (ir.char q) (js.object a) refl (same_box r q a f b) refl (λ e. cc)) (λ e. cc) values)
+      by_value _ _ (same_number q f) cls e below vs xs env values = at_class kinds.Int cls e (ir.number q) (js.number q) vs xs env (of_kind kinds.Int (ir.number q) (js.number q) vs xs env refl refl (kind_by kinds.Int cls e below) (receiver kinds.Int (ir.number q) (js.number q) refl (same_number q f) refl (λ e. cc)) (λ e. cc) values)
+      by_value _ _ (same_long q f) cls e below vs xs env values = at_class kinds.Long cls e (ir.long q) (js.big_int q) vs xs env (of_kind kinds.Long (ir.long q) (js.big_int q) vs xs env refl refl (kind_by kinds.Long cls e below) (receiver kinds.Long (ir.long q) (js.big_int q) refl (same_long q f) refl (λ e. cc)) (λ e. cc) values)
+      by_value _ _ (same_text us) cls e below vs xs env values = at_class kinds.Text cls e (ir.text us) (js.text us) vs xs env (of_kind kinds.Text (ir.text us) (js.text us) vs xs env refl refl (kind_by kinds.Text cls e below) (receiver kinds.Text (ir.text us) (js.text us) refl (same_text us) refl (λ e. cc)) (λ e. cc) values)
       by_value _ _ (same_reference i a h) cls e below vs xs env values = of_object i a cls vs xs env (an_object objects w s u same i a h cls e below) values
 
     pub dispatches_alike : DispatchesAlike z c m

@@ -28,7 +28,7 @@ use Rattle.sj_bodies.specs.Desugar.{desugared}
 use Rattle.dispatch_laws.specs.Templates.{member_name, parameter_names}
 use Rattle.sj_names.specs.declared.entry_points.EntryPoint.{EntryPoint}
 use Rattle.sj_names.specs.declared.method_names.Member.{Member}
-use Rattle.sj_bodies.specs.Settings.{some_constants, a_static, a_setter, a_test, a_cast, links_of, box_link, SameStored, same_object, a_method, a_constructor, a_helper, Place, Top, a_function, a_class, top_name, is_usable, TopHolds, SameHeap, SameState, Valued, valued, thrown, NamesDiffer, Reaches}
+use Rattle.sj_bodies.specs.Settings.{some_constants, a_static, a_setter, a_test, a_cast, links_of, box_link, SameStored, same_object, a_method, a_constructor, a_dispatch, a_helper, Place, Top, a_function, a_class, top_name, is_usable, TopHolds, SameHeap, SameState, Valued, valued, thrown, NamesDiffer, Reaches}
 use Rattle.sj_bodies.specs.Worlds.{World, nothing_made, Stands, same_undefined, same_null, same_boolean, same_char, same_box, IsBox, same_number, same_long, same_text, same_reference, no_values}
 use Rattle.sj_bodies.specs.SjPlainStanding.{suits}
 use Rattle.sj_names.proofs.Same.{impossible}
@@ -293,6 +293,7 @@ module _ (w : ir_world.World) (id : List ℕ) (fs : List EmittedMethod) (es : Li
         top_there (a_function m) l = let h = functions m l in ap (λ o. js_meaning.module_cell file o (member_name m)) (module_there file (module_with fs es)) ∙ subst (λ x. js_meaning.items_cell file (map function_item_of fs ++ map call_item_of es) (member_name x) ≡ js.holds false (js.function file (member_name x))) h.is (cell_found file fs (map call_item_of es) h.method h.listed)
         top_there (a_method m) l = impossible l
         top_there (a_constructor m) l = impossible l
+        top_there (a_dispatch m) l = impossible l
         top_there (a_class c) l = impossible l
         top_there (some_constants c) l = impossible l
         top_there (a_static c g t) l = impossible l
