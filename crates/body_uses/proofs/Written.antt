@@ -303,7 +303,7 @@ module _ (entries : List EntryPoint) (files : List SourceFile) (w : Classes) (fa
 
   tree_given : (t : Term) → Contains (trees e.its_body) t → Stands (MeetsThere w e.definition.namespace) t → Given has used t
   tree_given (apply_static p c n m ts t) among s = λ u. in_used (member c n m) (is_static n) (static_there n s.asked.0) (asked (apply_static p c n m ts t) among (Static (member c n m)) (here (Static (member c n m)) [])) u
-  tree_given (apply p d m ts t) among s = λ c same u. let of = of_hijacked d m c same in hijacked_there c m of.hijacked (asked (apply p d m ts t) among (Called c m) (of.asked (sure_among [] (trees e.its_body)))) u
+  tree_given (apply p d m ts t) among s = (λ c same u. let of = of_hijacked d m c same in hijacked_there c m of.hijacked (asked (apply p d m ts t) among (Called c m) (of.asked (sure_among [] (trees e.its_body)))) u, λ c same h u. impossible h)
   tree_given (apply_statically p d c Private m ts t) among s = λ u. in_used (member c Private m) true refl (asked (apply_statically p d c Private m ts t) among (Static (member c Private m)) (here (Static (member c Private m)) (of_receiver (sure_among [] (trees e.its_body)) d))) u
   tree_given (apply_statically p d c Constructor m ts t) among s = λ v u. in_used (member c Constructor m) (has_no_value m.result) v (asked (apply_statically p d c Constructor m ts t) among (Static (member c Constructor m)) (here (Static (member c Constructor m)) (of_receiver (sure_among [] (trees e.its_body)) d))) u
   tree_given (apply_statically p d c Public m ts t) among s = λ u. target_there c m (asked (apply_statically p d c Public m ts t) among (Resolved c m) (here (Resolved c m) (of_receiver (sure_among [] (trees e.its_body)) d))) u

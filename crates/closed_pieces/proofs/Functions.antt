@@ -5,7 +5,7 @@ use Rattle.std.proofs.lemmas.List.Elements.{All-nil, All-cons, All-contains, Con
 use Rattle.closed_pieces.proofs.Called.{Called, each_called, with_calls}
 use Rattle.linked_folders.proofs.Calls.{needed}
 use Rattle.linked_folders.proofs.Derivations.{closed}
-use Rattle.linked_folders.proofs.Direct.{IsCalled}
+use Rattle.linked_folders.proofs.Direct.{Calls, calls_member, looks_up}
 use Rattle.linked_folders.proofs.EachTyped.{in_all}
 use Rattle.linked_folders.proofs.Found.{here}
 use Rattle.linked_folders.proofs.Given.{all_from}
@@ -60,6 +60,7 @@ use Rattle.sj_infos.specs.declared.infos.Info.TheVariants.{New, Static, Field, R
 use Rattle.sj_infos.specs.declared.infos.Info.TheVariants as asked_info
 use Rattle.sj_mangling.specs.Bindings.{class_binding}
 use Rattle.sj_mangling.specs.declared.bindings.ClassBinding.TheVariants.{IsInstance, AsInstance}
+use Rattle.sj_names.proofs.Same.{impossible}
 use Rattle.sj_names.specs.declared.entry_points.EntryPoint.{EntryPoint}
 use Rattle.sj_names.specs.declared.folders.SourceFile.{SourceFile}
 use Rattle.sj_names.specs.declared.method_names.Member.{Member}
@@ -145,8 +146,9 @@ module _ (entries : List EntryPoint) (files : List SourceFile) (l : Linked) (all
       go missing s same = absurd (a.resolved (missing_method (member c Public m)) (no_method c m r (called_on c m r) s))
 
   -- what is called on a receiver of a hijacked class is declared
-  applied : (p : Position) (r : Term) (m : MethodName) (ts : Terms) (t : IrType) → Contains (trees e.its_body) (apply p r m ts t) → IsCalled (type_of_term r) m → All Q (call_uses runs (callee_of (type_of_term r) m))
-  applied p r m ts t among is =
+  applied : (p : Position) (r : Term) (m : MethodName) (ts : Terms) (t : IrType) → Contains (trees e.its_body) (apply p r m ts t) → Calls any_object (type_of_term r) m → All Q (call_uses runs (callee_of (type_of_term r) m))
+  applied p r m ts t among (looks_up is) = impossible is.lookup.there
+  applied p r m ts t among (calls_member is) =
       let c = is.direct.class in
       let of = of_hijacked r m c is.callee in
       subst (λ (k : Callee). All Q (call_uses runs k)) (sym is.callee) (All-cons Q (function_binding (runs.target (member c Public m))) [] (λ u. hijacked_declared c m of.hijacked (asked (apply p r m ts t) among (asked_info.Called c m) (of.asked (sure_among [] (trees e.its_body))))) (All-nil Q))
@@ -224,7 +226,7 @@ module _ (entries : List EntryPoint) (files : List SourceFile) (l : Linked) (all
 
   -- a tree that is written brings what is declared
   abbrev IsBrought : Term → Type 0
-  IsBrought t = Called t → Brings Q runs box (sure_locals e.its_body) t
+  IsBrought t = Called any_object t → Brings Q runs box (sure_locals e.its_body) t
 
   brings : (t : Term) → Contains (trees e.its_body) t → Stands (MeetsThere w e.definition.namespace) t → IsBrought t
   brings (apply p r m ts t) among s called = (applied p r m ts t among called, λ u. helped helpers.NotNull)
@@ -257,7 +259,7 @@ module _ (entries : List EntryPoint) (files : List SourceFile) (l : Linked) (all
       let stands = subst (λ (b : Term). All (Stands (MeetsThere w e.definition.namespace)) (trees b)) same (each_stands (MeetsThere w e.definition.namespace) typed.body [] 0 typed.met) in
       let brought = each_written IsBrought body (all_from IsBrought (trees body) (λ t among. brings t among (all_at (Stands (MeetsThere w e.definition.namespace)) (trees body) stands t among))) in
       let calls = each_called any_object (λ t. true) body (and_parts (may_make any_object (body_boxes e.definition body)) (is_built any_object (λ t. true) body) (built e i)).1 in
-      let each = with_calls (Brings Q runs box (sure_locals body)) (written body) brought calls in
+      let each = with_calls any_object (Brings Q runs box (sure_locals body)) (written body) brought calls in
       once_in Q [] (uses_of_all runs (desugared_member e.definition body).body) (completed_in e.definition.namespace (body_code (is_mutable_in e.definition body) e.definition.result body) (tree Q runs box (sure_locals body) (is_mutable_in e.definition body) body each [] (result_destination e.definition.result) 1))
 
   pub function_uses : (b : Binding) → Contains used b → IsDeclared ps b

@@ -45,7 +45,7 @@ module _ (has : Usable) (uses : Binding → Bool) where
   module _ (e : Term) (fit : DivisorsFit e) where
     gives : (t : Term) → Contains (trees e) t → Gives IsUsed has.lookup has here t
     gives (apply_static p c n m ts t) i = and_from (has.linked (member c n m)) (uses (function_binding (member c n m)))
-    gives (apply p d m ts t) i = λ c same. received_gives c Public m
+    gives (apply p d m ts t) i = (λ c same. received_gives c Public m, λ c same h u. h)
     gives (apply_statically p d c n m ts t) i = received_gives c n m
     gives (new_object p c m ts) i = λ h k f u. (and_from (has.built (member c Constructor m)) (uses (function_binding (member c Constructor m))) k f, and_from (has.made c) (uses (class_use c)) h u)
     gives (select p d c f t) i = λ h. h

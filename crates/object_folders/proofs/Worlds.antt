@@ -55,6 +55,7 @@ carry entries files w facts all live helpers written bytes a bodies run = record
   acyclic = a.world.no_cycle;
   received = member_right entries files w facts all live helpers written bytes a bodies run (λ m. is_received m.namespace);
   targets = λ m h. targets_run w (topped w (plain_world w kept.superclass kept.hijacked)) m;
+  looked = λ c m h. impossible h;
   built = member_right entries files w facts all live helpers written bytes a bodies run is_constructor_without_value;
   once = λ receivers. once entries files w bytes a;
   made = λ c h. let p = and_parts (is_among written c) (is_among live c) h in live_free w entries a.resolved kept facts run.reached c (run.are_live c ((among live c).0 p.1));
