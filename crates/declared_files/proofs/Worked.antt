@@ -14,7 +14,7 @@ use Rattle.body_soundness.specs.Laws.{null_pointer, arithmetic}
 use Rattle.body_soundness.specs.Rules.{RightMember}
 use Rattle.body_soundness.specs.Worked.{class_name, field_name, init_name, get_name, init_method, get_method, main_method, gets, gets_field, its_field, object_world, main_member, object_use}
 use Rattle.body_soundness.specs.Worked as worked
-use Rattle.built_forms.specs.Built.{Usable, has_static, members_alone, divides}
+use Rattle.built_forms.specs.Built.{Usable, has_static, members_alone, divides, can_look_up}
 use Rattle.file_declarations.specs.Declared.{alone, on_receiver, completing, is_covered, FieldsAreKept}
 use Rattle.file_tops.proofs.Run.{some_same}
 use Rattle.helper_rules.specs.Helpers.{helper_name, helper_item, used_helpers, constants}
@@ -34,9 +34,10 @@ use Rattle.sj_emit_expr.specs.Templates.{check_name}
 use Rattle.sj_names.proofs.Same.{impossible}
 use Rattle.sj_names.specs.Grammar.{is_class_name, is_plain_name}
 use Rattle.sj_names.specs.declared.entry_points.EntryPoint.{EntryPoint}
+use Rattle.sj_names.specs.declared.method_names.MethodName.{MethodName}
 use Rattle.sj_names.specs.declared.method_names.Member.{Member}
 use Rattle.sj_names.specs.declared.method_names.Namespace.TheVariants.{Private, Constructor}
-use Rattle.file_declarations.specs.Settings.{Top, a_function, a_method, a_constructor, a_class, some_constants, a_static, a_setter, a_test, a_cast, a_helper, is_named, is_usable, IsField}
+use Rattle.file_declarations.specs.Settings.{Top, a_function, a_method, a_constructor, a_dispatch, a_class, some_constants, a_static, a_setter, a_test, a_cast, a_helper, is_named, is_usable, IsField}
 use Rattle.body_soundness.specs.Emitted.{initializer_member}
 use Rattle.body_soundness.specs.Methods.{KeepsRules}
 use Rattle.sj_trees.specs.Term.{skip}
@@ -49,7 +50,7 @@ use Rattle.sj_world.specs.Known.{is_same}
 use Rattle.sj_world.specs.Subtypes.{equal}
 use Rattle.sj_world.specs.Tables.{AreAncestors}
 use Rattle.typing_rules.specs.Rules.{nothing_wanted, fitting, HasFieldType}
-use Rattle.declared_files.specs.Declared.{Leads, Stands, Uses, FunctionDeclared, ClassDeclared, extends_none, extends_one, MadeDeclared, StaticDeclared, Declared, IsAmong, IsPublic, IsLawful, all_items, TestDeclared, CastDeclared, AreConstants}
+use Rattle.declared_files.specs.Declared.{Leads, Stands, Uses, FunctionDeclared, ClassDeclared, extends_none, extends_one, MadeDeclared, StaticDeclared, LookupDeclared, TellsApart, Declared, IsAmong, IsPublic, IsLawful, all_items, TestDeclared, CastDeclared, AreConstants}
 use Rattle.declared_files.specs.Placed.{Placed, placed}
 use Rattle.declared_files.specs.Worked.{object_constants, object_class, its_constants, its_class, init_function, get_function, main_function, main_file, class_file, object_file, main_use, class_use, use_of, three_files, spread}
 use Rattle.declared_files.proofs.Whole.{files_agree}
@@ -70,6 +71,7 @@ by_file P main class none f = go (is_same_text f main_file) refl (is_same_text f
 main_leads : (t : Top) → is_named main_use t ≡ true → Leads spread main_file t
 main_leads (a_function m) h = subst (λ k. Leads spread main_file (a_function k)) (sym (member-same m main_member h)) refl
 main_leads (a_method m) h = subst (λ k. Leads spread main_file (a_method k)) (sym (member-same m (member class_name Private get_name) h)) refl
+main_leads (a_dispatch m) h = impossible h
 main_leads (a_constructor m) h = subst (λ k. Leads spread main_file (a_constructor k)) (sym (member-same m (member class_name Constructor init_name) h)) refl
 main_leads (a_class c) h = subst (λ k. Leads spread main_file (a_class k)) (is-equal class_name c h) refl
 main_leads (some_constants c) h = impossible h
@@ -82,6 +84,7 @@ main_leads (a_helper k) h = impossible h
 class_leads : (t : Top) → is_named class_use t ≡ true → Leads spread class_file t
 class_leads (a_function m) h = impossible h
 class_leads (a_method m) h = impossible h
+class_leads (a_dispatch m) h = impossible h
 class_leads (a_constructor m) h = impossible h
 class_leads (a_class c) h = subst (λ k. Leads spread class_file (a_class k)) (is-equal object_name c h) refl
 class_leads (some_constants c) h = impossible h
@@ -94,6 +97,7 @@ class_leads (a_helper k) h = impossible h
 nothing_leads : (f : Name) (t : Top) → is_named nothing t ≡ true → Leads spread f t
 nothing_leads f (a_function m) h = impossible h
 nothing_leads f (a_method m) h = impossible h
+nothing_leads f (a_dispatch m) h = impossible h
 nothing_leads f (a_constructor m) h = impossible h
 nothing_leads f (a_class c) h = impossible h
 nothing_leads f (some_constants c) h = impossible h
@@ -290,6 +294,8 @@ all_declared = record {
   leads = by_file (λ f u. (t : Top) → is_named u t ≡ true → Leads spread f t) main_leads class_leads nothing_leads;
   linked = by_file (λ f u. (m : Member) → u.linked m ≡ true → FunctionDeclared spread (a_function m) alone m) (λ m h. subst (λ k. FunctionDeclared spread (a_function k) alone k) (sym (member-same m main_member h)) main_declared) (λ m h. impossible h) (λ f m h. impossible h);
   received = by_file (λ f u. (m : Member) → u.received m ≡ true → FunctionDeclared spread (a_method m) on_receiver m) (λ m h. subst (λ k. FunctionDeclared spread (a_method k) on_receiver k) (sym (member-same m (member class_name Private get_name) h)) get_declared) (λ m h. impossible h) (λ f m h. impossible h);
+  looked = by_file (λ f u. (c : Name) (m : MethodName) → can_look_up u c m ≡ true → LookupDeclared spread c m (u.lookup.has_hijacked c)) (λ c m h. impossible h) (λ c m h. impossible h) (λ f c m h. impossible h);
+  dispatched = by_file (λ f u. (m : MethodName) → u.dispatched m ≡ true → TellsApart spread m) (λ m h. impossible h) (λ m h. impossible h) (λ f m h. impossible h);
   built = by_file (λ f u. (m : Member) → u.built m ≡ true → Completes m) (λ m h. subst Completes (sym (member-same m (member class_name Constructor init_name) h)) (init_declared, refl)) (λ m h. impossible h) (λ f m h. impossible h);
   made = by_file (λ f u. (c : Name) → u.made c ≡ true → MadeDeclared spread c) (λ c h. main_makes c (is-equal class_name c h)) (λ c h. class_makes c (is-equal object_name c h)) (λ f c h. impossible h);
   field = by_file (λ f u. (c g : Name) (t : IrType) → u.field c g t ≡ true → IsField object_world c g t) (λ c g t h. impossible h) (λ c g t h. field_declared c g t (field_is c g t h)) (λ f c g t h. impossible h);
@@ -309,6 +315,7 @@ all_declared = record {
 main_among : (t : Top) → is_usable main_use t ≡ true → is_usable object_use t ≡ true
 main_among (a_function m) h = h
 main_among (a_method m) h = h
+main_among (a_dispatch m) h = impossible h
 main_among (a_constructor m) h = h
 main_among (a_class c) h = subst (λ k. object_use.made k ≡ true) (is-equal class_name c h) refl
 main_among (some_constants c) h = subst (λ k. object_use.made k ≡ true) (is-equal class_name c h) refl
@@ -321,6 +328,7 @@ main_among (a_helper k) h = impossible h
 class_among : (t : Top) → is_usable class_use t ≡ true → is_usable object_use t ≡ true
 class_among (a_function m) h = impossible h
 class_among (a_method m) h = impossible h
+class_among (a_dispatch m) h = impossible h
 class_among (a_constructor m) h = impossible h
 class_among (a_class c) h = subst (λ k. object_use.made k ≡ true) (is-equal object_name c h) refl
 class_among (some_constants c) h = subst (λ k. object_use.made k ≡ true) (is-equal object_name c h) refl
@@ -333,6 +341,7 @@ class_among (a_helper k) h = impossible h
 none_among : (t : Top) → is_usable nothing t ≡ true → is_usable object_use t ≡ true
 none_among (a_function m) h = impossible h
 none_among (a_method m) h = impossible h
+none_among (a_dispatch m) h = impossible h
 none_among (a_constructor m) h = impossible h
 none_among (a_class c) h = impossible h
 none_among (some_constants c) h = impossible h

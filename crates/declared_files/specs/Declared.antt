@@ -1,35 +1,43 @@
 -- What the code of bodies can use in a world, as the items of several files declare it.
-use Rattle.std.specs.Prelude.{◌≡◌, ℕ, true, false, List, [], ◌∷◌, ◌++◌, map, Option, Some, None, codes}
+use Rattle.std.specs.Prelude.{◌≡◌, ℕ, Bool, true, false, List, [], ◌∷◌, ◌++◌, map, Option, Some, None, codes}
 use Rattle.std.specs.List.{Contains, list_all}
 use Rattle.body_soundness.specs.Laws.{ObjectLaws, null_pointer, arithmetic, class_cast}
 use Rattle.body_soundness.specs.Rules.{RightMember}
-use Rattle.built_forms.specs.Built.{Usable, has_static, divides}
+use Rattle.body_soundness.specs.Targets.{IsTargetOf}
+use Rattle.built_forms.specs.Built.{Usable, has_static, divides, can_look_up}
 use Rattle.file_declarations.specs.Declared.{Running, alone, on_receiver, completing, running, is_covered, FieldsAreKept}
 use Rattle.helper_rules.specs.Helpers.{Above, helper_name, helper_item, used_helpers, constants}
-use Rattle.helper_rules.specs.Words.{marker, kind_class, worded_kinds}
+use Rattle.helper_rules.specs.Words.{marker, kind_class, worded_kinds, entry_name, parameters_of}
 use Rattle.helper_rules.specs.declared.kinds.Failure.TheVariants.{NullReceiver, Division, Cast}
 use Rattle.helper_rules.specs.declared.kinds.Helper.{Helper}
 use Rattle.helper_rules.specs.declared.kinds.Kind.{Kind}
 use Rattle.file_declarations.specs.Helpers.{kind_of}
 use Rattle.helper_rules.specs.declared.kinds.Helper.TheVariants.{Throws, TestOf, CastTo}
-use Rattle.ir_mean.specs.Dispatch.{chain_of}
+use Rattle.ir_mean.specs.Dispatch.{chain_of, is_ancestor}
 use Rattle.ir_mean.specs.Meaning.{with_message}
 use Rattle.ir_mean.specs.World.{World, class_of}
+use Rattle.js_mean.specs.Classes.{method_among}
+use Rattle.js_mean.specs.Proper.{are_distinct}
 use Rattle.js_mean.specs.Files.{module_among, items_in, is_good_file, owner, running_order}
 use Rattle.js_mean.specs.Shows.{class_marked, file_of}
 use Rattle.js_mean.specs.States.{Program}
 use Rattle.js_tree.specs.Terms.{Name, Property, Item, object_item, Member, constructor_of}
 use Rattle.js_tree.specs.Views.{statements_of}
+use Rattle.file_declarations.specs.Bridges.{bridge}
 use Rattle.file_declarations.specs.Classes.{AreInstances}
+use Rattle.file_declarations.specs.ClassTestsKinds.{is_told}
+use Rattle.file_declarations.specs.Dispatch.{Told, dispatch_item}
+use Rattle.file_declarations.specs.Looked.{HasCase}
 use Rattle.file_declarations.specs.Pieces.{constants_piece, class_item_of, constructor_body, variable_piece, setter_piece, test_piece, cast_piece}
 use Rattle.sj_desugar.specs.Desugar.{desugared_member, member}
 use Rattle.sj_emit_expr.specs.Members.{member_piece}
-use Rattle.sj_emit_expr.specs.Templates.{check_name}
+use Rattle.sj_emit_expr.specs.Templates.{check_name, member_name}
 use Rattle.sj_names.specs.Same.{is_same_text}
 use Rattle.sj_names.specs.declared.entry_points.EntryPoint.{EntryPoint}
 use Rattle.sj_names.specs.declared.method_names.Member.{Member as MemberName}
-use Rattle.sj_names.specs.declared.method_names.Namespace.TheVariants.{Constructor}
-use Rattle.file_declarations.specs.Settings.{Top, a_function, a_method, a_constructor, a_class, some_constants, a_static, a_setter, a_test, a_cast, a_helper, top_name, is_usable, is_named, IsField, IsStaticField}
+use Rattle.sj_names.specs.declared.method_names.MethodName.{MethodName}
+use Rattle.sj_names.specs.declared.method_names.Namespace.TheVariants.{Public, Constructor}
+use Rattle.file_declarations.specs.Settings.{Top, a_function, a_method, a_constructor, a_dispatch, a_class, some_constants, a_static, a_setter, a_test, a_cast, a_helper, top_name, is_usable, is_named, IsField, IsStaticField}
 use Rattle.body_soundness.specs.Emitted.{initializer_member, call_item_of}
 use Rattle.sj_trees.specs.declared.classes.ClassDef.{ClassDef}
 use Rattle.sj_trees.specs.declared.classes.FieldDef.{FieldDef}
@@ -152,6 +160,49 @@ pub data CastDeclared (z : Spread) (f : Name) : IrType → Type 0 where
   to_kind : (t : IrType) → KindCastDeclared z f t → CastDeclared z f t
   to_class : (c : Name) → ClassCastDeclared z c → CastDeclared z f (Class c)
 
+-- what a call of the method runs on a value of the class: its target, whose function the code of the file of the binding can use
+pub record TargetDeclared (z : Spread) (t : Top) (c : Name) (m : MethodName) : Type 0 where
+  pub owner : Name
+  pub target : IsTargetOf z.classes (member c Public m) (member owner Public m)
+  pub uses : Uses z t (a_method (member owner Public m))
+
+-- the first of these classes that has an entry of the method hands it on to the function of the target for an object of this class
+pub data EntryDeclared (z : Spread) (d : Name) (m : MethodName) : List Name → Type 0 where
+  has_entry : (c : Name) (cs : List Name) (superclass : Option Name) (members : List Member) → Stands z (a_class c) (class_item_of c superclass members) → (its : TargetDeclared z (a_class c) d m) → method_among members (entry_name m) ≡ Some (bridge (member_name (member its.owner Public m)) (parameters_of m)) → EntryDeclared z d m (c ∷ cs)
+  has_none : (c : Name) (cs : List Name) (superclass : Option Name) (members : List Member) → Stands z (a_class c) (class_item_of c superclass members) → method_among members (entry_name m) ≡ None → EntryDeclared z d m cs → EntryDeclared z d m (c ∷ cs)
+
+-- a case of the function that tells primitive receivers apart: its file can use the test of the kind, and the function of the target for the class of the kind
+pub record CaseDeclared (z : Spread) (m : MethodName) (t : Told) : Type 0 where
+  pub told : is_told t.kind ≡ true
+  pub test : Uses z (a_dispatch m) (a_helper (TestOf t.kind))
+  pub its : TargetDeclared z (a_dispatch m) (kind_class t.kind) m
+  pub owner_is : its.owner ≡ t.owner
+
+-- the function, with a case for each kind whose class is at or below this one, of which there are some
+pub record DispatchDeclared (z : Spread) (c : Name) (m : MethodName) : Type 0 where
+  pub first : Told
+  pub others : List Told
+  pub function : Stands z (a_dispatch m) (dispatch_item m (first ∷ others))
+  pub distinct : are_distinct (codes "x" ∷ parameters_of m) ≡ true
+  pub runs : (t : Told) → Contains (first ∷ others) t → CaseDeclared z m t
+  pub each : (k : Kind) → is_told k ≡ true → is_ancestor z.classes (kind_class k) c ≡ true → HasCase (first ∷ others) k
+
+-- by whether a hijacked class stands at or below this one
+pub data KindsDeclared (z : Spread) (c : Name) (m : MethodName) : Bool → Type 0 where
+  no_kinds : ((h : Name) → is_hijacked h ≡ true → is_ancestor z.classes h c ≡ false) → KindsDeclared z c m false
+  some_kinds : DispatchDeclared z c m → KindsDeclared z c m true
+
+-- a method that can be looked up on the instances of the class: each object of which the code of some file makes finds it, and so does each primitive value
+pub record LookupDeclared (z : Spread) (c : Name) (m : MethodName) (hijacked : Bool) : Type 0 where
+  pub objects : (f d : Name) → (z.has f).made d ≡ true → is_ancestor z.classes d c ≡ true → EntryDeclared z d m (chain_of z.classes d)
+  pub distinct : are_distinct (parameters_of m) ≡ true
+  pub kinds : KindsDeclared z c m hijacked
+
+-- the function that tells the primitive receivers of a method apart, with these cases
+pub record TellsApart (z : Spread) (m : MethodName) : Type 0 where
+  pub cases : List Told
+  pub function : Stands z (a_dispatch m) (dispatch_item m cases)
+
 -- properties that are the constants of a class, with the markers of the classes that stand above it
 pub record AreConstants (w : World) (ps : List Property) : Type 0 where
   pub class : Name
@@ -159,13 +210,15 @@ pub record AreConstants (w : World) (ps : List Property) : Type 0 where
   pub are : ps ≡ constants class ancestors
   pub above : AreAncestors w class ancestors
 
--- all that the code of some file can use is declared, and its file leads to what it names: each member as it runs, a constructor without a value; each class that is
+-- all that the code of some file can use is declared, and its file leads to what it names: each member as it runs, and each method that can be looked up, a constructor without a value; each class that is
 -- made; each field and each static field; tests and casts; and each helper, whose file can use those that it uses, and that of
 -- a failure the exception of it. Each object that is declared is the constants of a class
 pub record Declared (z : Spread) : Type 0 where
   pub leads : (f : Name) (t : Top) → is_named (z.has f) t ≡ true → Leads z f t
   pub linked : (f : Name) (m : MemberName) → (z.has f).linked m ≡ true → FunctionDeclared z (a_function m) alone m
   pub received : (f : Name) (m : MemberName) → (z.has f).received m ≡ true → FunctionDeclared z (a_method m) on_receiver m
+  pub looked : (f c : Name) (m : MethodName) → can_look_up (z.has f) c m ≡ true → LookupDeclared z c m ((z.has f).lookup.has_hijacked c)
+  pub dispatched : (f : Name) (m : MethodName) → (z.has f).dispatched m ≡ true → TellsApart z m
   pub built : (f : Name) (m : MemberName) → (z.has f).built m ≡ true → (b : FunctionDeclared z (a_constructor m) completing m) × (b.right.definition.result ≡ NoType)
   pub made : (f c : Name) → (z.has f).made c ≡ true → MadeDeclared z c
   pub field : (f c g : Name) (t : IrType) → (z.has f).field c g t ≡ true → IsField z.classes c g t

@@ -55,13 +55,13 @@ use Rattle.module_uses.specs.Rules.{RightMember}
 use Rattle.sj_desugar.specs.Desugar.{member}
 use Rattle.sj_emit_expr.specs.Templates.{check_name, static_name}
 use Rattle.sj_emit_expr.specs.Tests.{test_name, cast_name}
-use Rattle.sj_emit_expr.specs.Uses.{object_binding, function_binding, class_use, static_use, setter_use, test_uses, cast_uses}
+use Rattle.sj_emit_expr.specs.Uses.{object_binding, function_binding, class_use, static_use, setter_use, test_uses, cast_uses, looked_up_uses}
 use Rattle.sj_names.proofs.Same.{impossible}
 use Rattle.sj_names.specs.declared.entry_points.EntryPoint.{EntryPoint}
 use Rattle.sj_names.specs.declared.folders.SourceFile.{SourceFile}
 use Rattle.sj_names.specs.declared.method_names.Member.{Member}
 use Rattle.sj_names.specs.declared.method_names.Namespace.TheVariants.{Constructor}
-use Rattle.sj_plain.specs.Settings.{Top, a_function, a_method, a_constructor, a_class, some_constants, a_static, a_setter, a_test, a_cast, a_helper, top_name, is_named as is_named_top}
+use Rattle.sj_plain.specs.Settings.{Top, a_function, a_method, a_constructor, a_dispatch, a_class, some_constants, a_static, a_setter, a_test, a_cast, a_helper, top_name, is_named as is_named_top}
 use Rattle.sj_split.proofs.Members.{at_first, further, into_map}
 use Rattle.sj_split.specs.declared.plans.PlannedModule.{PlannedModule}
 use Rattle.sj_trees.specs.declared.classes.FieldDef.{FieldDef}
@@ -108,6 +108,7 @@ cast_used all hs written uses t h u = let k = (and_parts (has_kind t) (written_h
 named_used : (has : Usable) (uses : Binding → Bool) → ((t : IrType) → has.tests t ≡ true → list_all uses (test_uses t) ≡ true → uses (binding_of (a_test t)) ≡ true) → ((t : IrType) → has.casts t ≡ true → list_all uses (cast_uses t) ≡ true → uses (binding_of (a_cast t)) ≡ true) → (t : Top) → is_named_top (restricted has uses) t ≡ true → uses (binding_of t) ≡ true
 named_used has uses tests casts (a_function m) h = (and_parts (has.linked m) (uses (function_binding m)) h).1
 named_used has uses tests casts (a_method m) h = (and_parts (has.received m) (uses (function_binding m)) h).1
+named_used has uses tests casts (a_dispatch m) h = (and_parts (uses (binding_of (a_dispatch m))) true (and_parts (has.dispatched m) (list_all uses (looked_up_uses true m)) h).1).0
 named_used has uses tests casts (a_constructor m) h = (and_parts (has.built m) (uses (function_binding m)) h).1
 named_used has uses tests casts (a_class c) h = (and_parts (has.made c) (uses (class_use c)) h).1
 named_used has uses tests casts (some_constants c) h = impossible h
@@ -433,6 +434,8 @@ modules_declare entries files l all live written modules ps front last declared 
   leads = λ f t h. leads_to entries files l all live written modules ps front last declared bytes a bodies p are_live run owned covered together whole stand marks f t (named_used (used_of l.world l.facts all live p.helpers written) (uses_in modules ps f) (test_used all p.helpers written (uses_in modules ps f)) (cast_used all p.helpers written (uses_in modules ps f)) t h);
   linked = linked_declared entries files l all live written modules ps front last declared bytes a bodies p are_live run owned covered together whole stand marks;
   received = received_declared entries files l all live written modules ps front last declared bytes a bodies p are_live run owned covered together whole stand marks;
+  looked = λ f c m h. impossible h;
+  dispatched = λ f m h. impossible h;
   built = built_declared entries files l all live written modules ps front last declared bytes a bodies p are_live run owned covered together whole stand marks;
   made = class_made entries files l all live written modules ps front last declared bytes a bodies p are_live run owned covered together whole stand marks;
   field = λ f. field_there l.world;

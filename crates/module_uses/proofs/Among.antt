@@ -5,8 +5,8 @@ use Rattle.std.proofs.lemmas.Bool.{and_parts}
 use Rattle.body_uses.specs.Built.{Usable}
 use Rattle.helper_rules.specs.Helpers.{helper_name}
 use Rattle.js_tree.specs.declared.items.Binding.{Binding}
-use Rattle.sj_emit_expr.specs.Uses.{object_binding, function_binding, class_use, static_use, setter_use, test_uses, cast_uses}
-use Rattle.declared_files.specs.Settings.{Top, a_function, a_method, a_constructor, a_class, some_constants, a_static, a_setter, a_test, a_cast, a_helper, is_usable}
+use Rattle.sj_emit_expr.specs.Uses.{object_binding, function_binding, class_use, static_use, setter_use, test_uses, cast_uses, looked_up_uses}
+use Rattle.declared_files.specs.Settings.{Top, a_function, a_method, a_constructor, a_dispatch, a_class, some_constants, a_static, a_setter, a_test, a_cast, a_helper, is_usable}
 use Rattle.module_uses.specs.Laws.{RestrictedIsAmong}
 use Rattle.module_uses.specs.Used.{restricted}
 use Rattle.std.specs.Prelude.{Bool}
@@ -14,6 +14,7 @@ use Rattle.std.specs.Prelude.{Bool}
 tops : (has : Usable) (uses : Binding → Bool) (t : Top) → is_usable (restricted has uses) t ≡ true → is_usable has t ≡ true
 tops has uses (a_function m) h = (and_parts (has.linked m) (uses (function_binding m)) h).0
 tops has uses (a_method m) h = (and_parts (has.received m) (uses (function_binding m)) h).0
+tops has uses (a_dispatch m) h = (and_parts (has.dispatched m) (list_all uses (looked_up_uses true m)) h).0
 tops has uses (a_constructor m) h = (and_parts (has.built m) (uses (function_binding m)) h).0
 tops has uses (a_class c) h = (and_parts (has.made c) (uses (class_use c)) h).0
 tops has uses (some_constants c) h = (and_parts (has.made c) (uses (class_use c)) h).0

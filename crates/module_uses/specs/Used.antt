@@ -1,11 +1,11 @@
 -- What the code of one file of a plan can use: of what is there, what the pieces of the file use.
-use Rattle.std.specs.Prelude.{Bool, ◌&&◌, List, ◌++◌, filter}
+use Rattle.std.specs.Prelude.{Bool, true, ◌&&◌, List, ◌++◌, filter}
 use Rattle.std.specs.List.{list_all, list_any, flat_map}
 use Rattle.body_uses.specs.Built.{Usable}
 use Rattle.js_tree.specs.Terms.{Piece}
 use Rattle.js_tree.specs.declared.items.Binding.{Binding}
 use Rattle.module_rules.specs.Modules.{file_with, is_owned_in, uses_of, called_in}
-use Rattle.sj_emit_expr.specs.Uses.{object_binding, function_binding, class_use, static_use, setter_use, test_uses, cast_uses, is_same_binding}
+use Rattle.sj_emit_expr.specs.Uses.{object_binding, function_binding, class_use, static_use, setter_use, test_uses, cast_uses, looked_up_uses, is_same_binding}
 use Rattle.sj_split.specs.Orders.{Bytes}
 use Rattle.sj_split.specs.declared.plans.PlannedModule.{PlannedModule}
 
@@ -16,7 +16,7 @@ restricted has uses = record {
   lookup = has.lookup;
   received = λ m. has.received m && uses (function_binding m);
   looked_up = has.looked_up;
-  dispatched = has.dispatched;
+  dispatched = λ m. has.dispatched m && list_all uses (looked_up_uses true m);
   built = λ m. has.built m && uses (function_binding m);
   made = λ c. has.made c && uses (class_use c);
   field = has.field;

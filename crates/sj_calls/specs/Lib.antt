@@ -14,3 +14,6 @@ pub use Rattle.class_casts.specs.Pieces
 pub use Rattle.sj_bodies.specs.Settings
 pub use Rattle.sj_bodies.specs.Worlds as SjPlainWorlds
 pub mod Looked
+pub use Rattle.class_casts.specs.Bridges
+pub use Rattle.class_casts.specs.ClassTestsKinds
+pub use Rattle.class_casts.specs.Dispatch
