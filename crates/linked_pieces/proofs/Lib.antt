@@ -1,3 +1,4 @@
+pub mod Dispatched
 pub mod Fields
 pub mod Names
 pub mod One

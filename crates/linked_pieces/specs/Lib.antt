@@ -1,3 +1,4 @@
+pub mod Dispatched
 pub mod Order
 pub mod Pieces
 pub mod Laws
