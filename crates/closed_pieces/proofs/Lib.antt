@@ -4,6 +4,7 @@ pub mod Functions
 pub mod Called
 pub mod Classes
 pub mod Helpers
+pub mod Told
 pub mod Uses
 pub use Rattle.linked_folders.proofs.EachTyped
 pub use Rattle.linked_folders.proofs.DeclaredPiecesFields as Fields

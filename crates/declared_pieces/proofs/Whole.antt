@@ -269,7 +269,7 @@ module _ (entries : List EntryPoint) (files : List SourceFile) (l : Linked) (all
       are = own.are;
       here = here;
       test = subst (λ (n : Name). Contains ps (test_of_it n)) name_of_it (own.there (test_of_it parts_of_it.class.name) (test_among parts_of_it h));
-      kinds = λ k u. (p.are_helpers.exact (TestOf k)).1 (by_piece (test_of_it parts_of_it.class.name) (TestOf k) (own.in_blocks (test_of_it parts_of_it.class.name) (test_among parts_of_it h)) (subst (λ (n : Name). Contains (test_uses parts_of_it.instances (kind_of_class n all_kinds)) (helper (helper_name (TestOf k)))) (sym name_of_it) u));
+      kinds = λ k u. (p.are_helpers.exact (TestOf k)).1 (by_piece (test_of_it parts_of_it.class.name) (TestOf k) (Contains-append_left (flat_map (pieces_of_block l.world) p.blocks) p.told (test_of_it parts_of_it.class.name) (own.in_blocks (test_of_it parts_of_it.class.name) (test_among parts_of_it h))) (subst (λ (n : Name). Contains (test_uses parts_of_it.instances (kind_of_class n all_kinds)) (helper (helper_name (TestOf k)))) (sym name_of_it) u));
     }
 
     cast_there : parts_of_it.is_cast ≡ true → CastThere l written ps p.helpers c

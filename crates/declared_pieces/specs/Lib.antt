@@ -2,6 +2,8 @@ pub mod Closed
 pub mod Laws
 pub use Rattle.object_folders.specs.Entries
 pub use Rattle.object_folders.specs.Pieces
+pub use Rattle.object_folders.specs.Dispatch
+pub use Rattle.object_folders.specs.Dispatched
 pub use Rattle.proper_pieces.specs.Modules
 pub use Rattle.object_folders.specs.Reachable
 pub use Rattle.object_folders.specs.Emitted

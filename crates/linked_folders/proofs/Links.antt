@@ -119,6 +119,9 @@ module _ (entries : List EntryPoint) (files : List SourceFile) (l : Linked) (all
   abbrev pub has : Usable
   has = used_of w l.facts all its_live p.helpers written
 
+  abbrev own_pieces_there : List Piece
+  own_pieces_there = flat_map (pieces_of_block l.world) p.blocks
+
   -- the function of a method stands among the pieces of its class
   module _ (e : EmittedMethod) (i : Contains all e) where
     owner : (k : ClassDef) × (class_of w e.member.class ≡ Some k)
@@ -156,7 +159,7 @@ module _ (entries : List EntryPoint) (files : List SourceFile) (l : Linked) (all
     are_facts = exact;
     are_live = lives;
     owned = λ e i here b u. owned (piece_of_member l.world e) (there e i) here b u;
-    helped = λ e i here h u. (p.are_helpers.exact h).1 (by_piece (piece_of_member l.world e) h (in_blocks e i) u);
+    helped = λ e i here h u. (p.are_helpers.exact h).1 (by_piece (piece_of_member l.world e) h (Contains-append_left own_pieces_there p.told (piece_of_member l.world e) (in_blocks e i)) u);
   }
 
   thrown : (f : Failure) → Contains p.helpers (helpers.Throws f) → Contains written object → CanBeThrown all its_live written (failure_class f)
@@ -183,7 +186,7 @@ module _ (entries : List EntryPoint) (files : List SourceFile) (l : Linked) (all
       let q : Piece = cast_piece its.parts.class.name in
       let among_its = cast_among its.parts (its.are.cast.1 form) in
       let used : Contains q.uses (helper (helper_name (helpers.Throws CastFails))) = further (bound its.parts.class.name (class_binding IsInstance its.parts.class.name)) (helper (codes "$cce")) (helper (codes "$cce") ∷ []) (at_first (helper (codes "$cce")) []) in
-      (owned q (its.there q among_its) (subst (Contains written) (sym named) here) (helper (codes "$cce")) used, (p.are_helpers.exact (helpers.Throws CastFails)).1 (by_piece q (helpers.Throws CastFails) (its.in_blocks q among_its) used))
+      (owned q (its.there q among_its) (subst (Contains written) (sym named) here) (helper (codes "$cce")) used, (p.are_helpers.exact (helpers.Throws CastFails)).1 (by_piece q (helpers.Throws CastFails) (Contains-append_left own_pieces_there p.told q (its.in_blocks q among_its)) used))
 
   pub run : CanRun w entries l.facts all its_live p.helpers written
   run = record {

@@ -7,6 +7,8 @@ pub use Rattle.declared_pieces.specs.Modules
 pub use Rattle.declared_pieces.specs.Entries
 pub use Rattle.declared_pieces.specs.Accepted
 pub use Rattle.declared_pieces.specs.Pieces
+pub use Rattle.declared_pieces.specs.Dispatch
+pub use Rattle.declared_pieces.specs.Dispatched
 pub use Rattle.declared_pieces.specs.Bodies
 pub use Rattle.declared_pieces.specs.Used
 pub use Rattle.declared_pieces.specs.Refusals

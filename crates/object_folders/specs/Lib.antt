@@ -4,6 +4,8 @@ pub use Rattle.accepted_folders.specs.Accepted
 pub use Rattle.accepted_folders.specs.Bodies
 pub use Rattle.accepted_folders.specs.Entries
 pub use Rattle.linked_pieces.specs.Pieces
+pub use Rattle.linked_pieces.specs.Dispatch
+pub use Rattle.linked_pieces.specs.Dispatched
 pub use Rattle.linked_pieces.specs.Used
 pub use Rattle.accepted_folders.specs.Reachable
 pub use Rattle.accepted_folders.specs.Emitted

@@ -173,7 +173,7 @@ module _ (runs : Lookup) (c : ClassDef) (d : MethodDef) (e : Term) (body : d.bod
   callee_good (callees.LookedUp k m) = go (runs.has_hijacked k)
     where
       go : (b : Bool) → All Q (looked_up_uses b m)
-      go true = All-cons Q (object_binding (method_binding Dispatch m)) [] (λ h same. no_helper (object_binding (method_binding Dispatch m)) 9 refl refl h same) (All-nil Q)
+      go true = All-cons Q (object_binding (method_binding Dispatch m)) [] (λ h same. no_helper (object_binding (method_binding Dispatch m)) 11 refl refl h same) (All-nil Q)
       go false = All-nil Q
   callee_good (callees.OfArray m) = All-nil Q
   callee_good (callees.Reflective m) = All-cons Q (object_binding (method_binding Reflective m)) [] (λ h same. no_helper (object_binding (method_binding Reflective m)) 9 refl refl h same) (All-nil Q)

@@ -13,7 +13,7 @@ use Rattle.body_uses.proofs.Uses.{combine}
 use Rattle.body_uses.proofs.EachTyped.{in_all}
 use Rattle.body_uses.proofs.Undenied.{first_or_later}
 use Rattle.helper_rules.specs.Helpers.{helper_name, used_helpers, failure_class}
-use Rattle.helper_rules.specs.Words.{bound, helper, all_kinds, class_name}
+use Rattle.helper_rules.specs.Words.{bound, helper, all_kinds, class_name, public_function}
 use Rattle.helper_rules.specs.declared.kinds.Failure.{Failure}
 use Rattle.helper_rules.specs.declared.kinds.Failure.TheVariants as failures
 use Rattle.helper_rules.specs.declared.kinds.Helper.{Helper}
@@ -22,13 +22,15 @@ use Rattle.helper_rules.specs.declared.kinds.Kind.{Kind}
 use Rattle.helper_rules.specs.declared.kinds.Kind.TheVariants as kinds
 use Rattle.js_tree.specs.Terms.{Name, Piece}
 use Rattle.js_tree.specs.declared.items.Binding.{Binding}
+use Rattle.body_uses.specs.Dispatch.{Told, told_uses}
+use Rattle.body_uses.specs.Dispatched.{AreDispatchPieces}
 use Rattle.body_uses.specs.Pieces.{piece_of_member, Block, IsBlock, AreBlocks, pieces_of_block, IsUsed, by_piece, by_helper, AreLinkedPieces}
 use Rattle.body_uses.specs.Classes.{HasForm, AreParts, AreClassPieces, absent, present}
 use Rattle.body_uses.specs.PieceRulesPieces.{Parts, pieces, constants_piece, class_piece, class_uses, parent_uses, own_constants, uses_of_entries, entry_uses, box_uses, is_proxy, is_char, all_statics, variable_piece, setter_piece, when, cell_piece, cell_pieces, load_piece, store_piece, init, init_name, test_piece, test_uses, test_binding, cast_piece, kind_of_class, constants_of, class_of as class_pieces_of, module_of, tests_of}
 use Rattle.proper_pieces.proofs.Names.{function_rank}
 use Rattle.body_uses.proofs.Derivations.{closed}
 use Rattle.body_uses.specs.Reachable.{Reachable}
-use Rattle.body_uses.specs.Rules.{Reads, message_constructor, of_throw, asked_body, throw_made}
+use Rattle.body_uses.specs.Rules.{Reads, message_constructor, public_member, of_throw, asked_body, throw_made}
 use Rattle.sj_infos.specs.Forms.{form_of, of_base, of_test, of_cast, forms_by_body}
 use Rattle.sj_infos.specs.Forms as of_form
 use Rattle.sj_infos.specs.Infos as infos
@@ -321,12 +323,22 @@ module _ (entries : List EntryPoint) (files : List SourceFile) (l : Linked) (all
   blocks_good (c ∷ cs) [] h = absurd h
   blocks_good (c ∷ cs) (b ∷ bs) h = joined (pieces_of_block l.world b) (flat_map (pieces_of_block l.world) bs) (block_good c b h.0) (blocks_good cs bs h.1)
 
+  -- the functions that tell receivers apart
+  cases_good : (m : MethodName) (ts : List Told) → All Q (flat_map (told_uses m) ts)
+  cases_good m [] = none
+  cases_good m (t ∷ ts) = combine Q (told_uses m t) (flat_map (told_uses m) ts) (All-cons Q (test_binding t.kind) (bound t.owner (public_function t.owner m) ∷ []) (kind_good t.kind) (one (bound t.owner (public_function t.owner m)) (only_function Good (public_member t.owner m)))) (cases_good m ts)
+
+  told_good : (ps told : List Piece) → AreDispatchPieces l ps told → EachGood told
+  told_good ps told h p i = let d = h.made p i in subst (λ (q : Piece). All Q q.uses) (sym d.is_piece.piece_is) (once_in Q [] (flat_map (told_uses d.method) d.is_piece.cases) (cases_good d.method d.is_piece.cases))
+
   used_good : (ps : List Piece) → EachGood ps → (h : Helper) → IsUsed ps h → Good h
   used_good ps each _ (by_piece p h i u) = All-contains Q p.uses (helper (helper_name h)) (each p i) u h refl
   used_good ps each _ (by_helper g h k u) = of_helper g h (used_good ps each g k) u
 
   pub linked_good : (ps : List Piece) (p : AreLinkedPieces l all ps) (h : Helper) → Contains p.helpers h → Good h
-  linked_good ps p h i = used_good (flat_map (pieces_of_block l.world) p.blocks) (blocks_good p.classes p.blocks p.are_blocks) h ((p.are_helpers.exact h).0 i)
+  linked_good ps p h i =
+      let own = flat_map (pieces_of_block l.world) p.blocks in
+      used_good (own ++ p.told) (joined own p.told (blocks_good p.classes p.blocks p.are_blocks) (told_good own p.told p.are_told)) h ((p.are_helpers.exact h).0 i)
 
   of_thrown : (c : Name) → Asked c → Reachable l.world entries (Made c) × Reachable l.world entries (Body (message_constructor c))
   of_thrown c r = (closed l.world entries (Made c) (throw_made c r), closed l.world entries (Body (message_constructor c)) (asked_body (message_constructor c) (of_throw c r)))
