@@ -1,8 +1,9 @@
 -- What the code of the written classes can use has its pieces.
 use Rattle.std.proofs.Common.{◌≡◌, ◌&&◌, ◌||◌, not, Bool, true, false, List, [], ◌∷◌, inl, inr, Option, Some, None, IsTrue, codes, map, refl, sym, ap, subst, ◌∙◌}
 use Rattle.std.specs.Prelude.{◌↔◌}
-use Rattle.std.specs.List.{Contains, filter, list_any}
+use Rattle.std.specs.List.{Contains, filter, flat_map, list_any}
 use Rattle.std.proofs.lemmas.Bool.{and_parts, and_from, or_cases, or_left, or_right}
+use Rattle.std.proofs.lemmas.List.Elements.{Contains-append_left}
 use Rattle.std.proofs.lemmas.List.Folds.{Any-from_list_any, list_any_at}
 use Rattle.std.proofs.lemmas.List.Sorted.{Contains-permutation, IsPermutation-sym}
 use Rattle.object_folders.proofs.Members.{same-class, defined}
@@ -30,7 +31,7 @@ use Rattle.helper_rules.specs.Words.{class_name, bound, all_kinds, helper}
 use Rattle.helper_rules.specs.declared.kinds.Helper.{Helper}
 use Rattle.helper_rules.specs.declared.kinds.Helper.TheVariants.{TestOf}
 use Rattle.js_tree.specs.Terms.{Item, Piece}
-use Rattle.object_folders.specs.Pieces.{piece_of_member, by_piece, AreLinkedPieces}
+use Rattle.object_folders.specs.Pieces.{piece_of_member, pieces_of_block, by_piece, AreLinkedPieces}
 use Rattle.object_folders.proofs.Statics.{static_is}
 use Rattle.object_folders.specs.Used.{used_of, is_among, is_received, is_constructor, is_constructor_without_value, has_static_in, needs_static, is_tested, is_cast}
 use Rattle.object_folders.specs.Settings.{IsStaticField}
