@@ -8,7 +8,7 @@ use Rattle.js_tree.specs.Views.{piece_view}
 use Rattle.sj_names.specs.declared.method_names.MethodName.{MethodName}
 use Rattle.world_pieces.specs.Told.{AreTheirs}
 use Rattle.world_pieces.proofs.Kept.{one_keeps}
-use Rattle.world_pieces.proofs.Told.{none_theirs, one_theirs}
+use Rattle.world_pieces.proofs.ToldPieces.{none_theirs, one_theirs}
 use Rattle.world_pieces.proofs.told.pieces_of.Goals as goal
 
 pub loop-method-init : goal.loop-method-init

@@ -1,5 +1,5 @@
 use Rattle.std.proofs.lemmas.Result.{on_ok_weaker}
-use Rattle.world_pieces.proofs.Told.{puts_called}
+use Rattle.world_pieces.proofs.ToldPieces.{puts_called}
 use Rattle.world_pieces.proofs.told.put_called.Goals as goal
 
 pub returns-in-Called : goal.returns-in-Called

@@ -1,7 +1,7 @@
 use Rattle.sj_baselink.proofs.Putting.{puts_key}
 use Rattle.sj_names.proofs.Equal.{method_decides}
 use Rattle.sj_names.specs.contracts.method_names.MethodNamePartialEq.TheImpl as method_eq
-use Rattle.world_pieces.proofs.Told.{one_used}
+use Rattle.world_pieces.proofs.ToldPieces.{one_used}
 use Rattle.world_pieces.proofs.told.put_used.Goals as goal
 
 pub returns-in_ok-insert : goal.returns-in_ok-insert

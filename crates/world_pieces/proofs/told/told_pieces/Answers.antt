@@ -5,7 +5,7 @@ use Rattle.sj_baselink.specs.Steps.{OfOne}
 use Rattle.sj_names.specs.declared.method_names.MethodName.{MethodName}
 use Rattle.sj_world.specs.declared.facts.Fact.{Fact}
 use Rattle.world_pieces.specs.Told.{IsUsedBy, AreTheirs}
-use Rattle.world_pieces.proofs.Told.{are_dispatch_pieces, sorted_keep}
+use Rattle.world_pieces.proofs.ToldPieces.{are_dispatch_pieces, sorted_keep}
 use Rattle.world_pieces.proofs.told.told_pieces.Goals as goal
 
 pub returns-clause-pieces : goal.returns-clause-pieces
