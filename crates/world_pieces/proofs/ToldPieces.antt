@@ -19,6 +19,7 @@ use Rattle.sj_baselink.specs.Steps.{Puts, OfOne}
 use Rattle.sj_mangling.proofs.Injective.{mangled_texts_differ}
 use Rattle.sj_names.proofs.Equal.{method_decides}
 use Rattle.sj_names.proofs.ReadMethodNames.{reads_method_names}
+use Rattle.sj_names.proofs.Same.{impossible}
 use Rattle.sj_names.specs.MethodNames.{spelled_method, method_name_of, IsMethodName}
 use Rattle.sj_names.specs.contracts.method_names.MethodNamePartialEq.TheImpl as method_eq
 use Rattle.sj_names.specs.declared.method_names.MethodName.{MethodName}
@@ -54,8 +55,8 @@ one_name m n h k same =
 pub is_read : (m read : MethodName) (b : Bool) → method_name_of (spelled_method m) ≡ Some read → IsTrue b ↔ (read ≡ m) → IsTrue b ↔ IsMethodName m
 is_read m read b found same = (λ t. ((reads_method_names (spelled_method m) m).0 (found ∙ ap Some (same.0 t))).0, λ h. same.1 (same_method read m (sym found ∙ (reads_method_names (spelled_method m) m).1 (h, refl))))
 
-pub not_read : (m : MethodName) → method_name_of (spelled_method m) ≡ None → IsMethodName m → ⊥
-not_read m none h = no_method m (sym none ∙ (reads_method_names (spelled_method m) m).1 (h, refl))
+pub not_read : (m : MethodName) → method_name_of (spelled_method m) ≡ None → IsTrue false ↔ IsMethodName m
+not_read m none = (λ t. impossible t, λ h. absurd (no_method m (sym none ∙ (reads_method_names (spelled_method m) m).1 (h, refl))))
 
 -- the methods that are put
 same_called : (c d : Name) (m n : MethodName) → Called c m ≡ Called d n → m ≡ n
@@ -114,7 +115,7 @@ one_theirs l ms i m old new p at is put are = subst (λ (ns : List MethodName). 
 
 -- the names of the functions of methods
 differ : (m n : MethodName) → method_eq.ghosts.eq m n ≡ false → m ≡ n → ⊥
-differ m n no e = let t : true ≡ false = sym ((method_decides m n).1 e) ∙ no in cc
+differ m n other e = let t : true ≡ false = sym ((method_decides m n).1 e) ∙ other in cc
 
 others : (m : MethodName) (ms : List MethodName) → IsMethodName m → ((n : MethodName) → Contains ms n → IsMethodName n) → AllByRecursion (λ n. method_eq.ghosts.eq m n ≡ false) ms → AllByRecursion (λ x. is_same (dispatch_name m) x ≡ false) (map dispatch_name ms)
 others m [] h each all = tt
