@@ -1,10 +1,11 @@
-use Rattle.std.proofs.Common.{List, arith, map, refl, subst, take}
+use Rattle.std.proofs.Common.{List, arith, map, refl, subst, sym}
 use Rattle.std.specs.Prelude.{All}
 use Rattle.std.proofs.lemmas.List.{take_all}
 use Rattle.std.proofs.lemmas.List.Elements.{All-nil}
 use Rattle.std.proofs.lemmas.Option.{slice_get_read}
 use Rattle.js_tree.specs.Rules.{IsPiece}
 use Rattle.js_tree.specs.Views.{piece_view}
+use Rattle.js_tree.specs.declared.items.JsPiece.{JsPiece}
 use Rattle.sj_names.specs.declared.method_names.MethodName.{MethodName}
 use Rattle.world_pieces.specs.Told.{AreTheirs}
 use Rattle.world_pieces.proofs.Kept.{one_keeps}
@@ -14,7 +15,7 @@ use Rattle.world_pieces.proofs.told.pieces_of.Goals as goal
 pub loop-method-init : goal.loop-method-init
 loop-method-init c = record {
   pieces = none_theirs c.args.linked.now c.args.methods.now _ c.new-pieces.ensures.items;
-  rules = rw c.new-pieces.ensures.items (All-nil IsPiece);
+  rules = subst (λ (ps : List JsPiece). All IsPiece (map piece_view ps)) (sym c.new-pieces.ensures.items) (All-nil IsPiece);
 }
 
 pub loop-method-preserved : goal.loop-method-preserved
