@@ -39,9 +39,10 @@ pub fn world_pieces(
 
 // The pieces of the blocks, with those that stand behind the pieces of `java.lang.Object`.
 fn laid_out(alloc: Global, blocks: Vec<Block>, behind: &[JsPiece]) -> Result<Vec<JsPiece>, NoMemory>
-    requires { All IsPiece (flat_map pieces_in blocks.items) }
+    requires blocks { All IsPiece (flat_map pieces_in blocks.items) }
+    requires behind { All IsPiece (map piece_view behind.now) }
     ensures pieces { IfOk result (λ ps. map piece_view ps.items ≡ flat_map (with_helpers_in (map piece_view behind.now)) blocks.items) }
-    ensures rules { All IsPiece (map piece_view behind.now) → IfOk result (λ ps. All IsPiece (map piece_view ps.items)) }
+    ensures rules { IfOk result (λ ps. All IsPiece (map piece_view ps.items)) }
 {
     let mut pieces = Vec::new(alloc);
     for block in blocks {

@@ -7,5 +7,5 @@ use Rattle.world_pieces.proofs.pieces.laid_out.Goals as goal
 pub loop-block-preserved : goal.loop-block-preserved
 loop-block-preserved c = record {
   pieces = one_block (with_helpers_in (map piece_view c.args.behind.now)) c.loop-block.yielded c.in-Some.block c.loop-block.pieces.items _ c.loop-block.invariant.pieces c.in_ok-put_block.ensures.pieces;
-  rules = λ own all. c.in_ok-put_block.ensures.rules own (keeps_there pieces_in c.loop-block.yielded c.in-Some.block all) (c.loop-block.invariant.rules own (keeps_before pieces_in c.loop-block.yielded c.in-Some.block all));
+  rules = λ all. c.in_ok-put_block.ensures.rules c.requires.behind (keeps_there pieces_in c.loop-block.yielded c.in-Some.block all) (c.loop-block.invariant.rules (keeps_before pieces_in c.loop-block.yielded c.in-Some.block all));
 }

@@ -9,5 +9,5 @@ use Rattle.world_pieces.proofs.pieces.laid_out.Given as goal
 abbrev pub invariant-loop-block : goal.invariant-loop-block
 invariant-loop-block l = record {
   pieces : map piece_view l.pieces.items ≡ flat_map (with_helpers_in (map piece_view l.behind)) l.yielded;
-  rules : All IsPiece (map piece_view l.behind) → All IsPiece (flat_map pieces_in l.yielded) → All IsPiece (map piece_view l.pieces.items);
+  rules : All IsPiece (flat_map pieces_in l.yielded) → All IsPiece (map piece_view l.pieces.items);
 }

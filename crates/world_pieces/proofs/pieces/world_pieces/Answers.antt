@@ -16,8 +16,11 @@ use Rattle.world_pieces.proofs.Linked.{are_linked_pieces}
 use Rattle.world_pieces.proofs.Made.{blocks_keep}
 use Rattle.world_pieces.proofs.pieces.world_pieces.Goals as goal
 
-pub laid_out-requires : goal.laid_out-requires
-laid_out-requires c = blocks_keep c.args.linked.now c.args.functions.items _ _ c.requires c.in_ok-blocks.ensures
+pub laid_out-requires-clause-blocks : goal.laid_out-requires-clause-blocks
+laid_out-requires-clause-blocks c = blocks_keep c.args.linked.now c.args.functions.items _ _ c.requires c.in_ok-blocks.ensures
+
+pub laid_out-requires-clause-behind : goal.laid_out-requires-clause-behind
+laid_out-requires-clause-behind c = subst (λ (qs : List JsPiece). All IsPiece (map piece_view qs)) (sym c.deref-3.ensures.value) c.in_ok-behind.ensures.rules
 
 pub returns-clause-pieces : goal.returns-clause-pieces
 returns-clause-pieces c all given own tell =
@@ -30,6 +33,3 @@ returns-clause-pieces c all given own tell =
     let made = subst (λ (cs : List ClassPlace). AreMade l functions (map name_of cs) bs) c.deref.ensures.value c.in_ok-blocks.ensures in
     let stands = subst (λ (ds : List Block). AreBehind l (flat_map pieces_in ds) behind) c.deref-2.ensures.value c.in_ok-behind.ensures.pieces in
     IfOk-weaker c.laid_out.result _ _ (λ ps is. are_linked_pieces l functions all given own tell names bs behind _ classes made stands (subst (λ (qs : List JsPiece). map piece_view ps.items ≡ flat_map (with_helpers_in (map piece_view qs)) bs) c.deref-3.ensures.value is)) c.laid_out.ensures.pieces
-
-pub returns-clause-rules : goal.returns-clause-rules
-returns-clause-rules c = c.laid_out.ensures.rules (subst (λ (qs : List JsPiece). All IsPiece (map piece_view qs)) (sym c.deref-3.ensures.value) c.in_ok-behind.ensures.rules)
