@@ -9,6 +9,7 @@ pub use Rattle.class_tests.specs.Instances
 pub use Rattle.class_tests.specs.Kinds as ClassTestsKinds
 pub use Rattle.class_tests.specs.Tests
 pub use Rattle.class_tests.specs.Entries
+pub use Rattle.class_tests.specs.Dispatch
 pub use Rattle.class_tests.specs.Helpers
 pub use Rattle.class_tests.specs.Words
 pub use Rattle.class_tests.specs.FailureVariants

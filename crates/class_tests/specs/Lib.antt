@@ -22,3 +22,4 @@ pub use Rattle.class_code.specs.Paths
 pub use Rattle.class_code.specs.Rows
 pub use Rattle.class_code.specs.Tables
 pub use Rattle.class_code.specs.Entries
+pub use Rattle.class_code.specs.Dispatch

@@ -5,7 +5,7 @@ use Rattle.std.proofs.lemmas.List.{reverse-reverse}
 use Rattle.helper_rules.specs.Words.{kind_class, told_kinds}
 use Rattle.helper_rules.specs.declared.kinds.Kind.{Kind}
 use Rattle.js_tree.specs.Terms.{Piece}
-use Rattle.piece_rules.specs.Dispatch.{Told, IsReachedTarget, AreTold, told_none, told, untold, dispatch_piece, IsDispatchPiece}
+use Rattle.sj_sound.specs.Dispatch.{Told, IsReachedTarget, AreTold, told_none, told, untold, dispatch_piece, IsDispatchPiece}
 use Rattle.sj_names.specs.declared.method_names.MethodName.{MethodName}
 use Rattle.sj_sound.proofs.Owners.{one_owner}
 use Rattle.sj_split.proofs.Unique.{never_both}

@@ -2,7 +2,7 @@
 use Rattle.std.specs.Prelude.{List, Contains}
 use Rattle.helper_rules.specs.Words.{helper}
 use Rattle.js_tree.specs.Terms.{Piece}
-use Rattle.piece_rules.specs.Dispatch.{IsDispatchPiece, dispatch_name}
+use Rattle.sj_sound.specs.Dispatch.{IsDispatchPiece, dispatch_name}
 use Rattle.sj_names.specs.MethodNames.{IsMethodName}
 use Rattle.sj_names.specs.declared.method_names.MethodName.{MethodName}
 use Rattle.sj_split.specs.Orders.{IsBefore}

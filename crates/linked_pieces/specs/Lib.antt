@@ -3,7 +3,7 @@ pub mod Order
 pub mod Pieces
 pub mod Laws
 pub mod Used
-pub use Rattle.piece_rules.specs.Dispatch
+pub use Rattle.sj_sound.specs.Dispatch
 pub use Rattle.sj_sound.specs.Pieces as PieceRulesPieces
 pub use Rattle.sj_sound.specs.Emitted
 pub use Rattle.sj_kept.specs.Once

@@ -9,6 +9,7 @@ pub mod Worlds
 pub use Rattle.class_casts.specs.Classes as ClassCasts
 pub use Rattle.class_casts.specs.Tests as ClassTests
 pub use Rattle.class_casts.specs.Entries
+pub use Rattle.class_casts.specs.Dispatch
 pub use Rattle.class_casts.specs.PieceRulesClasses as Classes
 pub use Rattle.class_casts.specs.Pieces
 pub use Rattle.sj_bodies.specs.Settings
