@@ -5,6 +5,7 @@ use Rattle.built_forms.specs.Boxes.{is_boxed, operands_are_boxed}
 use Rattle.built_forms.specs.Built.{Usable, may_make, divides}
 use Rattle.sj_emit_expr.specs.Coercions.{is_char}
 use Rattle.sj_emit_expr.specs.Desugar.{has_no_value}
+use Rattle.sj_names.specs.declared.references.ArrayRef.{ArrayRef}
 use Rattle.sj_trees.specs.Term.{Term, boolean_literal}
 use Rattle.sj_trees.specs.TypeOf.{type_of_term, loop_type, unary_result, binary_result}
 use Rattle.sj_trees.specs.declared.operators.BinaryOp.{BinaryOp}
@@ -92,26 +93,24 @@ implied true b h = h refl
 implied false b h = refl
 
 -- a type of which more than itself and nothing are subtypes
-open_fits : (t own : IrType) → is_lowest t ≡ false → NoBox t own → (is_bare t ≡ true → is_bare own ≡ true) → Fits t own
-open_fits Nothing own h n b = impossible (sym h)
-open_fits Undefined own h n b = impossible (sym h)
-open_fits Boolean own h n b = impossible (sym h)
-open_fits Char own h n b = impossible (sym h)
-open_fits Byte own h n b = impossible (sym h)
-open_fits Short own h n b = impossible (sym h)
-open_fits Int own h n b = impossible (sym h)
-open_fits Long own h n b = impossible (sym h)
-open_fits String own h n b = impossible (sym h)
-open_fits NoType own h n b = impossible (sym h)
-open_fits t Nothing h n b = nothing-fits t
-open_fits Any Char h n b = impossible (sym n)
-open_fits Any own h n b = refl
-open_fits (Class c) Char h n b = impossible (sym n)
-open_fits (Class c) own h n b = implied (is_bare (Class c)) (is_bare own) b
-open_fits Null Char h n b = impossible (sym n)
-open_fits Null own h n b = b refl
-open_fits (Array r) Char h n b = impossible (sym n)
-open_fits (Array r) own h n b = refl
+open_fits : (t own : IrType) → is_lowest t ≡ false → NoBox t own → (is_bare t ≡ true → is_bare own ≡ true) → ((r : ArrayRef) → t ≡ Array r → Fits t own) → Fits t own
+open_fits Nothing own h n b a = impossible (sym h)
+open_fits Undefined own h n b a = impossible (sym h)
+open_fits Boolean own h n b a = impossible (sym h)
+open_fits Char own h n b a = impossible (sym h)
+open_fits Byte own h n b a = impossible (sym h)
+open_fits Short own h n b a = impossible (sym h)
+open_fits Int own h n b a = impossible (sym h)
+open_fits Long own h n b a = impossible (sym h)
+open_fits String own h n b a = impossible (sym h)
+open_fits Null own h n b a = impossible (sym h)
+open_fits NoType own h n b a = impossible (sym h)
+open_fits t Nothing h n b a = nothing-fits t
+open_fits Any Char h n b a = impossible (sym n)
+open_fits Any own h n b a = refl
+open_fits (Class c) Char h n b a = impossible (sym n)
+open_fits (Class c) own h n b a = implied (is_bare (Class c)) (is_bare own) b
+open_fits (Array r) own h n b a = a r refl
 
 -- what joins to a text is bare
 pub text_bare : (t : IrType) → IsText t → is_bare t ≡ true
@@ -137,7 +136,7 @@ module _ (w : Classes) (law : IsSubtyping (IsSub w)) where
     where
       go : (b : Bool) → is_lowest t ≡ b → Fits t own
       go true e = ⊎_elim (λ i. subst (Fits t) (sym i) (fits-same t)) (λ i. subst (Fits t) (sym i) (nothing-fits t)) (law.lowest own t e f)
-      go false e = open_fits t own e n (λ b. law.bare own t b f)
+      go false e = open_fits t own e n (λ b. law.bare own t b f) (λ r i. subst (λ (u : IrType). Fits u own) (sym i) (law.arrays own r (subst (IsSub w own) i f)))
 
   -- of the types that are lowest no char is one but char
   lowest-box : (t own : IrType) → is_lowest t ≡ true → IsSub w own t → NoBox t own

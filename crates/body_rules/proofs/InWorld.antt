@@ -2,6 +2,7 @@
 use Rattle.std.proofs.Common.{◌≡◌, Bool, true, false, Option, Some, None, refl, sym, ap, ◌∙◌, subst, ◌⊎◌, inl, inr}
 use Rattle.sj_emit_expr.specs.Coercions.{is_char}
 use Rattle.sj_names.specs.Same.{is_same_text}
+use Rattle.sj_names.specs.declared.references.ArrayRef.{ArrayRef}
 use Rattle.sj_trees.specs.declared.types.IrType.{IrType}
 use Rattle.sj_trees.specs.declared.types.IrType.TheVariants.{Any, Nothing, Undefined, Boolean, Char, Byte, Short, Int, Long, String, Class, Null, Array, NoType}
 use Rattle.sj_emit_expr.proofs.LawsHold.{subtypes_transitive}
@@ -11,7 +12,7 @@ use Rattle.sj_emit_expr.specs.Laws.{IsPlain}
 use Rattle.sj_emit_expr.specs.Subtypes.{hijacked_class, IsSub, equal, from_nothing, to_any, null_to_class, null_to_array, class_to_class, primitive_to_class, arrays_alike, arrays_of_arrays}
 use Rattle.sj_names.proofs.Same.{impossible, text-same, text-refl}
 use Rattle.body_rules.proofs.Topped.{string_class, topped, string_alone}
-use Rattle.body_rules.specs.Standing.{is_bare}
+use Rattle.body_rules.specs.Standing.{is_bare, Fits}
 use Rattle.body_rules.specs.Subtyping.{is_lowest, IsSubtyping}
 
 from_none : (w : Classes) (t : IrType) → IsSub w NoType t → t ≡ NoType
@@ -64,8 +65,8 @@ bare w plain s t b (null_to_class d e f) = ap is_bare e
 bare w plain s t b (null_to_array r e f) = ap is_bare e
 bare w plain s t b (class_to_class c d e f a) = ap is_bare e ∙ bare_class w plain c d (ap is_bare (sym f) ∙ b) a
 bare w plain s t b (primitive_to_class c d e f a) = of_primitive s c e
-bare w plain s t b (arrays_alike x y e f g k) = impossible (ap is_bare (sym f) ∙ b)
-bare w plain s t b (arrays_of_arrays x y e f g k) = impossible (ap is_bare (sym f) ∙ b)
+bare w plain s t b (arrays_alike x y e f g k) = ap is_bare e
+bare w plain s t b (arrays_of_arrays x y e f g k) = ap is_bare e
 
 -- the class of chars isn't that of texts
 abbrev is_string : Option Name → Bool
@@ -88,5 +89,17 @@ open_above w plain t n (primitive_to_class c d e f a) = ap is_bare f ∙ above_c
 open_above w plain t n (arrays_alike a b e f g h) = absurd (cc)
 open_above w plain t n (arrays_of_arrays a b e f g h) = absurd (cc)
 
+-- below a type of arrays there are such types, null and nothing
+arrays : (w : Classes) (s : IrType) (r : ArrayRef) → IsSub w s (Array r) → Fits (Array r) s
+arrays w s r (equal e) = subst (Fits (Array r)) (sym e) refl
+arrays w s r (from_nothing e) = subst (Fits (Array r)) (sym e) refl
+arrays w s r (to_any e n) = absurd (cc)
+arrays w s r (null_to_class d e f) = absurd (cc)
+arrays w s r (null_to_array b e f) = subst (Fits (Array r)) (sym e) refl
+arrays w s r (class_to_class c d e f a) = absurd (cc)
+arrays w s r (primitive_to_class c d e f a) = absurd (cc)
+arrays w s r (arrays_alike a b e f g k) = subst (Fits (Array r)) (sym e) refl
+arrays w s r (arrays_of_arrays a b e f g k) = subst (Fits (Array r)) (sym e) refl
+
 pub in_world : (w : Classes) → IsPlain w → IsSubtyping (IsSub w)
-in_world w plain = record { same = λ t. equal refl; further = subtypes_transitive w (topped w plain); from_none = from_none w; bare = bare w plain; chars = λ t f n. open_above w plain t n f; lowest = lowest w }
+in_world w plain = record { same = λ t. equal refl; further = subtypes_transitive w (topped w plain); from_none = from_none w; bare = bare w plain; chars = λ t f n. open_above w plain t n f; lowest = lowest w; arrays = arrays w }

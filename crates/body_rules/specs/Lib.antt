@@ -14,10 +14,10 @@ pub use Rattle.sj_emit_expr.specs.Plain
 pub use Rattle.sj_emit_expr.specs.Spill
 pub use Rattle.sj_emit_expr.specs.Texts
 pub use Rattle.sj_emit_expr.specs.Members
+pub use Rattle.sj_emit_expr.specs.Uses
 pub use Rattle.sj_emit_expr.specs.Names
 pub use Rattle.sj_emit_expr.specs.Pieces
 pub use Rattle.sj_emit_expr.specs.Templates
-pub use Rattle.sj_emit_expr.specs.Uses
 pub use Rattle.sj_emit_expr.specs.Known
 pub use Rattle.sj_emit_expr.specs.Sure
 pub use Rattle.built_forms.specs.Rules

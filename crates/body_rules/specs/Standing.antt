@@ -8,13 +8,12 @@ use Rattle.sj_names.specs.Same.{is_same_text}
 use Rattle.sj_names.specs.declared.references.TypeRef.{TypeRef}
 use Rattle.sj_trees.specs.Types.{reference_type}
 use Rattle.sj_trees.specs.declared.types.IrType.{IrType}
-use Rattle.sj_trees.specs.declared.types.IrType.TheVariants.{Any, Class, Array, Nothing, Undefined, Boolean, Char, Byte, Short, Int, Long, String}
+use Rattle.sj_trees.specs.declared.types.IrType.TheVariants.{Any, Class, Array, Nothing, Undefined, Boolean, Char, Byte, Short, Int, Long, String, Null}
 
--- a type at which no object stands: a primitive one, that of texts, or one without values. What joins to a text is of such a type.
+-- a type at which no object stands: a primitive one, that of texts, one without values, or one of arrays, since none is made yet. What joins to a text is of such a type.
 abbrev pub is_bare : IrType → Bool
 is_bare Any = false
 is_bare (Class c) = is_same_text c (codes "java.lang.String")
-is_bare (Array r) = false
 is_bare _ = true
 
 -- a tree of the second type may stand where the first is expected, as far as its value's kind tells
@@ -37,6 +36,11 @@ fits Long Long = true
 fits Long own = false
 fits String String = true
 fits String own = false
+fits Null Null = true
+fits Null own = false
+fits (Array r) Null = true
+fits (Array r) (Array q) = true
+fits (Array r) own = false
 fits expected Char = false
 fits expected own = not (is_bare expected) || is_bare own
 

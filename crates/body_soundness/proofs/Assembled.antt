@@ -9,6 +9,8 @@ use Rattle.dispatch_laws.specs.Known.{Classes}
 pub laws_of : (w : Classes) (has : Usable) → ObjectWorld w has → ObjectLaws w has
 laws_of w has h = record {
   received = h.received;
+  looked = h.looked;
+  reflected = h.reflected;
   targets = h.targets;
   built = h.built;
   once = h.once;

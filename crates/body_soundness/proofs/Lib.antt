@@ -15,3 +15,4 @@ pub use Rattle.sj_proper.proofs.Topped
 pub use Rattle.sj_proper.proofs.BuiltFormsDirect as Direct
 pub use Rattle.sj_proper.proofs.Targets
 pub use Rattle.dispatch_laws.proofs.Running
+pub use Rattle.dispatch_laws.proofs.SameNames

@@ -5,7 +5,7 @@ use Rattle.sj_proper.proofs.Lists.{at_front, further_on}
 use Rattle.sj_proper.proofs.RulesGive.{no_division}
 use Rattle.body_soundness.proofs.Right.{Comes, comes_then, CameRight, gave, left, threw, ObjectTyped, typed_object, HoldsType, holds_type, zero_type, HeapTyped, call_right, bodies_right, none_left, nothing_there, no_label, no_object, Ready}
 use Rattle.body_soundness.proofs.Values.{Classes, HasType, has_type, of_undefined, of_null, of_boolean, of_char, of_long, of_byte, of_short, of_int, of_text, of_object}
-use Rattle.body_soundness.specs.Laws.{ObjectLaws, HasReceivers, reads, calls}
+use Rattle.body_soundness.specs.Laws.{ObjectLaws, HasReceivers, reads, calls, looks, arrays, reflects}
 use Rattle.body_soundness.specs.Rules.{RightMember}
 use Rattle.sj_proper.specs.Typing.{Scene}
 use Rattle.sj_proper.specs.Built.{Usable, members_alone}
@@ -84,12 +84,17 @@ module _ (w : World) (plain : IsPlain w) (has : Usable) (laws : ObjectLaws w has
 no_receivers : {A : Type 0} (linked : Member → Bool) → HasReceivers (members_alone linked) → A
 no_receivers linked (reads c f t h) = impossible h
 no_receivers linked (calls m h) = impossible h
+no_receivers linked (looks c m h) = impossible h
+no_receivers linked (arrays h) = impossible h
+no_receivers linked (reflects p h) = impossible h
 
 -- where nothing but static members is used, nothing is asked of the world
 pub nothing_asked : (w : World) (linked : Member → Bool) → ObjectLaws w (members_alone linked)
 nothing_asked w linked = record {
   received = λ m h. impossible h;
   targets = λ m h. impossible h;
+  looked = λ c m h d b. impossible h;
+  reflected = λ p h d b. impossible h;
   built = λ m h. impossible h;
   once = λ r m d e f b. no_receivers linked r;
   made = λ c h. impossible h;

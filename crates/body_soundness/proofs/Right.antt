@@ -1,14 +1,14 @@
 -- A body that keeps the rules is never wrong by the IR; what it gives or throws is of its type, and each object keeps its class, with fields of their
 -- types.
 use Rattle.std.proofs.Common.{◌≡◌, ℕ, zero, suc, arith, codes, ◌++◌, ◌&&◌, ◌||◌, Bool, true, false, List, [], ◌∷◌, Some, None, Option, refl, sym, ap, ◌∙◌, subst, ◌⊎◌, inl, inr, ⊎_elim, if◌then◌else◌}
-use Rattle.std.specs.Prelude.{nat_eq, slice_get, set, ◌==◌, is_some, ℤ, pos}
-use Rattle.std.proofs.lemmas.Bool.{and_parts}
+use Rattle.std.specs.Prelude.{nat_eq, slice_get, set, ◌==◌, is_some, not, ℤ, pos}
+use Rattle.std.proofs.lemmas.Bool.{and_parts, or_right}
 use Rattle.std.specs.Cmp.Lexicographic.{pointwise}
 use Rattle.std.specs.List.{list_any}
 use Rattle.std.specs.Ordering.{int_eq}
-use Rattle.outcomes.specs.Outcome.{Lines, End, Done, Going, Wrong, Out, then_do, after}
+use Rattle.outcomes.specs.Outcome.{Lines, End, Done, Going, Wrong, Out, wrong, then_do, after}
 use Rattle.dispatch_laws.proofs.OwnTargets.{own_target}
-use Rattle.dispatch_laws.specs.Dispatch.{chain_of}
+use Rattle.dispatch_laws.specs.Dispatch.{chain_of, is_ancestor_of_any}
 use Rattle.dispatch_laws.specs.Meaning as ir_meaning
 use Rattle.dispatch_laws.specs.Operators.{Answer, answers, unary_value, binary_value}
 use Rattle.dispatch_laws.specs.States as ir
@@ -17,14 +17,17 @@ use Rattle.body_soundness.proofs.Heaps.{get-end, get-front, not-past, get-set, g
 use Rattle.body_soundness.proofs.Instances.{IsObject, an_object, tested_type, test_type}
 use Rattle.body_soundness.proofs.Sured.{Sured, sured-parts, sure-named, body-sured}
 use Rattle.dispatch_laws.specs.Targets.{IsTargetOf}
-use Rattle.body_soundness.specs.Laws.{HasReceivers, reads, calls, null_pointer, arithmetic, class_cast, ObjectLaws}
-use Rattle.dispatch_laws.specs.World.{World, class_of, method_among, method_in, member_of, is_of_type, type_text, zeros_in, zero_of, new_fields}
+use Rattle.body_soundness.specs.Laws.{HasReceivers, reads, calls, looks, arrays, reflects, IsClassBelow, made_below, kind_below, Answers, AnswersByName, no_method, has_method, null_pointer, arithmetic, class_cast, ObjectLaws}
+use Rattle.dispatch_laws.specs.World.{World, class_of, method_among, method_in, member_of, class_of_value, stored_class, is_instance, is_small_number, is_of_type, type_text, units_of, zeros_in, zero_of, new_fields}
 use Rattle.sj_proper.specs.Desugar.{member, has_no_value}
-use Rattle.sj_proper.proofs.Direct.{direct}
-use Rattle.dispatch_laws.proofs.HijackedCalls.{hijacked_call}
+use Rattle.sj_proper.proofs.BuiltFormsDirect.{IsArray, array_valued}
+use Rattle.sj_proper.proofs.Direct.{Applied, directly, by_lookup, on_array, by_name, applied}
+use Rattle.dispatch_laws.proofs.HijackedCalls.{hijacked_call, takes_any}
+use Rattle.dispatch_laws.proofs.LookedUpCalls.{calls_instance, takes_instances}
 use Rattle.dispatch_laws.specs.Templates.{check_name, called_member}
 use Rattle.sj_proper.specs.Plain.{is_no_type}
 use Rattle.sj_names.specs.Same.{is_same_text, is_same_namespace, is_same_method}
+use Rattle.sj_names.specs.MethodNames.{spelled_method}
 use Rattle.sj_names.specs.declared.method_names.MethodName.{MethodName}
 use Rattle.sj_names.specs.declared.method_names.Namespace.{Namespace}
 use Rattle.sj_names.specs.declared.method_names.Namespace.TheVariants.{Constructor}
@@ -57,14 +60,14 @@ use Rattle.sj_proper.proofs.RulesGive.{class_has_value, Takes, its_types, texts,
 use Rattle.sj_proper.proofs.Around.{type_inside}
 use Rattle.dispatch_laws.specs.Ancestors.{by_path}
 use Rattle.dispatch_laws.specs.Known as known
-use Rattle.dispatch_laws.specs.Known.{is_hijacked}
+use Rattle.dispatch_laws.specs.Known.{is_hijacked, object}
 use Rattle.dispatch_laws.specs.Paths.{stay}
-use Rattle.dispatch_laws.specs.Subtypes.{IsSub, to_any, null_to_class, null_to_array, primitive_to_class}
+use Rattle.dispatch_laws.specs.Subtypes.{IsSub, hijacked_class, to_any, null_to_class, null_to_array, primitive_to_class}
 use Rattle.sj_proper.proofs.Topped.{string_class}
 use Rattle.sj_proper.specs.Labels.{type_of_label}
 use Rattle.sj_proper.proofs.Locals.{local-there, values-behind}
 use Rattle.sj_proper.proofs.Fitting.{value-not, true-or-none, unary-operand-value, left-operand-value, right-operand-value, not_no_type, cast-value}
-use Rattle.body_soundness.proofs.Values.{Classes, Adds, adds-refl, adds-trans, type-lift, HasType, has_type, of_undefined, of_null, of_boolean, of_byte, of_short, of_int, of_text, IsBoolean, a_boolean, IsNumber, a_number, IsText, a_text, wider, as_boolean, as_int, as_text, Gives, some_of, unary_gives, binary_gives, identity_gives, division_gives, divided_gives, of_char, of_long, as_long, join_gives, long_division_gives, of_object, primitive_full, Sort, is_null, is_object, is_primitive, sort_of}
+use Rattle.body_soundness.proofs.Values.{Classes, Adds, adds-refl, adds-trans, type-lift, HasType, has_type, of_undefined, of_null, of_boolean, of_byte, of_short, of_int, of_text, IsBoolean, a_boolean, IsNumber, a_number, IsText, a_text, wider, as_boolean, as_int, as_text, Gives, some_of, unary_gives, binary_gives, identity_gives, division_gives, divided_gives, of_char, of_long, as_long, join_gives, long_division_gives, of_object, of_any, no_array, primitive_full, Sort, is_null, is_object, is_primitive, sort_of}
 
 -- not wrong, and where it is done, with what P says
 abbrev pub Comes : {A : Type 0} → (A → Type 0) → End A → Type 0
@@ -833,6 +836,140 @@ module _ (w : World) (law : IsSubtyping (IsSub w)) (has : Usable) where
     received_right : (c : List ℕ) (n : Namespace) (m : MethodName) (o : Member) → RightMember w has o → IsTargetOf w (member c n m) o → (s : Scene) (t own : IrType) → t ≡ call_type m.result → IsSub w own (class_type c) → (k : Classes) (v : ir.Value) → GivesType k v own → Full v → (y : Classes) → Adds k y → (vs : List ir.Value) (env : ir.Env) (st : ir.State) → ValuesFit y vs m.params → Ready y (frame_of s) s.locals env st → Right y s t (ir_meaning.call_on w low (ir_meaning.static_target w c n m) (v ∷ vs) env st)
     received_right c n m o l its s t own is sub k v g full y b vs env st q i = subst (λ (e : Out ir.Ended). Right y s t e) (sym (ap (λ (d : Option MethodDef). ir_meaning.call_on w low d (v ∷ vs) env st) (its.runs l.definition l.its_body l.has_body l.found) ∙ called_on (Some l.definition) v vs env st full ∙ ap (λ (d : Option MethodDef). ir_meaning.call low d (Some v) vs env st) (sym l.found))) (call_right laws low right o l s t (is ∙ ap (λ (f : MethodName). call_type f.result) (sym its.method)) y vs (subst (λ (f : MethodName). ValuesFit y vs f.params) (sym its.method) q) (Some v) (λ r. holds_object v o.class (type-lift (IsSub w) law k y b v (class_type o.class) (operand-type k v own (class_type o.class) g (law.further own (class_type c) (class_type o.class) sub its.above) (value-not (class_type o.class) (class_has_value o.class)))) full) env st i)
 
+    -- the class by which a call on a value is looked up, and the value as one of its type
+    pub record LooksAt (at : Classes) (st : ir.State) (c : List ℕ) (v : ir.Value) : Type 0 where
+      pub class : List ℕ
+      pub told : class_of_value st v ≡ Some class
+      pub below : IsClassBelow w has c class
+      pub typed : HasType (IsSub w) law at v (class_type class)
+
+    of_itself : (o : IrType) (d : List ℕ) → known.is_hijacked d ≡ true → hijacked_class o ≡ Some d → IsSub w o (Class d)
+    of_itself o d h is = primitive_to_class d d is refl (record { known = or_right (is_some (known.class_of w d)) (known.is_hijacked d) h; way = by_path stay })
+
+    looks_at : (at : Classes) (st : ir.State) → HeapTyped at st → (c : List ℕ) (v : ir.Value) → HasType (IsSub w) law at v (class_type c) → Full v → LooksAt at st c v
+    looks_at at st heap c _ (has_type _ of_null f) n = absurd (n refl)
+    looks_at at st heap c _ (has_type _ of_undefined f) n = record { class = codes "java.lang.Void"; told = refl; below = kind_below Undefined _ refl f; typed = has_type Undefined of_undefined (of_itself Undefined _ refl refl) }
+    looks_at at st heap c _ (has_type _ (of_boolean b) f) n = record { class = codes "java.lang.Boolean"; told = refl; below = kind_below Boolean _ refl f; typed = has_type Boolean (of_boolean b) (of_itself Boolean _ refl refl) }
+    looks_at at st heap c _ (has_type _ (of_char u) f) n = record { class = codes "java.lang.Character"; told = refl; below = kind_below Char _ refl f; typed = has_type Char (of_char u) (of_itself Char _ refl refl) }
+    looks_at at st heap c _ (has_type _ (of_long z) f) n = record { class = codes "java.lang.Long"; told = refl; below = kind_below Long _ refl f; typed = has_type Long (of_long z) (of_itself Long _ refl refl) }
+    looks_at at st heap c _ (has_type _ (of_byte z) f) n = record { class = codes "java.lang.Integer"; told = refl; below = kind_below Byte _ refl f; typed = has_type Int (of_int z) (of_itself Int _ refl refl) }
+    looks_at at st heap c _ (has_type _ (of_short z) f) n = record { class = codes "java.lang.Integer"; told = refl; below = kind_below Short _ refl f; typed = has_type Int (of_int z) (of_itself Int _ refl refl) }
+    looks_at at st heap c _ (has_type _ (of_int z) f) n = record { class = codes "java.lang.Integer"; told = refl; below = kind_below Int _ refl f; typed = has_type Int (of_int z) (of_itself Int _ refl refl) }
+    looks_at at st heap c _ (has_type _ (of_text us) f) n = record { class = codes "java.lang.String"; told = refl; below = kind_below String _ refl f; typed = has_type String (of_text us) (of_itself String _ refl refl) }
+    looks_at at st heap c _ (has_type _ (of_object j d e bare) f) n = record { class = d; told = go (slice_get st.heap j) (objects_there at st heap j d e); below = made_below d (heap.made j d e) f; typed = has_type (Class d) (of_object j d e bare) (class_below d) }
+      where
+        go : (o : Option ir.Stored) → IsObject d o → stored_class o ≡ Some d
+        go _ (an_object fields) = refl
+
+    -- a method that can be looked up on the objects of a class takes each receiver of the class's type
+    instance_if : (c : List ℕ) (m : MethodName) → has.looked_up c m ≡ true → (at : Classes) (v : ir.Value) (env : ir.Env) (st : ir.State) (goes : Out ir.Ended) → HasType (IsSub w) law at v (class_type c) → Full v → HeapTyped at st → (if is_instance w st v c then goes else wrong) ≡ goes
+    instance_if c m is at v env st goes h n heap = ap (λ (o : Option (List ℕ)). if (is_ancestor_of_any w o c || is_small_number v c) then goes else wrong) l.told ∙ ap (λ (b : Bool). if (b || is_small_number v c) then goes else wrong) (laws.looked c m is l.class l.below).below
+      where
+        l : LooksAt at st c v
+        l = looks_at at st heap c v h n
+
+    taken_right : (c : List ℕ) (m : MethodName) → has.looked_up c m ≡ true → (s : Scene) (own : IrType) → IsSub w own (class_type c) → (at : Classes) (o : Out ir.Ended) → FullRight at s own o → FullRight at s own (ir.go_on o (ir_meaning.only_instance w c))
+    taken_right c m is s own sub at o h = comes_then (λ a. CameRight at s s.locals own a × Only Full a) (λ a. CameRight at s s.locals own a × Only Full a) o (ir.onward (ir_meaning.only_instance w c)) h (λ a p. each a p.0 p.1)
+      where
+        each : (a : ir.Ended) → CameRight at s s.locals own a → Only Full a → Comes (λ a. CameRight at s s.locals own a × Only Full a) (ir.onward (ir_meaning.only_instance w c) a).end
+        each _ (gave k v env st a g e) n = subst (λ (x : Out ir.Ended). Comes (λ a. CameRight at s s.locals own a × Only Full a) x.end) (sym (instance_if c m is k v env st (ir.given v env st) (operand-type k v own (class_type c) g sub (value-not (class_type c) (class_has_value c))) n e.heap)) (gave k v env st a g e, n)
+        each _ (left k l v env st r a i g e) n = (left k l v env st r a i g e, tt)
+        each _ (threw k v env st a i e) n = (threw k v env st a i e, tt)
+
+    -- a call of a method that is looked up
+    looked_right : (c : List ℕ) (m : MethodName) → has.looked_up c m ≡ true → (s : Scene) (t own : IrType) → t ≡ call_type m.result → IsSub w own (class_type c) → (k : Classes) (v : ir.Value) → GivesType k v own → Full v → (y : Classes) → Adds k y → (vs : List ir.Value) (env : ir.Env) (st : ir.State) → ValuesFit y vs m.params → Ready y (frame_of s) s.locals env st → Right y s t (ir_meaning.call_instance w low c m (v ∷ vs) env st)
+    looked_right c m is s t own result sub k v g full y b vs env st q i = subst (λ (x : Out ir.Ended). Right y s t x) (sym (instance_if c m is y v env st (ir_meaning.call_on w low (ir_meaning.target_in w (class_of_value st v) m) (v ∷ vs) env st) on full i.heap)) (subst (λ (o : Option (List ℕ)). Right y s t (ir_meaning.call_on w low (ir_meaning.target_in w o m) (v ∷ vs) env st)) (sym l.told) (received_right l.class Namespace.Public m (member a.owner Namespace.Public m) (laws.received (member a.owner Namespace.Public m) a.received) a.target s t (class_type l.class) result (law.same (class_type l.class)) y v (inr l.typed) full y (adds-refl y) vs env st q i))
+      where
+        on : HasType (IsSub w) law y v (class_type c)
+        on = type-lift (IsSub w) law k y b v (class_type c) (operand-type k v own (class_type c) g sub (value-not (class_type c) (class_has_value c)))
+
+        l : LooksAt y st c v
+        l = looks_at y st i.heap c v on full
+
+        a : Answers w has c l.class m
+        a = laws.looked c m is l.class l.below
+
+    -- no array is taken as a receiver, since none is made yet
+    unmade : {A : Type 0} (e : Term) → IsArray (type_of_term e) → (at : Classes) (v : ir.Value) → GivesType at v (type_of_term e) → Full v → A
+    unmade e array at v g n = no_array (IsSub w) law at array.reference v (subst (HasType (IsSub w) law at v) array.is (operand-type at v (type_of_term e) (type_of_term e) g (law.same (type_of_term e)) (array_valued (type_of_term e) array))) n
+
+    array_taken : (e : Term) → IsArray (type_of_term e) → (s : Scene) (at : Classes) (o : Out ir.Ended) → FullRight at s (type_of_term e) o → FullRight at s (type_of_term e) (ir.go_on o (ir_meaning.only_instance w object))
+    array_taken e array s at o h = comes_then (λ a. CameRight at s s.locals (type_of_term e) a × Only Full a) (λ a. CameRight at s s.locals (type_of_term e) a × Only Full a) o (ir.onward (ir_meaning.only_instance w object)) h (λ a p. each a p.0 p.1)
+      where
+        each : (a : ir.Ended) → CameRight at s s.locals (type_of_term e) a → Only Full a → Comes (λ a. CameRight at s s.locals (type_of_term e) a × Only Full a) (ir.onward (ir_meaning.only_instance w object) a).end
+        each _ (gave k v env st a g q) n = unmade e array k v g n
+        each _ (left k l v env st r a i g q) n = (left k l v env st r a i g q, tt)
+        each _ (threw k v env st a i q) n = (threw k v env st a i q, tt)
+
+    -- a method without a result gives undefined
+    abbrev IsUndefined : ir.Value → Type 0
+    IsUndefined v = v ≡ ir.undefined
+
+    behind_only : (l : Lines) (e : End ir.Ended) (f : ir.Ended → Out ir.Ended) → ((a : ir.Ended) → Perhaps IsUndefined (f a).end) → Perhaps IsUndefined (after l e f).end
+    behind_only l (Done a) f h = h a
+    behind_only l Going f h = tt
+    behind_only l Wrong f h = tt
+
+    returned_only : (env : ir.Env) (a : ir.Ended) → Perhaps IsUndefined (ir_meaning.returned NoType env a).end
+    returned_only env (ir.ends (ir.gives v) inner st) = refl
+    returned_only env (ir.ends (ir.throws v) inner st) = tt
+    returned_only env (ir.ends (ir.leaves l v) inner st) = tt
+    returned_only env (ir.ends ir.stops inner st) = tt
+
+    body_only : (o : Option Term) (this : Option ir.Value) (l : Option ir.Locals) (env : ir.Env) (st : ir.State) → Perhaps IsUndefined (ir_meaning.body_call low NoType o this l env st).end
+    body_only (Some e) this (Some l) env st = let o = low e (record { this_value = this; locals = l; sure = sure_locals e }) st in behind_only o.lines o.end (ir_meaning.returned NoType env) (returned_only env)
+    body_only (Some e) this None env st = tt
+    body_only None this (Some l) env st = tt
+    body_only None this None env st = tt
+
+    -- what a call gives is of type any
+    widened : (y : Classes) (s : Scene) (t : IrType) (e : End ir.Ended) → (t ≡ NoType → Perhaps IsUndefined e) → Comes (CameRight y s s.locals t) e → Comes (CameRight y s s.locals Any) e
+    widened y s t Going h k = tt
+    widened y s t Wrong h k = k
+    widened y s t (Done a) h k = by a h k
+      where
+        by : (a : ir.Ended) → (t ≡ NoType → Perhaps IsUndefined (Done a)) → CameRight y s s.locals t a → CameRight y s s.locals Any a
+        by _ h (gave k v env st a (inl none) e) = gave k v env st a (inr (subst (λ (x : ir.Value). HasType (IsSub w) law k x Any) (sym (h none)) (has_type Undefined of_undefined (to_any refl (λ e. cc))))) e
+        by _ h (gave k v env st a (inr i) e) = gave k v env st a (inr (of_any (IsSub w) law k (λ o n. to_any refl n) v t i)) e
+        by _ h (left k l v env st r a i g e) = left k l v env st r a i g e
+        by _ h (threw k v env st a i e) = threw k v env st a i e
+
+    -- a call by a reflective name
+    named_right : (p : MethodName) → has.reflected p ≡ true → (s : Scene) (own : IrType) → (own ≡ NoType → ⊥) → (k : Classes) (v : ir.Value) → GivesType k v own → Full v → (y : Classes) → Adds k y → (vs : List ir.Value) (env : ir.Env) (st : ir.State) → ValuesFit y vs p.params → Ready y (frame_of s) s.locals env st → Right y s Any (ir_meaning.call_reflective w low p (v ∷ vs) env st)
+    named_right p is s own value k v g full y b vs env st q i = subst (λ (o : Option (List ℕ)). Right y s Any (ir_meaning.call_proxy w low p o (v ∷ vs) env st)) (sym l.told) (by (laws.reflected p is l.class l.below))
+      where
+        l : LooksAt y st object v
+        l = looks_at y st i.heap object v (type-lift (IsSub w) law k y b v Any (operand-type k v own Any g (to_any refl value) (value-not Any refl))) full
+
+        by : AnswersByName w has l.class p → Right y s Any (ir_meaning.call_proxy w low p (Some l.class) (v ∷ vs) env st)
+        by (no_method e made built) = subst (λ (o : Option MethodDef). Right y s Any (ir_meaning.call_named w low p l.class o (v ∷ vs) env st)) (sym e) (only_right (CameRight y s s.locals Any) Full (ir_meaning.raise w low ir_meaning.no_such_method (units_of (spelled_method p)) env st).end (raise_right ir_meaning.no_such_method (units_of (spelled_method p)) made built s Any y env st i))
+        by (has_method d owner e params received its) = subst (λ (o : Option MethodDef). Right y s Any (ir_meaning.call_named w low p l.class o (v ∷ vs) env st)) (sym e) (widened y s (call_type d.name.result) (ir_meaning.call_on w low (ir_meaning.target_in w (Some l.class) d.name) (v ∷ vs) env st).end none (received_right l.class Namespace.Public d.name o there its s (call_type d.name.result) (class_type l.class) refl (law.same (class_type l.class)) y v (inr l.typed) full y (adds-refl y) vs env st (subst (λ (rs : List TypeRef). ValuesFit y vs rs) (sym params) q) i))
+          where
+            o : Member
+            o = member owner Namespace.Public d.name
+
+            there : RightMember w has o
+            there = laws.received o received
+
+            called : ir_meaning.call_on w low (ir_meaning.target_in w (Some l.class) d.name) (v ∷ vs) env st ≡ ir_meaning.body_call low there.definition.result there.definition.body (Some v) (ir_meaning.parameters there.definition.params vs) env st
+            called = ap (λ (c : Option MethodDef). ir_meaning.call_on w low c (v ∷ vs) env st) (its.runs there.definition there.its_body there.has_body there.found) ∙ called_on (Some there.definition) v vs env st full
+
+            none : call_type d.name.result ≡ NoType → Perhaps IsUndefined (ir_meaning.call_on w low (ir_meaning.target_in w (Some l.class) d.name) (v ∷ vs) env st).end
+            none n = subst (λ (c : Out ir.Ended). Perhaps IsUndefined c.end) (sym called) (subst (λ (r : IrType). Perhaps IsUndefined (ir_meaning.body_call low r there.definition.body (Some v) (ir_meaning.parameters there.definition.params vs) env st).end) (sym (there.result_is ∙ n)) (body_only there.definition.body (Some v) (ir_meaning.parameters there.definition.params vs) env st))
+
+    -- Apply: of the member that a hijacked class decides on, of a method of an array, by a reflective name, or of one that is looked up
+    applied_right : (p : Position) (e : Term) (m : MethodName) (ts : Terms) (t : IrType) (s : Scene) → Typed w has s (apply p e m ts t) → (at : Classes) (env : ir.Env) (st : ir.State) → Ready at (frame_of s) s.locals env st → Right at s (type_of_term e) (step e env st) → ((y : Classes) (act : List ir.Value → ir.Run) (env : ir.Env) (st : ir.State) → Ready y (frame_of s) s.locals env st → ((k : Classes) → Adds y k → (vs : List ir.Value) (env : ir.Env) (st : ir.State) → ValuesFit k vs m.params → Ready k (frame_of s) s.locals env st → Right k s t (act vs env st)) → Right y s t (ir_meaning.in_order (ir_meaning.operands w low ts) act env st)) → Right at s t (step (apply p e m ts t) env st)
+    applied_right p e m ts t s h at env st i does others = by (applied w has s p e m ts t h.0)
+      where
+        received : ir.Run
+        received = ir_meaning.receiving w (is_sure env.sure e) low (step e)
+
+        by : Applied w has s p e m ts t → Right at s t (step (apply p e m ts t) env st)
+        by (directly q) = let c = q.is.direct.class in subst (λ (r : ir.Run). Right at s t (ir_meaning.in_order (r ∷ ir_meaning.operands w low ts) (ir_meaning.call_method w low (type_of_term e) m m.result) env st)) (sym (takes_any w low (type_of_term e) m c q.is.direct.receiver q.is.direct.hijacked received)) (subst (λ (act : List ir.Value → ir.Run). Right at s t (ir_meaning.in_order (received ∷ ir_meaning.operands w low ts) act env st)) (sym (hijacked_call w low (type_of_term e) m c q.is.direct.receiver q.is.direct.hijacked q.is.result q.is.named)) (go_on_both at s s.locals (type_of_term e) s.locals t Full (received env st) (λ a. ir_meaning.in_order (ir_meaning.operands w low ts) (λ vs. ir_meaning.call_on w low (ir_meaning.static_target w c Namespace.Public m) (a ∷ vs))) (receiver_right (calls (has.lookup.target (member c Namespace.Public m)) q.there) e s h.1 (check_there e s q.checked) at env st i does) (λ y b a env st g n i. others y (λ vs. ir_meaning.call_on w low (ir_meaning.static_target w c Namespace.Public m) (a ∷ vs)) env st i (λ z d vs env st k i. received_right c Namespace.Public m (has.lookup.target (member c Namespace.Public m)) (laws.received (has.lookup.target (member c Namespace.Public m)) q.there) (laws.targets (member c Namespace.Public m) q.there) s t (type_of_term e) h.0.meets.1 (q.is.direct.below w) y a g n z d vs env st k i))))
+        by (by_lookup q) = let l = q.is.lookup in let c = l.class in let up = (and_parts (has.looked_up c m) (has.dispatched m || not (has.lookup.has_hijacked c)) l.there).0 in subst (λ (r : ir.Run). Right at s t (ir_meaning.in_order (r ∷ ir_meaning.operands w low ts) (ir_meaning.call_method w low (type_of_term e) m m.result) env st)) (sym (takes_instances w (type_of_term e) m c l.receiver l.free q.is.result q.is.named received)) (subst (λ (act : List ir.Value → ir.Run). Right at s t (ir_meaning.in_order ((λ env s. ir.go_on (received env s) (ir_meaning.only_instance w c)) ∷ ir_meaning.operands w low ts) act env st)) (sym (calls_instance w (type_of_term e) m c l.receiver l.free q.is.result q.is.named low)) (go_on_both at s s.locals (type_of_term e) s.locals t Full (ir.go_on (received env st) (ir_meaning.only_instance w c)) (λ a. ir_meaning.in_order (ir_meaning.operands w low ts) (λ vs. ir_meaning.call_instance w low c m (a ∷ vs))) (taken_right c m up s (type_of_term e) (l.below w) at (received env st) (receiver_right (looks c m up) e s h.1 (check_there e s q.checked) at env st i does)) (λ y b a env st g n i. others y (λ vs. ir_meaning.call_instance w low c m (a ∷ vs)) env st i (λ z d vs env st k i. looked_right c m up s t (type_of_term e) h.0.meets.1 (l.below w) y a g n z d vs env st k i))))
+        by (by_name q) = subst (λ (r : Option TypeRef). Right at s t (ir_meaning.in_order (ir_meaning.taking w (ir_meaning.class_looked_up (type_of_term e) r) received ∷ ir_meaning.operands w low ts) (ir_meaning.call_method w low (type_of_term e) m r) env st)) (sym q.is.named) (go_on_both at s s.locals (type_of_term e) s.locals t Full (received env st) (λ a. ir_meaning.in_order (ir_meaning.operands w low ts) (λ vs. ir_meaning.call_reflective w low m (a ∷ vs))) (receiver_right (reflects m q.is.there) e s h.1 (check_there e s q.checked) at env st i does) (λ y b a env st g n i. others y (λ vs. ir_meaning.call_reflective w low m (a ∷ vs)) env st i (λ z d vs env st k i. subst (λ (r : IrType). Right z s r (ir_meaning.call_reflective w low m (a ∷ vs) env st)) (sym (h.0.meets.1 ∙ ap call_type q.is.named)) (named_right m q.is.there s (type_of_term e) q.value y a g n z d vs env st k i))))
+        by (on_array q) = subst (λ (r : ir.Run). Right at s t (ir_meaning.in_order (r ∷ ir_meaning.operands w low ts) (ir_meaning.call_method w low (type_of_term e) m m.result) env st)) (sym (takes_instances w (type_of_term e) m object q.array.receiver refl q.is.result q.is.named received)) (go_on_both at s s.locals (type_of_term e) s.locals t Full (ir.go_on (received env st) (ir_meaning.only_instance w object)) (λ a. ir_meaning.in_order (ir_meaning.operands w low ts) (λ vs. ir_meaning.call_method w low (type_of_term e) m m.result (a ∷ vs))) (array_taken e q.array s at (received env st) (receiver_right (arrays q.is.on.there) e s h.1 (check_there e s q.checked) at env st i does)) (λ y b a env st g n i. unmade e q.array y a g n))
+
     -- a definition: the local is in scope behind it
     definition_right : (p : Position) (x : List ℕ) (t : IrType) (b : Bool) (e : Term) → TreeRight e → (s : Scene) → InScope (frame_of s) s.locals → Typed w has s (var_def p x t b e) → Fresh s (Own (var_def p x t b e)) → Sures s (definitions (var_def p x t b e)) → (at : Classes) (env : ir.Env) (st : ir.State) → Ready at (frame_of s) s.locals env st → Comes (CameRight at s (record { name = x; «mutable» = b; tpe = t } ∷ s.locals) NoType) (step (var_def p x t b e) env st).end
     definition_right p x t b e does s v h fresh u at env st i = go_on_both at s s.locals (type_of_term e) (record { name = x; «mutable» = b; tpe = t } ∷ s.locals) NoType (λ q. SureHere s x → Full q) (step e env st) (λ q. ir_meaning.in_order [] (λ vs. ir_meaning.define x (q ∷ vs))) (both_come (λ q. SureHere s x → Full q) (CameRight at s s.locals (type_of_term e)) (step e env st).end came (if_only (SureHere s x) (step e env st).end (λ r. sure_only r.0 e s h.1 ((parts.1 r.0).0 r.1).1 at env st i came))) (λ k a q env st g n i. here k s (record { name = x; «mutable» = b; tpe = t } ∷ s.locals) NoType ir.undefined (ir_meaning.set_local x q env) st (inl refl) (set-ready k (frame_of s) s.locals (record { name = x; «mutable» = b; tpe = t }) env st q (operand-type k q (type_of_term e) t g h.0.meets (value-not t h.0.finds.0)) (λ r y. n (r, y)) i))
@@ -946,7 +1083,7 @@ module _ (w : World) (law : IsSubtyping (IsSub w)) (has : Usable) where
       tree_right (new_object p c m ts) = λ s v h fresh u at env st i. let its = new_parts c m h.0.built in arguments_right ts m.params s (class_type c) v h.0.meets.1 h.0.finds h.1 fresh u at (ir_meaning.construct w low c m) env st i (λ y b vs env st k i. construct_right c m its.0 its.1 s y vs k env st i)
       tree_right (select p e c f t) = λ s v h fresh u at env st i. let its = and_parts (has.field c f t) (may_check has s.sure e) h.0.built in go_on_both at s s.locals (type_of_term e) s.locals t Full (ir_meaning.receiving w (is_sure env.sure e) low (step e) env st) (λ a. ir_meaning.in_order [] (λ vs. ir_meaning.select_field c f (a ∷ vs))) (receiver_right (reads c f t its.0) e s h.1 (check_there e s its.1) at env st i (tree_right e s v h.1 fresh u at env st i)) (λ y b a env st g n i. field_right y s c f t a env st its.0 (operand-type y a (type_of_term e) (class_type c) g h.0.meets.0 (value-not (class_type c) (class_has_value c))) n i)
       tree_right (apply_statically p e c Namespace.Private m ts t) = λ s v h fresh u at env st i. let its = received_parts e c Namespace.Private m s h.0.built in let parts = sures-parts s (definitions e) (definitions_in ts) u in go_on_both at s s.locals (type_of_term e) s.locals t Full (ir_meaning.receiving w (is_sure env.sure e) low (step e) env st) (λ a. ir_meaning.in_order (ir_meaning.operands w low ts) (λ vs. ir_meaning.call_on w low (ir_meaning.static_target w c Namespace.Private m) (a ∷ vs))) (receiver_right (calls (member c Namespace.Private m) its.0) e s h.1 (check_there e s its.1) at env st i (tree_right e s v h.1 (λ x o. fresh x (inl o)) parts.0 at env st i)) (λ y b a env st g n i. arguments_right ts m.params s t v h.0.meets.3 h.0.finds h.2 (λ x o. fresh x (inr o)) parts.1 y (λ vs. ir_meaning.call_on w low (ir_meaning.static_target w c Namespace.Private m) (a ∷ vs)) env st i (λ z d vs env st k i. received_right c Namespace.Private m (member c Namespace.Private m) (laws.received (member c Namespace.Private m) its.0) (own_target w (member c Namespace.Private m)) s t (type_of_term e) h.0.meets.1 h.0.meets.2 y a g n z d vs env st k i))
-      tree_right (apply p e m ts t) = λ s v h fresh u at env st i. let q = direct w has s p e m ts t h.0 in let c = q.is.direct.class in let parts = sures-parts s (definitions e) (definitions_in ts) u in subst (λ (act : List ir.Value → ir.Run). Right at s t (ir_meaning.in_order (ir_meaning.receiving w (is_sure env.sure e) low (step e) ∷ ir_meaning.operands w low ts) act env st)) (sym (hijacked_call w low (type_of_term e) m c q.is.direct.receiver q.is.direct.hijacked q.is.result q.is.named)) (go_on_both at s s.locals (type_of_term e) s.locals t Full (ir_meaning.receiving w (is_sure env.sure e) low (step e) env st) (λ a. ir_meaning.in_order (ir_meaning.operands w low ts) (λ vs. ir_meaning.call_on w low (ir_meaning.static_target w c Namespace.Public m) (a ∷ vs))) (receiver_right (calls (has.lookup.target (member c Namespace.Public m)) q.there) e s h.1 (check_there e s q.checked) at env st i (tree_right e s v h.1 (λ x o. fresh x (inl o)) parts.0 at env st i)) (λ y b a env st g n i. arguments_right ts m.params s t v h.0.meets.2 h.0.finds h.2 (λ x o. fresh x (inr o)) parts.1 y (λ vs. ir_meaning.call_on w low (ir_meaning.static_target w c Namespace.Public m) (a ∷ vs)) env st i (λ z d vs env st k i. received_right c Namespace.Public m (has.lookup.target (member c Namespace.Public m)) (laws.received (has.lookup.target (member c Namespace.Public m)) q.there) (laws.targets (member c Namespace.Public m) q.there) s t (type_of_term e) h.0.meets.1 (q.is.direct.below w) y a g n z d vs env st k i)))
+      tree_right (apply p e m ts t) = λ s v h fresh u at env st i. let parts = sures-parts s (definitions e) (definitions_in ts) u in applied_right p e m ts t s h at env st i (tree_right e s v h.1 (λ x o. fresh x (inl o)) parts.0 at env st i) (λ y act env st i on. arguments_right ts m.params s t v h.0.meets.2 h.0.finds h.2 (λ x o. fresh x (inr o)) parts.1 y act env st i on)
       tree_right (apply_statically p e c Namespace.Public m ts t) = λ s v h fresh u at env st i. let its = received_parts e c Namespace.Public m s h.0.built in let parts = sures-parts s (definitions e) (definitions_in ts) u in go_on_both at s s.locals (type_of_term e) s.locals t Full (ir_meaning.receiving w (is_sure env.sure e) low (step e) env st) (λ a. ir_meaning.in_order (ir_meaning.operands w low ts) (λ vs. ir_meaning.call_on w low (ir_meaning.static_target w c Namespace.Public m) (a ∷ vs))) (receiver_right (calls (has.lookup.target (member c Namespace.Public m)) its.0) e s h.1 (check_there e s its.1) at env st i (tree_right e s v h.1 (λ x o. fresh x (inl o)) parts.0 at env st i)) (λ y b a env st g n i. arguments_right ts m.params s t v h.0.meets.3 h.0.finds h.2 (λ x o. fresh x (inr o)) parts.1 y (λ vs. ir_meaning.call_on w low (ir_meaning.static_target w c Namespace.Public m) (a ∷ vs)) env st i (λ z d vs env st k i. received_right c Namespace.Public m (has.lookup.target (member c Namespace.Public m)) (laws.received (has.lookup.target (member c Namespace.Public m)) its.0) (laws.targets (member c Namespace.Public m) its.0) s t (type_of_term e) h.0.meets.1 h.0.meets.2 y a g n z d vs env st k i))
       tree_right (apply_statically p e c Constructor m ts t) = λ s v h fresh u at env st i. let parts = sures-parts s (definitions e) (definitions_in ts) u in go_on_both at s s.locals (type_of_term e) s.locals t Full (ir_meaning.receiving w (is_sure env.sure e) low (step e) env st) (λ a. ir_meaning.in_order (ir_meaning.operands w low ts) (λ vs. ir_meaning.call_on w low (member_of w c Constructor m) (a ∷ vs))) (own_right e s h.0.meets.0 h.1 at env st i) (λ y b a env st g n i. arguments_right ts m.params s t v h.0.meets.3 h.0.finds h.2 (λ x o. fresh x (inr o)) parts.1 y (λ vs. ir_meaning.call_on w low (member_of w c Constructor m) (a ∷ vs)) env st i (λ z d vs env st k i. received_right c Constructor m (member c Constructor m) (laws.built (member c Constructor m) (constructor_there c m t h.0.built)) (own_target w (member c Constructor m)) s t (type_of_term e) h.0.meets.1 h.0.meets.2 y a g n z d vs env st k i))
       tree_right (apply_statically p e c n m ts t) = λ s v h fresh u at env st i. impossible h.0.built

@@ -8,8 +8,9 @@ use Rattle.sj_trees.specs.declared.operators.BinaryOp.{BinaryOp}
 use Rattle.sj_trees.specs.declared.operators.BinaryOp.TheVariants.{StrictEqual, StrictNotEqual, StringConcatenate, BooleanEqual, BooleanNotEqual, BooleanOr, BooleanAnd, IntAdd, IntSubtract, IntMultiply, IntDivide, IntRemainder, IntOr, IntAnd, IntXor, IntShiftLeft, IntShiftRightLogical, IntShiftRightArithmetic, IntEqual, IntNotEqual, IntLess, IntLessOrEqual, IntGreater, IntGreaterOrEqual, LongAdd, LongSubtract, LongMultiply, LongDivide, LongRemainder, LongOr, LongAnd, LongXor, LongShiftLeft, LongShiftRightLogical, LongShiftRightArithmetic, LongEqual, LongNotEqual, LongLess, LongLessOrEqual, LongGreater, LongGreaterOrEqual}
 use Rattle.sj_trees.specs.declared.operators.UnaryOp.{UnaryOp}
 use Rattle.sj_trees.specs.declared.operators.UnaryOp.TheVariants.{BooleanNot, CharToInt, ByteToInt, ShortToInt, IntToLong, IntToChar, IntToByte, IntToShort, LongToInt}
+use Rattle.sj_names.specs.declared.references.ArrayRef.{ArrayRef}
 use Rattle.sj_trees.specs.declared.types.IrType.{IrType}
-use Rattle.sj_trees.specs.declared.types.IrType.TheVariants.{Undefined, Null, Boolean, Char, Byte, Short, Int, Long, String, Class, Nothing}
+use Rattle.sj_trees.specs.declared.types.IrType.TheVariants.{Any, Array, NoType, Undefined, Null, Boolean, Char, Byte, Short, Int, Long, String, Class, Nothing}
 use Rattle.body_soundness.specs.Laws.{arithmetic}
 use Rattle.sj_proper.specs.Built.{Usable, divides}
 use Rattle.sj_proper.specs.Operators.{is_simple, IsDivision, a_quotient, a_remainder, IsLongDivision, a_long_quotient, a_long_remainder, IsIdentity, a_sameness, a_difference}
@@ -117,6 +118,32 @@ module _ (sub : IrType → IrType → Type 0) (law : IsSubtyping sub) (at : Clas
 
   pub wider : (v : ir.Value) (s t : IrType) → sub s t → HasType v s → HasType v t
   wider v s t f (has_type o i g) = has_type o i (law.further o s t g f)
+
+  -- each value is of type any
+  pub of_any : ((o : IrType) → (o ≡ NoType → ⊥) → sub o Any) → (v : ir.Value) (t : IrType) → HasType v t → HasType v Any
+  of_any wide _ t (has_type _ of_undefined f) = has_type Undefined of_undefined (wide Undefined (λ e. cc))
+  of_any wide _ t (has_type _ of_null f) = has_type Null of_null (wide Null (λ e. cc))
+  of_any wide _ t (has_type _ (of_boolean b) f) = has_type Boolean (of_boolean b) (wide Boolean (λ e. cc))
+  of_any wide _ t (has_type _ (of_char u) f) = has_type Char (of_char u) (wide Char (λ e. cc))
+  of_any wide _ t (has_type _ (of_long z) f) = has_type Long (of_long z) (wide Long (λ e. cc))
+  of_any wide _ t (has_type _ (of_byte z) f) = has_type Byte (of_byte z) (wide Byte (λ e. cc))
+  of_any wide _ t (has_type _ (of_short z) f) = has_type Short (of_short z) (wide Short (λ e. cc))
+  of_any wide _ t (has_type _ (of_int z) f) = has_type Int (of_int z) (wide Int (λ e. cc))
+  of_any wide _ t (has_type _ (of_text us) f) = has_type String (of_text us) (wide String (λ e. cc))
+  of_any wide _ t (has_type _ (of_object i c e bare) f) = has_type (Class c) (of_object i c e bare) (wide (Class c) (λ e. cc))
+
+  -- a value of a type of arrays is null
+  pub no_array : {A : Type 0} (r : ArrayRef) (v : ir.Value) → HasType v (Array r) → (v ≡ ir.null → ⊥) → A
+  no_array r _ (has_type _ of_undefined f) n = impossible (law.arrays Undefined r f)
+  no_array r _ (has_type _ of_null f) n = absurd (n refl)
+  no_array r _ (has_type _ (of_boolean b) f) n = impossible (law.arrays Boolean r f)
+  no_array r _ (has_type _ (of_char u) f) n = impossible (law.arrays Char r f)
+  no_array r _ (has_type _ (of_long z) f) n = impossible (law.arrays Long r f)
+  no_array r _ (has_type _ (of_byte z) f) n = impossible (law.arrays Byte r f)
+  no_array r _ (has_type _ (of_short z) f) n = impossible (law.arrays Short r f)
+  no_array r _ (has_type _ (of_int z) f) n = impossible (law.arrays Int r f)
+  no_array r _ (has_type _ (of_text us) f) n = impossible (law.arrays String r f)
+  no_array r _ (has_type _ (of_object i c e bare) f) n = impossible (law.arrays (Class c) r f)
 
   -- what isn't of the kind of a lowest type is none of its values
   other_kind : {A : Type 0} (kind : IrType → Bool) (o t : IrType) → kind o ≡ false → kind t ≡ true → kind Nothing ≡ false → (o ≡ Nothing → ⊥) → (o ≡ t) ⊎ (o ≡ Nothing) → A

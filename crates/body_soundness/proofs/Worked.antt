@@ -190,6 +190,8 @@ names m d e found body = go (ir_world.class_of object_world m.class) refl found
 pub object_laws : ObjectLaws object_world object_use
 object_laws = record {
   received = received_right;
+  looked = λ c m h d b. impossible h;
+  reflected = λ p h d b. impossible h;
   targets = λ m h. own_target object_world m;
   built = built_right;
   once = λ r m d e found body. names m d e found body;

@@ -2,7 +2,7 @@
 use Rattle.std.specs.Prelude.{◌≡◌, true, false, Some}
 use Rattle.std.specs.List.{Contains}
 use Rattle.sj_proper.specs.Locals.{HasValue}
-use Rattle.body_soundness.specs.Laws.{HasReceivers, null_pointer, arithmetic, class_cast}
+use Rattle.body_soundness.specs.Laws.{HasReceivers, IsClassBelow, Answers, AnswersByName, null_pointer, arithmetic, class_cast}
 use Rattle.body_soundness.specs.Rules.{RightMember}
 use Rattle.sj_proper.specs.Built.{Usable, has_static, divides}
 use Rattle.dispatch_laws.specs.Targets.{IsTargetOf}
@@ -12,6 +12,7 @@ use Rattle.dispatch_laws.specs.World as ir_world
 use Rattle.sj_proper.specs.Desugar.{member}
 use Rattle.dispatch_laws.specs.Templates.{check_name}
 use Rattle.sj_names.specs.declared.method_names.Member.{Member}
+use Rattle.sj_names.specs.declared.method_names.MethodName.{MethodName}
 use Rattle.sj_names.specs.declared.method_names.Namespace.TheVariants.{Constructor}
 use Rattle.sj_proper.specs.Once.{NamesOnce}
 use Rattle.sj_trees.specs.Term.{Term}
@@ -23,7 +24,7 @@ use Rattle.sj_local.specs.ClassRules.{is_interface, keeps_superclass, keeps_hija
 use Rattle.sj_names.specs.WellKnown.{is_object, is_number, is_hijacked}
 use Rattle.sj_trees.specs.declared.classes.ClassDef.{ClassDef}
 use Rattle.dispatch_laws.specs.Ancestors.{IsParent}
-use Rattle.dispatch_laws.specs.Known.{Name, Classes, class_of, stands_as}
+use Rattle.dispatch_laws.specs.Known.{Name, Classes, class_of, stands_as, object}
 use Rattle.dispatch_laws.specs.Paths.{Path}
 
 -- each class keeps the rules on superclasses and on hijacked classes
@@ -44,13 +45,16 @@ pub record HasFields (w : Classes) (c : Name) : Type 0 where
 abbrev pub WritesInterfaces : Classes → Name → Type 0
 WritesInterfaces w d = (b : Name) → Path (IsParent w) d b → (class : ClassDef) → class_of w (stands_as b) ≡ Some class → (i : Name) (face : ClassDef) → Contains class.interfaces i → class_of w i ≡ Some face → is_interface face.kind ≡ true
 
--- what is asked of a world, and of what bodies use there, by the rules of its classes: the members that can be called keep the rules, and what a call of a member runs is its target; what is made isn't hijacked;
+-- what is asked of a world, and of what bodies use there, by the rules of its classes: the members that can be called keep the rules, what a call of a member runs is its target, and a method
+-- that can be looked up on the objects of a class has a target in each class below it, and a reflective name by which receivers can be called an answer in each class; what is made isn't hijacked;
 -- what can be read is a field of a class with fields, and what is static is a static field of its class; and whatever is written as an interface above these and above the hijacked classes is one
 pub record ObjectWorld (w : Classes) (has : Usable) : Type 0 where
   pub kept : AreClassesKept w
   pub acyclic : HasNoCycle w
   pub received : (m : Member) → has.received m ≡ true → RightMember w has m
   pub targets : (m : Member) → has.received (has.lookup.target m) ≡ true → IsTargetOf w m (has.lookup.target m)
+  pub looked : (c : Name) (m : MethodName) → has.looked_up c m ≡ true → (d : Name) → IsClassBelow w has c d → Answers w has c d m
+  pub reflected : (p : MethodName) → has.reflected p ≡ true → (d : Name) → IsClassBelow w has object d → AnswersByName w has d p
   pub built : (m : Member) → has.built m ≡ true → RightMember w has m
   pub once : HasReceivers has → (m : Member) (d : MethodDef) (e : Term) → member_of w m.class m.namespace m.method ≡ Some d → d.body ≡ Some e → NamesOnce d e
   pub made : (c : Name) → has.made c ≡ true → (is_hijacked c ≡ false) × WritesInterfaces w c

@@ -85,7 +85,7 @@ module _ (has : Usable) (used : List Binding) where
 
   gives : (t : Term) → Given has used t → Gives U has.lookup any_object has t
   gives (apply_static p c n m ts t) g = λ h u. g u
-  gives (apply p e m ts t) g = λ c same h u. g c same u
+  gives (apply p e m ts t) g = (λ c same h u. g.0 c same u, (λ c same h u. g.1.0 c same h u, (λ h. g.1.1.0, λ n h u. g.1.1.1 n u)))
   gives (apply_statically p e c n m ts t) g = call_given p e c n m ts t g
   gives (new_object p c m ts) g = λ h k f u. g k f u
   gives (select p e c f t) g = λ h. g

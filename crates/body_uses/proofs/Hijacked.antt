@@ -65,3 +65,54 @@ of_hijacked d m c e = go m.result refl e
     go : (o : Option TypeRef) → m.result ≡ o → named_by o (type_of_term d) m ≡ callees.Member (member c Public m) → OfHijacked d m c
     go None named e = absurd (cc)
     go (Some r) named e = let its = of_type m c (type_of_term d) e in record { hijacked = its.hijacked; asked = asked_by r named its }
+
+-- the class is that of a receiver of this type, and isn't hijacked
+record IsFreeClass (t : IrType) (c : Name) : Type 0 where
+  receiver : receiver_class t ≡ Some c
+  free : is_hijacked c ≡ false
+
+abbrev class_looked : Callee → Name
+class_looked (callees.LookedUp c m) = c
+class_looked _ = []
+
+module _ (m : MethodName) (c : Name) where
+  abbrev Looks : Callee → Type 0
+  Looks k = k ≡ callees.LookedUp c m
+
+  looked_class : (t : IrType) (k : Name) → receiver_class t ≡ Some k → is_hijacked k ≡ false → Looks (callees.LookedUp k m) → IsFreeClass t c
+  looked_class t k is h e = let same : k ≡ c = ap class_looked e in record { receiver = is ∙ ap Some same; free = subst (λ (n : Name). is_hijacked n ≡ false) same h }
+
+  looked_at : (k : Name) → Looks (called_on (IrType.Class k) m) → IsFreeClass (IrType.Class k) c
+  looked_at k e = go (is_hijacked k) refl e
+    where
+      go : (b : Bool) → is_hijacked k ≡ b → Looks (if b then callees.Member (member k Public m) else callees.LookedUp k m) → IsFreeClass (IrType.Class k) c
+      go true h e = absurd (cc)
+      go false h e = looked_class (IrType.Class k) k refl h e
+
+  looked_type : (t : IrType) → Looks (called_on t m) → IsFreeClass t c
+  looked_type IrType.Any e = looked_class IrType.Any (codes "java.lang.Object") refl refl e
+  looked_type (IrType.Class k) e = looked_at k e
+  looked_type IrType.Undefined e = absurd (cc)
+  looked_type IrType.Boolean e = absurd (cc)
+  looked_type IrType.Char e = absurd (cc)
+  looked_type IrType.Byte e = absurd (cc)
+  looked_type IrType.Short e = absurd (cc)
+  looked_type IrType.Int e = absurd (cc)
+  looked_type IrType.Long e = absurd (cc)
+  looked_type IrType.String e = absurd (cc)
+  looked_type _ e = absurd (cc)
+
+-- the class isn't hijacked, and the method is asked for in it
+pub record OfLookedUp (d : Term) (m : MethodName) (c : Name) : Type 0 where
+  pub free : is_hijacked c ≡ false
+  pub asked : (names : List Name) → Contains (of_apply names d m) (Called c m)
+
+pub of_looked_up : (d : Term) (m : MethodName) (c : Name) → callee_of (type_of_term d) m ≡ callees.LookedUp c m → OfLookedUp d m c
+of_looked_up d m c e = go m.result refl e
+  where
+    asked_by : (r : TypeRef) → m.result ≡ Some r → IsFreeClass (type_of_term d) c → (names : List Name) → Contains (of_apply names d m) (Called c m)
+    asked_by r named its names = subst (λ (o : Option TypeRef). Contains (if is_none o then Reflective m ∷ of_receiver names d ++ no_such_method else of_call m (receiver_class (type_of_term d)) ++ of_receiver names d) (Called c m)) (sym named) (subst (λ (q : Option Name). Contains (of_call m q ++ of_receiver names d) (Called c m)) (sym its.receiver) (here (Called c m) (of_receiver names d)))
+
+    go : (o : Option TypeRef) → m.result ≡ o → named_by o (type_of_term d) m ≡ callees.LookedUp c m → OfLookedUp d m c
+    go None named e = absurd (cc)
+    go (Some r) named e = let its = looked_type m c (type_of_term d) e in record { free = its.free; asked = asked_by r named its }

@@ -39,3 +39,9 @@ pub use Rattle.object_folders.proofs.Verdict
 pub use Rattle.object_folders.proofs.Worlds as ObjectFoldersWorlds
 pub use Rattle.object_folders.proofs.LinkedEntriesOne
 pub use Rattle.resolution_laws.proofs.Resolves
+pub use Rattle.object_folders.proofs.EntryTargets
+pub use Rattle.resolution_laws.proofs.WorkedOut
+pub use Rattle.object_folders.proofs.Topped
+pub use Rattle.object_folders.proofs.Facts
+pub use Rattle.object_folders.proofs.LinkedEntriesOne
+pub use Rattle.resolution_laws.proofs.Proxies

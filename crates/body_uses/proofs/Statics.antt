@@ -36,7 +36,7 @@ module _ (U : Binding → Type 0) (runs : Lookup) (linked_from linked_here : Mem
 
   gives : (t : Term) → Gives U runs from has t
   gives (apply_static p c n m ts t) = known (member c n m)
-  gives (apply p e m ts t) = λ c same h u. impossible h
+  gives (apply p e m ts t) = (λ c same h u. impossible h, (λ c same h u. impossible h, (λ h. impossible h, λ n h u. impossible h)))
   gives (apply_statically p e c n m ts t) = no_receiver c n m
   gives (new_object p c m ts) = λ h k f u. impossible h
   gives (select p e c f t) = λ h. impossible h

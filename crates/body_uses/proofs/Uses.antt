@@ -7,7 +7,7 @@ use Rattle.std.proofs.lemmas.Bool.{and_parts, and_from}
 use Rattle.std.proofs.lemmas.Bool.Decides.{Decides-int_eq}
 use Rattle.std.proofs.lemmas.List.Elements.{All-nil, All-cons, All-head, All-tail}
 use Rattle.std.proofs.lemmas.List.Folds.{Any-from_list_any}
-use Rattle.object_folders.proofs.Direct.{IsCalled, is_called}
+use Rattle.object_folders.proofs.Direct.{Calls, calls_member, looks_up, calls_array, calls_by_name, is_called}
 use Rattle.js_tree.specs.declared.items.Binding.{Binding}
 use Rattle.sj_core.specs.Lookup.{Lookup}
 use Rattle.sj_core.specs.Terms as core
@@ -29,7 +29,7 @@ use Rattle.sj_names.specs.Same.{is_same_text}
 use Rattle.sj_names.specs.declared.method_names.Member.{Member}
 use Rattle.sj_names.specs.declared.references.TypeRef.{TypeRef}
 use Rattle.object_folders.specs.Typing.{may_check}
-use Rattle.object_folders.specs.Built.{Usable, is_nonzero_int, is_nonzero_long, divides, is_operation, can_cast, stands, is_built, are_built, are_built_cases, can_call}
+use Rattle.object_folders.specs.Built.{Usable, is_nonzero_int, is_nonzero_long, divides, is_operation, can_cast, stands, is_built, are_built, are_built_cases, can_call, can_look_up}
 use Rattle.sj_names.specs.declared.method_names.MethodName.{MethodName}
 use Rattle.sj_names.specs.declared.method_names.Namespace.{Namespace}
 use Rattle.sj_names.specs.declared.method_names.Namespace.TheVariants.{Public, Private, Constructor}
@@ -276,7 +276,7 @@ module _ (U : Binding → Type 0) (runs : Lookup) where
     -- what a tree uses that its code names is there
     abbrev pub Gives : Term → Type 0
     Gives (apply_static p c n m ts t) = from.linked (member c n m) ≡ true → U (function_binding (member c n m)) → has.linked (member c n m) ≡ true
-    Gives (apply p e m ts t) = (c : List ℕ) → callee_of (type_of_term e) m ≡ callees.Member (member c Public m) → GivesReceived Public c m
+    Gives (apply p e m ts t) = ((c : List ℕ) → callee_of (type_of_term e) m ≡ callees.Member (member c Public m) → GivesReceived Public c m) × (((c : List ℕ) → callee_of (type_of_term e) m ≡ callees.LookedUp c m → can_look_up from c m ≡ true → All U (call_uses runs (callees.LookedUp c m)) → can_look_up has c m ≡ true) × ((from.objects ≡ true → has.objects ≡ true) × (m.result ≡ None → from.reflected m ≡ true → All U (call_uses runs (callees.Reflective m)) → has.reflected m ≡ true)))
     Gives (apply_statically p e c n m ts t) = GivesReceived n c m
     Gives (new_object p c m ts) = from.made c ≡ true → from.built (member c Constructor m) ≡ true → U (function_binding (member c Constructor m)) → U (class_use c) → (has.built (member c Constructor m) ≡ true) × (has.made c ≡ true)
     Gives (select p e c f t) = from.field c f t ≡ true → has.field c f t ≡ true
@@ -444,13 +444,16 @@ module _ (U : Binding → Type 0) (runs : Lookup) where
     call_there p e c n m ts t g u f h = impossible h
 
     applied_there : (p : Position) (e : Term) (m : MethodName) (ts : Terms) (t : IrType) → Gives from has (apply p e m ts t) → IsChecked e → All U (call_uses runs (callee_of (type_of_term e) m)) → stands from checked (apply p e m ts t) ≡ true → stands has checks (apply p e m ts t) ≡ true
-    applied_there p e m ts t g u f h = and_from (can_call has (callee_of (type_of_term e) m)) (checks e) (ap (can_call has) is.callee ∙ g is.direct.class is.callee (sym (ap (can_call from) is.callee) ∙ q.0) (All-head U (function_binding (runs.target (member is.direct.class Public m))) [] (subst (λ (k : Callee). All U (call_uses runs k)) is.callee f))) (check_there e q.1 u)
+    applied_there p e m ts t g u f h = and_from (can_call has (callee_of (type_of_term e) m)) (checks e) (by (is_called from (type_of_term e) m q.0)) (check_there e q.1 u)
       where
         q : (can_call from (callee_of (type_of_term e) m) ≡ true) × (checked e ≡ true)
         q = and_parts (can_call from (callee_of (type_of_term e) m)) (checked e) h
 
-        is : IsCalled (type_of_term e) m
-        is = is_called from (type_of_term e) m q.0
+        by : Calls from (type_of_term e) m → can_call has (callee_of (type_of_term e) m) ≡ true
+        by (calls_member is) = ap (can_call has) is.callee ∙ g.0 is.direct.class is.callee (sym (ap (can_call from) is.callee) ∙ q.0) (All-head U (function_binding (runs.target (member is.direct.class Public m))) [] (subst (λ (k : Callee). All U (call_uses runs k)) is.callee f))
+        by (looks_up is) = ap (can_call has) is.callee ∙ g.1.0 is.lookup.class is.callee is.lookup.there (subst (λ (k : Callee). All U (call_uses runs k)) is.callee f)
+        by (calls_array is) = ap (can_call has) is.callee ∙ g.1.1.0 is.on.there
+        by (calls_by_name is) = ap (can_call has) is.callee ∙ g.1.1.1 is.named is.there (subst (λ (k : Callee). All U (call_uses runs k)) is.callee f)
 
     new_there : (p : Position) (c : List ℕ) (m : MethodName) (ts : Terms) → Found (new_object p c m ts) → U (function_binding (member c Constructor m)) → U (class_use c) → stands from checked (new_object p c m ts) ≡ true → stands has checks (new_object p c m ts) ≡ true
     new_there p c m ts g f u h =

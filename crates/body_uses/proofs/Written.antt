@@ -1,22 +1,26 @@
 -- The bodies of an accepted folder whose classes are written are built with what is written.
 use Rattle.object_folders.specs.Refusals.{IsPresent, missing_class, missing_method, abstract_target, no_class, no_target, no_target_body, no_method, no_hijacked_body}
-use Rattle.body_uses.proofs.Hijacked.{of_hijacked}
+use Rattle.body_uses.proofs.Hijacked.{of_hijacked, of_looked_up}
+use Rattle.object_folders.proofs.Facts.{made_told, called_told, some_call_told}
+use Rattle.resolution_laws.proofs.SameNames.{method-itself}
+use Rattle.object_folders.specs.Dispatch.{dispatch_name, reflective_name}
+use Rattle.object_folders.specs.Pieces.{piece_of_member}
 use Rattle.sj_world.specs.Resolution.{Answer, target, abstract, missing, Resolves}
 use Rattle.ir_mean.specs.Dispatch.{resolved}
 use Rattle.resolution_laws.proofs.Resolves.{each_call_resolves}
 use Rattle.resolution_laws.specs.Laws.{HasAnswer}
 use Rattle.resolution_laws.proofs.WorkedOut.{targets_are_worked_out}
 use Rattle.resolution_laws.specs.DispatchLawsLaws.{found_by}
-use Rattle.object_folders.specs.Targets.{at_owner, target_in}
-use Rattle.std.proofs.Common.{◌≡◌, Bool, true, false, List, [], ◌∷◌, inl, inr, Option, Some, refl, sym, subst, ◌∙◌, Contains, codes, ap, None}
-use Rattle.std.specs.Prelude.{not, ◌&&◌, ◌||◌}
+use Rattle.object_folders.specs.Targets.{at_owner, target_in, has_hijacked_in}
+use Rattle.std.proofs.Common.{◌≡◌, Bool, true, false, List, [], ◌∷◌, inl, inr, Option, Some, refl, sym, subst, ◌∙◌, Contains, codes, ap, None, if◌then◌else◌}
+use Rattle.std.specs.Prelude.{not, ◌&&◌, ◌||◌, is_none}
 use Rattle.worklist.proofs.Inserted.{nothing_in}
 use Rattle.std.specs.List.{All, list_any}
 use Rattle.std.proofs.lemmas.Bool.{and_from, or_left}
 use Rattle.std.proofs.lemmas.List.Elements.{All-head, All-tail}
 use Rattle.std.proofs.lemmas.List.Folds.{list_any_at}
 use Rattle.object_folders.specs.Typing.{is_built_with}
-use Rattle.object_folders.specs.Built.{Usable, is_object_body, is_static, is_testable, has_no_value}
+use Rattle.object_folders.specs.Built.{can_look_up, Usable, is_object_body, is_static, is_testable, has_no_value}
 use Rattle.object_folders.proofs.EachTyped.{in_all}
 use Rattle.object_folders.proofs.Undenied.{first_or_later}
 use Rattle.helper_rules.specs.Helpers.{helper_name}
@@ -27,17 +31,17 @@ use Rattle.helper_rules.specs.declared.kinds.Kind.TheVariants as kinds
 use Rattle.js_tree.specs.declared.items.Binding.{Binding}
 use Rattle.object_folders.proofs.Derivations.{closed}
 use Rattle.object_folders.specs.Reachable.{Reachable}
-use Rattle.object_folders.specs.Rules.{Reads, of_call, of_new, asked_body, new_made, field_needed, resolved_class, resolved_body, call_class, call_hijacked}
+use Rattle.object_folders.specs.Rules.{Reads, of_call, of_new, asked_body, new_made, field_needed, resolved_class, resolved_body, call, call_class, call_hijacked}
 use Rattle.sj_desugar.specs.Desugar.{member}
 use Rattle.sj_emit_expr.specs.Templates.{check_name}
 use Rattle.sj_emit_expr.specs.Tests.{test_name, cast_name, same_name}
-use Rattle.sj_emit_expr.specs.Uses.{object_binding, function_binding, class_use, static_use, setter_use, test_uses, cast_uses}
+use Rattle.sj_emit_expr.specs.Uses.{object_binding, function_binding, class_use, static_use, setter_use, test_uses, cast_uses, looked_up_uses, is_same_binding}
 use Rattle.sj_infos.specs.Infos.{asks, asked_by_body, asked_in, of_receiver}
 use Rattle.sj_infos.specs.Sure.{sure_among}
-use Rattle.sj_infos.specs.Forms.{form_of, forms_in}
+use Rattle.sj_infos.specs.Forms.{form_of, forms_in, of_call as form_call}
 use Rattle.sj_infos.specs.Trees.{trees}
 use Rattle.sj_infos.specs.declared.forms.BodyForm.{BodyForm}
-use Rattle.sj_infos.specs.declared.forms.BodyForm.TheVariants.{Test, Cast}
+use Rattle.sj_infos.specs.declared.forms.BodyForm.TheVariants.{Test, Cast, Reflective}
 use Rattle.sj_infos.specs.declared.infos.Info.{Info}
 use Rattle.sj_infos.specs.declared.infos.Info.TheVariants.{New, Static, Field, Resolved, Called}
 use Rattle.object_folders.proofs.Found.{here}
@@ -48,6 +52,7 @@ use Rattle.sj_names.specs.declared.entry_points.EntryPoint.{EntryPoint}
 use Rattle.sj_names.specs.declared.folders.SourceFile.{SourceFile}
 use Rattle.sj_names.specs.declared.method_names.Member.{Member}
 use Rattle.sj_names.specs.declared.method_names.MethodName.{MethodName}
+use Rattle.sj_names.specs.declared.references.TypeRef.{TypeRef}
 use Rattle.sj_names.specs.declared.method_names.Namespace.{Namespace}
 use Rattle.sj_names.specs.declared.method_names.Namespace.TheVariants.{Public, PublicStatic, Private, PrivateStatic, Constructor}
 use Rattle.object_folders.specs.Emitted.{EmittedMethod}
@@ -63,24 +68,23 @@ use Rattle.sj_trees.specs.declared.types.IrType.{IrType}
 use Rattle.sj_trees.specs.declared.types.IrType.TheVariants.{Undefined, Boolean, Char, Byte, Short, Int, Long, String, Class as IrClass}
 use Rattle.sj_world.specs.Known.{Name, Classes, class_of, is_hijacked}
 use Rattle.sj_world.proofs.Searches.{contains_at}
-use Rattle.sj_world.specs.Paths.{stay}
 use Rattle.sj_world.specs.Subtypes.{equal, from_nothing, to_any, null_to_class, null_to_array, class_to_class, primitive_to_class, arrays_alike, arrays_of_arrays}
 use Rattle.sj_world.specs.declared.facts.Fact.{Fact}
-use Rattle.sj_world.specs.declared.facts.Fact.TheVariants.{Body, Made, Needed, NeededField}
+use Rattle.sj_world.specs.declared.facts.Fact.TheVariants.{Body, Made, Needed, NeededField, Called as CalledOn}
 use Rattle.object_folders.specs.TypingRulesRules.{Fits, HasFieldType, IsStatic, OperandsFit}
 use Rattle.object_folders.specs.Typed.{MeetsThere}
 use Rattle.object_folders.specs.Accepted.{IsAccepted}
 use Rattle.object_folders.specs.Bodies.{AreBodies}
 use Rattle.object_folders.proofs.Calls.{needed}
 use Rattle.object_folders.proofs.Members.{has_function-from, defined}
-use Rattle.object_folders.specs.Used.{used_of, is_among, is_its_field, has_field_in, is_its_static, has_static_in, needs_static, uses_static, uses_helper, is_test_for, is_cast_to, is_tested, is_cast}
+use Rattle.object_folders.specs.Used.{used_of, makes, calls_on, calls, uses_dispatch, tells_apart, is_among, is_its_field, has_field_in, is_its_static, has_static_in, needs_static, uses_static, uses_helper, is_reflective, is_called_by, uses_reflective, is_test_for, is_cast_to, is_tested, is_cast}
 use Rattle.body_uses.specs.Given.{Given, HelpersGiven, FitsDivision, HasType}
 use Rattle.body_uses.specs.Laws.{used_by, AcceptedBodiesUseWhatIsWritten}
 use Rattle.body_uses.specs.Written.{AreWrittenWith}
 use Rattle.body_uses.proofs.Given.{given}
 use Rattle.body_uses.proofs.Standing.{Stands, each_stands}
 
-any_of : {X : Type 0} (p : X → Bool) (xs : List X) (x : X) → Contains xs x → p x ≡ true → list_any p xs ≡ true
+pub any_of : {X : Type 0} (p : X → Bool) (xs : List X) (x : X) → Contains xs x → p x ≡ true → list_any p xs ≡ true
 any_of {X} p xs x h t = list_any_at p xs h.0 x h.1 (subst (λ (y : X). p y ≡ true) (sym h.2) t)
 
 pub some_same : (a b : Term) → ◌≡◌ {A = Option Term} (Some a) (Some b) → a ≡ b
@@ -199,8 +203,7 @@ module _ (entries : List EntryPoint) (files : List SourceFile) (w : Classes) (fa
       let k : Member = member c Constructor m in
       let own = body_there k (closed w entries (Body k) (asked_body k (of_new c m r))) in
       let is_made = (uses.are_facts (Made c)).1 (closed w entries (Made c) (new_made c m r)) in
-      let is_live = (uses.are_live c).1 (record { made = c; is_made = is_made; on_chain = stay }) in
-      (and_from (has_no_value m.result) (is_among written c && has_function all k) v (and_from (is_among written c) (has_function all k) (in_written (function_binding k) f) own), and_from (is_among written c) (is_among live c) (in_written (class_use c) u) (among_names live c is_live))
+      (and_from (has_no_value m.result) (is_among written c && has_function all k) v (and_from (is_among written c) (has_function all k) (in_written (function_binding k) f) own), and_from (is_among written c) (list_any (makes c) facts) (in_written (class_use c) u) (made_told facts c is_made))
 
   -- a static field is there where its class is written
   static_given : (c f : Name) (t : IrType) → HasFieldType w c f true t → Reads w entries (Reachable w entries) (Field c f true) → is_among written c ≡ true → uses_static w facts written c f t ≡ true
@@ -255,6 +258,37 @@ module _ (entries : List EntryPoint) (files : List SourceFile) (w : Classes) (fa
       go abstract s same = absurd (accepted.resolved (abstract_target (member c Public m)) (no_hijacked_body c m r (called_there c m r) h s))
       go missing s same = absurd (accepted.resolved (missing_method (member c Public m)) (no_method c m r (called_there c m r) s))
 
+  -- a written method uses what this one does
+  written_use : (b : Binding) → Contains used b → list_any (λ (m : EmittedMethod). is_among written m.member.class && list_any (is_same_binding b) (piece_of_member w m).uses) all ≡ true
+  written_use b u =
+      let same : is_same_binding b b ≡ true = and_from (is_same_text b.owner b.owner) (is_same_text b.name b.name) (text-refl b.owner) (text-refl b.name) in
+      any_of (λ (m : EmittedMethod). is_among written m.member.class && list_any (is_same_binding b) (piece_of_member w m).uses) all e i (and_from (is_among written e.member.class) (list_any (is_same_binding b) (piece_of_member w e).uses) (among_names written e.member.class here_written) (any_of (is_same_binding b) (piece_of_member w e).uses b u same))
+
+  -- a method that is looked up is there: it is called on its class, and where a hijacked class stands there or below, its receivers are told apart
+  looked_there : (c : Name) (m : MethodName) → is_hijacked c ≡ false → Reads w entries (Reachable w entries) (Called c m) → All (Contains used) (looked_up_uses (has_hijacked_in w c) m) → can_look_up has c m ≡ true
+  looked_there c m free r u = go (has_hijacked_in w c) refl u
+    where
+      fact : Contains facts (CalledOn c m)
+      fact = (uses.are_facts (CalledOn c m)).1 (closed w entries (CalledOn c m) (call c m r free))
+
+      looks : (b d : Bool) → (not b || d) ≡ true → (d || not b) ≡ true → has_hijacked_in w c ≡ b → tells_apart w facts all written m ≡ d → can_look_up has c m ≡ true
+      looks b d one other e f = and_from (has.looked_up c m) (has.dispatched m || not (has.lookup.has_hijacked c))
+          (and_from (list_any (calls_on c m) facts) (not (has_hijacked_in w c) || tells_apart w facts all written m) (called_told facts c m fact) (subst (λ (x : Bool). (not x || tells_apart w facts all written m) ≡ true) (sym e) (subst (λ (x : Bool). (not b || x) ≡ true) (sym f) one)))
+          (subst (λ (x : Bool). (tells_apart w facts all written m || not x) ≡ true) (sym e) (subst (λ (x : Bool). (x || not b) ≡ true) (sym f) other))
+
+      told : All (Contains used) (looked_up_uses true m) → tells_apart w facts all written m ≡ true
+      told v =
+          let b = object_binding (dispatch_name m) in
+          and_from (list_any (calls m) facts) (list_any (uses_dispatch w written m) all) (some_call_told facts c m fact) (written_use b (All-head (Contains used) b [] v))
+
+      by_property : (d : Bool) → tells_apart w facts all written m ≡ d → has_hijacked_in w c ≡ false → can_look_up has c m ≡ true
+      by_property true f e = looks false true refl refl e f
+      by_property false f e = looks false false refl refl e f
+
+      go : (b : Bool) → has_hijacked_in w c ≡ b → All (Contains used) (looked_up_uses b m) → can_look_up has c m ≡ true
+      go true e v = looks true true refl refl e (told v)
+      go false e v = by_property (tells_apart w facts all written m) refl e
+
   -- a helper by its name
   helper_there : (h : Helper) → Contains used (object_binding (helper_name h)) → has.helper (helper_name h) ≡ true
   helper_there h u = and_from (is_among written object) (list_any (λ (g : Helper). is_same_text (helper_name h) (helper_name g)) helpers) (in_written (object_binding (helper_name h)) u) (any_of (λ (g : Helper). is_same_text (helper_name h) (helper_name g)) helpers h (uses.helped e i here_written h u) (text-refl (helper_name h)))
@@ -265,6 +299,15 @@ module _ (entries : List EntryPoint) (files : List SourceFile) (w : Classes) (fa
   -- a body that is needed has each form of its trees
   has_form : (t : Term) (f : BodyForm) (test : BodyForm → Bool) → Contains (trees e.its_body) t → Contains (form_of t) f → test f ≡ true → list_any (λ (m : EmittedMethod). list_any test (forms_in m.its_body)) all ≡ true
   has_form t f test among its passes = any_of (λ (m : EmittedMethod). list_any test (forms_in m.its_body)) all e i (any_of test (forms_in e.its_body) f (in_all form_of (trees e.its_body) t f among its) passes)
+
+  -- the function of a reflective name is there, where a tree calls by the name and its function is used
+  named_there : (t : Term) (m : MethodName) → Contains (trees e.its_body) t → Contains (form_of t) (Reflective m) → All (Contains used) (object_binding (reflective_name m) ∷ []) → has.reflected m ≡ true
+  named_there t m among its u =
+      let b = object_binding (reflective_name m) in
+      and_from (is_called_by all m) (list_any (uses_reflective w written m) all) (has_form t (Reflective m) (is_reflective m) among its (method-itself m)) (written_use b (All-head (Contains used) b [] u))
+
+  form_named : (m : MethodName) → m.result ≡ None → Contains (form_call m) (Reflective m)
+  form_named m n = subst (λ (o : Option TypeRef). Contains (if is_none o then Reflective m ∷ [] else []) (Reflective m)) (sym n) (here (Reflective m) [])
 
   first_used : (b : Binding) (bs : List Binding) → All (Contains used) (b ∷ bs) → Contains used b
   first_used b bs u = All-head (Contains used) b bs u
@@ -303,7 +346,7 @@ module _ (entries : List EntryPoint) (files : List SourceFile) (w : Classes) (fa
 
   tree_given : (t : Term) → Contains (trees e.its_body) t → Stands (MeetsThere w e.definition.namespace) t → Given has used t
   tree_given (apply_static p c n m ts t) among s = λ u. in_used (member c n m) (is_static n) (static_there n s.asked.0) (asked (apply_static p c n m ts t) among (Static (member c n m)) (here (Static (member c n m)) [])) u
-  tree_given (apply p d m ts t) among s = λ c same u. let of = of_hijacked d m c same in hijacked_there c m of.hijacked (asked (apply p d m ts t) among (Called c m) (of.asked (sure_among [] (trees e.its_body)))) u
+  tree_given (apply p d m ts t) among s = (λ c same u. let of = of_hijacked d m c same in hijacked_there c m of.hijacked (asked (apply p d m ts t) among (Called c m) (of.asked (sure_among [] (trees e.its_body)))) u, (λ c same h u. let of = of_looked_up d m c same in looked_there c m of.free (asked (apply p d m ts t) among (Called c m) (of.asked (sure_among [] (trees e.its_body)))) u, (refl, λ n u. named_there (apply p d m ts t) m among (form_named m n) u)))
   tree_given (apply_statically p d c Private m ts t) among s = λ u. in_used (member c Private m) true refl (asked (apply_statically p d c Private m ts t) among (Static (member c Private m)) (here (Static (member c Private m)) (of_receiver (sure_among [] (trees e.its_body)) d))) u
   tree_given (apply_statically p d c Constructor m ts t) among s = λ v u. in_used (member c Constructor m) (has_no_value m.result) v (asked (apply_statically p d c Constructor m ts t) among (Static (member c Constructor m)) (here (Static (member c Constructor m)) (of_receiver (sure_among [] (trees e.its_body)) d))) u
   tree_given (apply_statically p d c Public m ts t) among s = λ u. target_there c m (asked (apply_statically p d c Public m ts t) among (Resolved c m) (here (Resolved c m) (of_receiver (sure_among [] (trees e.its_body)) d))) u

@@ -1,13 +1,13 @@
 -- What a body is given: what its emitted code names is there.
-use Rattle.std.specs.Prelude.{◌≡◌, ◌⊎◌, ℕ, true, List, [], ◌∷◌, Contains, codes}
+use Rattle.std.specs.Prelude.{◌≡◌, ◌⊎◌, ℕ, true, List, [], ◌∷◌, Contains, codes, None}
 use Rattle.std.specs.List.{All}
-use Rattle.object_folders.specs.Built.{Usable, is_testable, has_no_value}
+use Rattle.object_folders.specs.Built.{Usable, is_testable, has_no_value, any_object, can_look_up}
 use Rattle.js_tree.specs.declared.items.Binding.{Binding}
 use Rattle.sj_core.specs.declared.callees.Callee.TheVariants as callees
 use Rattle.sj_desugar.specs.Desugar.{member, callee_of}
 use Rattle.sj_emit_expr.specs.Templates.{check_name}
 use Rattle.sj_emit_expr.specs.Tests.{same_name}
-use Rattle.sj_emit_expr.specs.Uses.{object_binding, function_binding, class_use, static_use, setter_use, test_uses, cast_uses}
+use Rattle.sj_emit_expr.specs.Uses.{object_binding, function_binding, class_use, static_use, setter_use, test_uses, cast_uses, call_uses}
 use Rattle.sj_names.specs.declared.method_names.Namespace.TheVariants.{Private, Constructor, Public}
 use Rattle.sj_trees.specs.Term.{Term, new_object, select, select_static, apply_statically, apply_static, binary_op, is_instance_of, as_instance_of, apply}
 use Rattle.sj_trees.specs.TypeOf.{type_of_term}
@@ -34,11 +34,11 @@ body_helpers = check_name ∷ codes "$id" ∷ codes "$im" ∷ codes "$ld" ∷ co
 
 -- where these bindings are used
 module _ (has : Usable) (used : List Binding) where
-  -- a member whose function is used is there, of a public one, and of a method that a hijacked class decides on, the target, a constructor where it has no value, and so are a class that is used to make an object, each field, and a static field whose
+  -- a member whose function is used is there, of a public one, and of a method that a hijacked class decides on, the target, a method that is looked up, a constructor where it has no value, and so are a class that is used to make an object, each field, and a static field whose
   -- variable or setter is used, and a test and a cast whose function is used; a divisor has its type
   abbrev pub Given : Term → Type 0
   Given (apply_static p c n m ts t) = Contains used (function_binding (member c n m)) → has.linked (member c n m) ≡ true
-  Given (apply p e m ts t) = (c : List ℕ) → callee_of (type_of_term e) m ≡ callees.Member (member c Public m) → Contains used (function_binding (has.lookup.target (member c Public m))) → has.received (has.lookup.target (member c Public m)) ≡ true
+  Given (apply p e m ts t) = ((c : List ℕ) → callee_of (type_of_term e) m ≡ callees.Member (member c Public m) → Contains used (function_binding (has.lookup.target (member c Public m))) → has.received (has.lookup.target (member c Public m)) ≡ true) × (((c : List ℕ) → callee_of (type_of_term e) m ≡ callees.LookedUp c m → can_look_up any_object c m ≡ true → All (Contains used) (call_uses has.lookup (callees.LookedUp c m)) → can_look_up has c m ≡ true) × ((has.objects ≡ true) × (m.result ≡ None → All (Contains used) (call_uses has.lookup (callees.Reflective m)) → has.reflected m ≡ true)))
   Given (apply_statically p e c Private m ts t) = Contains used (function_binding (member c Private m)) → has.received (member c Private m) ≡ true
   Given (apply_statically p e c Public m ts t) = Contains used (function_binding (has.lookup.target (member c Public m))) → has.received (has.lookup.target (member c Public m)) ≡ true
   Given (apply_statically p e c Constructor m ts t) = has_no_value m.result ≡ true → Contains used (function_binding (member c Constructor m)) → has.built (member c Constructor m) ≡ true

@@ -28,3 +28,8 @@ pub use Rattle.object_folders.specs.TypingRulesRules
 pub use Rattle.object_folders.specs.Used
 pub use Rattle.object_folders.specs.Verdicts
 pub use Rattle.object_folders.specs.Worlds
+pub use Rattle.object_folders.specs.Dispatch
+pub use Rattle.object_folders.specs.Dispatched
+pub use Rattle.object_folders.specs.ToldPieces
+pub use Rattle.object_folders.specs.BodySoundnessLaws
+pub use Rattle.object_folders.specs.Targets

@@ -1,7 +1,6 @@
 pub mod Around
 pub mod Cases
 pub mod Direct
-pub mod Last
 pub mod Rows
 pub mod Statics
 pub mod Targets

@@ -11,6 +11,7 @@ use Rattle.sj_names.specs.declared.method_names.Namespace.TheVariants.{Public, P
 use Rattle.sj_names.specs.declared.references.TypeRef.{TypeRef}
 use Rattle.sj_names.specs.declared.references.TypeRef.TheVariants.{Void}
 use Rattle.sj_names.specs.declared.method_names.Member.{Member}
+use Rattle.sj_names.specs.declared.method_names.MethodName.{MethodName}
 use Rattle.sj_desugar.specs.Sure.{is_sure_type}
 use Rattle.sj_trees.specs.Term.{Term, Terms, no_terms, more_terms, Cases, no_cases, more_cases, var_def, skip, block_of, labeled, assign, return_to, if_then, while_loop, do_while, match_on, throw, new_object, select, select_static, apply, apply_statically, this_ref, apply_static, unary_op, binary_op, is_instance_of, as_instance_of, undefined_literal, null_literal, boolean_literal, char_literal, byte_literal, short_literal, int_literal, long_literal, string_literal, var_ref, log_line}
 use Rattle.sj_trees.specs.TypeOf.{type_of_term}
@@ -30,15 +31,19 @@ abbrev pub is_nonzero_long : Term → Bool
 is_nonzero_long (long_literal p z) = not (int_eq z (pos 0))
 is_nonzero_long _ = false
 
--- what a body can use: the static members that are linked, and those that run on a receiver, with what is known of the classes where these are called; the constructors that
--- are linked; the classes of which objects are made; their fields and the static fields that can be read and those that can be set, with their types; the types for which
+-- what a body can use: the static members that are linked, and those that run on a receiver, with what is known of the classes where these are called; the methods that are looked
+-- up on the instances of a class, and those of which there is a function that tells primitive instances apart; the reflective names of which there is a function by which receivers are called; the constructors that are linked; the classes of which objects are made, and those whose code is there: these and the classes above them; their fields and the static fields that can be read and those that can be set, with their types; the types for which
 -- there is a test, and those for which there is a cast; helpers, by their names; and whether it can throw, and name the object that it runs on
 pub record Usable : Type 0 where
   pub linked : Member → Bool
   pub lookup : Lookup
   pub received : Member → Bool
+  pub looked_up : List ℕ → MethodName → Bool
+  pub dispatched : MethodName → Bool
+  pub reflected : MethodName → Bool
   pub built : Member → Bool
   pub made : List ℕ → Bool
+  pub live : List ℕ → Bool
   pub field : List ℕ → List ℕ → IrType → Bool
   pub static_field : List ℕ → List ℕ → IrType → Bool
   pub static_setter : List ℕ → List ℕ → IrType → Bool
@@ -57,7 +62,7 @@ may_make has boxed = can_box has || not boxed
 
 -- these static members and nothing else
 abbrev pub members_alone : (Member → Bool) → Usable
-members_alone linked = record { linked = linked; lookup = own_targets; received = λ m. false; built = λ m. false; made = λ c. false; field = λ c f t. false; static_field = λ c f t. false; static_setter = λ c f t. false; tests = λ t. false; casts = λ t. false; helper = λ x. false; objects = false }
+members_alone linked = record { linked = linked; lookup = own_targets; received = λ m. false; looked_up = λ c m. false; dispatched = λ m. false; reflected = λ m. false; built = λ m. false; made = λ c. false; live = λ c. false; field = λ c f t. false; static_field = λ c f t. false; static_setter = λ c f t. false; tests = λ t. false; casts = λ t. false; helper = λ x. false; objects = false }
 
 -- a static field can be read or set
 abbrev pub has_static : Usable → List ℕ → List ℕ → IrType → Bool
@@ -90,10 +95,16 @@ is_operation has LongDivide d = divides has LongDivide || is_nonzero_long d
 is_operation has LongRemainder d = divides has LongRemainder || is_nonzero_long d
 is_operation has _ d = true
 
--- what is called on a receiver: the target of a public member can be; a method that is looked up, one of an array, and one by its reflective name can't yet
+-- a method can be looked up on the instances of the class; where a hijacked class stands there or below, by the function that tells primitive ones apart
+abbrev pub can_look_up : Usable → List ℕ → MethodName → Bool
+can_look_up has c m = has.looked_up c m && (has.dispatched m || not (has.lookup.has_hijacked c))
+
+-- what is called on a receiver: the target of a public member, a method that is looked up, one of an array, where there are objects, and one by its reflective name
 abbrev pub can_call : Usable → Callee → Bool
 can_call has (callees.Member m) = has.received (has.lookup.target m)
-can_call has _ = false
+can_call has (callees.LookedUp c m) = can_look_up has c m
+can_call has (callees.OfArray m) = has.objects
+can_call has (callees.Reflective m) = has.reflected m
 
 -- what a body can use, and the receivers that are never null or whose null check can be used
 module _ (has : Usable) (checked : Term → Bool) where
@@ -202,9 +213,9 @@ abbrev pub is_testable : IrType → Bool
 is_testable (Class c) = true
 is_testable t = has_kind t
 
--- whatever is made and used of objects, but for methods that are looked up, constructors with a value, and tests of arrays and casts to them
+-- whatever is made, called and used of objects, but for constructors with a value, and tests of arrays and casts to them
 abbrev pub any_object : Usable
-any_object = record { linked = λ m. true; lookup = own_targets; received = λ m. true; built = λ m. has_no_value m.method.result; made = λ c. true; field = λ c f t. true; static_field = λ c f t. true; static_setter = λ c f t. true; tests = is_testable; casts = is_testable; helper = λ x. true; objects = true }
+any_object = record { linked = λ m. true; lookup = own_targets; received = λ m. true; looked_up = λ c m. true; dispatched = λ m. true; reflected = λ m. true; built = λ m. has_no_value m.method.result; made = λ c. true; live = λ c. true; field = λ c f t. true; static_field = λ c f t. true; static_setter = λ c f t. true; tests = is_testable; casts = is_testable; helper = λ x. true; objects = true }
 
 -- the body is of these forms, whatever it calls, makes and reads
 abbrev pub is_object_body : MethodDef → Term → Bool

@@ -6,7 +6,7 @@ use Rattle.sj_names.specs.declared.method_names.Namespace.TheVariants.{Public, P
 use Rattle.sj_names.specs.declared.references.BaseRef.{BaseRef}
 use Rattle.sj_names.specs.declared.references.TypeRef.{TypeRef}
 use Rattle.sj_trees.specs.Erase.{nowhere}
-use Rattle.sj_trees.specs.Term.{Term, no_terms, more_terms, no_cases, more_cases, var_def, skip, block_of, labeled, assign, return_to, if_then, match_on, throw, new_object, select, select_static, apply, apply_statically, apply_static, this_ref, binary_op, is_instance_of, as_instance_of, char_literal, int_literal, long_literal, var_ref}
+use Rattle.sj_trees.specs.Term.{Term, no_terms, more_terms, no_cases, more_cases, var_def, load_module, skip, block_of, labeled, assign, return_to, if_then, match_on, throw, new_object, select, select_static, apply, apply_statically, apply_static, this_ref, binary_op, is_instance_of, as_instance_of, char_literal, int_literal, long_literal, var_ref}
 use Rattle.sj_trees.specs.declared.classes.MethodDef.{MethodDef}
 use Rattle.sj_trees.specs.declared.operators.BinaryOp.{BinaryOp}
 use Rattle.sj_trees.specs.declared.operators.BinaryOp.TheVariants.{StrictEqual, StrictNotEqual, IntDivide, IntEqual, LongRemainder}
@@ -40,9 +40,9 @@ number n = int_literal nowhere (pos n)
 abbrev pub object : Term
 object = new_object nowhere (codes "A") (method_name TypeRef.Int) no_terms
 
--- a call that is looked up
+-- a class whose one object is loaded, which isn't built
 abbrev pub unbuilt : Term
-unbuilt = apply nowhere object (method_name TypeRef.Int) (more_terms (number 1) no_terms) NoType
+unbuilt = load_module nowhere (codes "A")
 
 -- a test and a cast of a value
 abbrev pub tested : IrType → Term → Term
@@ -82,7 +82,7 @@ case (k ∷ ks) body = match_on nowhere (number 1) (more_cases (pos k ∷ []) bo
 
 -- a field can be used, whatever its class, its name and its type are
 abbrev pub with_fields : Usable
-with_fields = record { linked = λ m. true; lookup = own_targets; received = λ m. false; built = λ m. false; made = λ c. false; field = λ c f t. true; static_field = λ c f t. false; static_setter = λ c f t. false; tests = λ t. false; casts = λ t. false; helper = λ x. false; objects = false }
+with_fields = record { linked = λ m. true; lookup = own_targets; received = λ m. false; looked_up = λ c m. false; dispatched = λ m. false; reflected = λ m. false; built = λ m. false; made = λ c. false; live = λ c. false; field = λ c f t. true; static_field = λ c f t. false; static_setter = λ c f t. false; tests = λ t. false; casts = λ t. false; helper = λ x. false; objects = false }
 
 -- there is a test for each type, and there is a cast to each
 abbrev pub with_tests : Usable
@@ -93,7 +93,7 @@ with_casts = record with_fields { casts = λ t. true }
 
 -- objects that hold chars can be made
 abbrev pub with_boxes : Usable
-with_boxes = record { linked = λ m. true; lookup = own_targets; received = λ m. false; built = λ m. false; made = λ c. false; field = λ c f t. true; static_field = λ c f t. false; static_setter = λ c f t. false; tests = λ t. false; casts = λ t. false; helper = λ x. true; objects = false }
+with_boxes = record { linked = λ m. true; lookup = own_targets; received = λ m. false; looked_up = λ c m. false; dispatched = λ m. false; reflected = λ m. false; built = λ m. false; made = λ c. false; live = λ c. false; field = λ c f t. true; static_field = λ c f t. false; static_setter = λ c f t. false; tests = λ t. false; casts = λ t. false; helper = λ x. true; objects = false }
 
 -- the code of a method that gives a value of this type makes an object that holds a char
 abbrev pub makes_box : IrType → Term → Bool
@@ -146,13 +146,13 @@ pub record WorkedForms : Type 0 where
   pub calls_a_constructor_that_has_a_value : not_built (static (apply_statically nowhere object (codes "A") Constructor (record { simple = codes "m"; params = []; result = Some TypeRef.Int }) no_terms NoType)) ≡ true
   pub makes_an_object_by_a_constructor_that_has_a_value : not_built (static (new_object nowhere (codes "A") (record { simple = codes "m"; params = []; result = Some TypeRef.Int }) no_terms)) ≡ true
   pub names_its_receiver : not_built (method Public NoType (Some (this_ref nowhere Any))) ≡ false
-  pub calls_a_method_that_is_looked_up : not_built (static unbuilt) ≡ true
+  pub calls_a_method_that_is_looked_up : not_built (static (called object (method_name TypeRef.Int))) ≡ false
   pub calls_a_method_of_a_number : not_built (static (called (number 1) (method_name TypeRef.Int))) ≡ false
   pub calls_a_method_of_a_char : not_built (static (called letter (method_name TypeRef.Int))) ≡ false
   pub calls_a_method_of_a_hijacked_class : not_built (static (called (local_of (Class (codes "java.lang.Byte"))) (method_name TypeRef.Int))) ≡ false
-  pub calls_a_method_of_any_value : not_built (static (called (local_of Any) (method_name TypeRef.Int))) ≡ true
-  pub calls_a_method_of_an_array : not_built (static (called (local_of (Array (record { base = BaseRef.Int; dimensions = 1 }))) (method_name TypeRef.Int))) ≡ true
-  pub calls_a_number_by_a_reflective_name : not_built (static (called (number 1) (record { simple = codes "m"; params = TypeRef.Int ∷ []; result = None }))) ≡ true
+  pub calls_a_method_of_any_value : not_built (static (called (local_of Any) (method_name TypeRef.Int))) ≡ false
+  pub calls_a_method_of_an_array : not_built (static (called (local_of (Array (record { base = BaseRef.Int; dimensions = 1 }))) (method_name TypeRef.Int))) ≡ false
+  pub calls_a_number_by_a_reflective_name : not_built (static (called (number 1) (record { simple = codes "m"; params = TypeRef.Int ∷ []; result = None }))) ≡ false
   pub calls_a_method_of_a_number_with_what_is_not_built : not_built (static (apply nowhere (number 1) (method_name TypeRef.Int) (more_terms unbuilt no_terms) NoType)) ≡ true
   pub sets_a_field_it_can_use : is_built with_fields (λ e. true) (setting Int (number 1)) ≡ true
   pub field_set_by_a_call : is_built with_fields (λ e. true) (setting Int (apply_static nowhere (codes "A") PublicStatic (method_name TypeRef.Int) (more_terms (number 1) no_terms) Int)) ≡ true

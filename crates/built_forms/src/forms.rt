@@ -1,14 +1,11 @@
 // The forms of trees that are built.
 ghost use Rattle.std.specs.Prelude.{◌≡◌, ℕ, true, List, [], ◌∷◌};
 ghost use Rattle.built_forms.specs.Built as built;
-ghost use Rattle.sj_desugar.specs.Desugar.{callee_of};
 ghost use Rattle.sj_trees.specs.Term.{Term, Terms, apply_statically};
-ghost use Rattle.sj_trees.specs.TypeOf.{type_of_term};
 ghost use Rattle.sj_trees.specs.declared.positions.Position.{Position};
 ghost use Rattle.sj_trees.specs.View.{view, terms_view, cases_view};
 
 use crate::kinds::{can_cast, is_testable};
-use crate::receivers::is_hijacked_receiver;
 use sj_names::{MethodName, Namespace, TypeRef};
 use sj_trees::{IrType, MatchCase, Tree};
 
@@ -57,9 +54,7 @@ pub fn is_built(tree: &Tree) -> bool
         Tree::ApplyStatically(_, receiver, _, namespace, method, arguments, tpe) => {
             is_direct_call(*namespace, method, tpe) && is_built(receiver) && are_built(arguments)
         }
-        Tree::Apply(_, receiver, method, arguments, _) => {
-            is_called_by_class(receiver, method) && is_built(receiver) && are_built(arguments)
-        }
+        Tree::Apply(_, receiver, _, arguments, _) => is_built(receiver) && are_built(arguments),
         Tree::New(_, _, constructor, arguments) => {
             has_no_value(&constructor.result) && are_built(arguments)
         }
@@ -107,13 +102,6 @@ fn is_built_case(case: &MatchCase) -> bool
     ensures { result ≡ built.are_built_cases built.any_object (λ e. true) (cases_view (case.now ∷ [])) }
 {
     case.keys.as_slice().is_empty() || is_built(&case.body)
-}
-
-// A call that is looked up is built where the class of its receiver is hijacked, and so decides by itself what is called.
-fn is_called_by_class(receiver: &Tree, method: &MethodName) -> bool
-    ensures { result ≡ built.can_call built.any_object (callee_of (type_of_term (view receiver.now)) method.now) }
-{
-    method.result.is_some() && is_hijacked_receiver(receiver)
 }
 
 // A call without a lookup is built of a public or private method, and of a constructor, which has no value.

@@ -7,7 +7,6 @@ mod forms;
 mod kinds;
 mod laws;
 mod methods;
-mod receivers;
 
 pub use laws::worked_forms;
 pub use methods::not_built;

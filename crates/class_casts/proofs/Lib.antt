@@ -11,3 +11,7 @@ pub use Rattle.class_tests.proofs.Smallest
 pub use Rattle.class_tests.proofs.Owners
 pub use Rattle.class_tests.proofs.Markers
 pub use Rattle.class_tests.proofs.Reflective
+pub use Rattle.class_tests.proofs.Parameters
+pub use Rattle.class_tests.proofs.Telling
+pub use Rattle.class_tests.proofs.Reflecting
+pub use Rattle.class_tests.proofs.Shortly as ClassTestsShortly

@@ -8,6 +8,7 @@ pub mod Worlds
 pub use Rattle.class_tests.specs.Instances
 pub use Rattle.class_tests.specs.Kinds as ClassTestsKinds
 pub use Rattle.class_tests.specs.Tests
+pub use Rattle.class_tests.specs.Reflecting
 pub use Rattle.class_tests.specs.Entries
 pub use Rattle.class_tests.specs.Helpers
 pub use Rattle.class_tests.specs.Words
@@ -18,3 +19,7 @@ pub use Rattle.class_tests.specs.KindVariants
 pub use Rattle.class_tests.specs.Classes as PieceRulesClasses
 pub use Rattle.class_tests.specs.Pieces
 pub use Rattle.class_tests.specs.Calls
+pub use Rattle.class_tests.specs.Fact
+pub use Rattle.class_tests.specs.Bridges
+pub use Rattle.class_tests.specs.Dispatch
+pub use Rattle.class_tests.specs.Objects

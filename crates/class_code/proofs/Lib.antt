@@ -1,8 +1,10 @@
 pub mod Bridge
 pub mod Making
 pub mod Markers
+pub mod Members
 pub mod Objects
 pub mod Parameters
+pub mod ProxyMembers
 pub use Rattle.entry_search.proofs.Once
 pub use Rattle.entry_search.proofs.Searches
 pub use Rattle.entry_search.proofs.Owners

@@ -1,25 +1,38 @@
-// The method entries of a class.
+// The method entries of classes.
 ghost use Rattle.std.specs.Prelude.{◌≡◌, map, IfOk};
 ghost use Rattle.std.specs.List.{filter};
+ghost use Rattle.class_pieces.specs.Entries.{AreByClass};
 ghost use Rattle.sj_world.specs.Known.{is_same};
 
+use class_lists::Lists;
 use sj_names::{ClassName, NoMemory};
-use sj_world::MethodEntry;
+use sj_world::{LinkedWorld, MethodEntry};
 use std::alloc::Global;
 
-/// Those of the entries that the class has.
-pub fn entries_of<'w>(
+/// The method entries of a linked world, under the names of their classes. Want of memory is the only error.
+pub fn entries_by_class<'w>(
     alloc: Global,
-    entries: &'w [MethodEntry],
+    w: &'w LinkedWorld,
+) -> Result<Lists<&'w MethodEntry>, NoMemory>
+    ensures { IfOk result (AreByClass w.now.entries) }
+{
+    let mut lists = Lists::new(alloc);
+    let entries = w.entries();
+    for entry in entries {
+        lists.put(alloc, &entry.class, entry)?;
+    }
+    Ok(lists)
+}
+
+/// The method entries that the class has, in order, by all of them under the names of their classes. Want of memory is the only error.
+pub fn own_entries<'w>(
+    alloc: Global,
+    w: &LinkedWorld,
+    entries: &Lists<&'w MethodEntry>,
     class: &ClassName,
 ) -> Result<Vec<&'w MethodEntry>, NoMemory>
-    ensures { IfOk result (λ list. map (λ e. e.now) list.items ≡ filter (λ e. is_same e.class class.now) entries.now) }
+    requires { AreByClass w.now.entries entries.now }
+    ensures { IfOk result (λ list. map (λ e. e.now) list.items ≡ filter (λ e. is_same e.class class.now) w.now.entries) }
 {
-    let mut own = Vec::new(alloc);
-    for entry in entries {
-        if entry.class.is_same(class) {
-            own.push(entry)?;
-        }
-    }
-    Ok(own)
+    Ok(Vec::from_slice(alloc, entries.at(class))?)
 }

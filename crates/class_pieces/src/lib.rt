@@ -10,4 +10,5 @@ mod pieces;
 mod ranges;
 mod statics;
 
+pub use entries::entries_by_class;
 pub use pieces::class_pieces;

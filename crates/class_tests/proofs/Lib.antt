@@ -1,5 +1,6 @@
 pub mod Instanced
 pub mod Marked
+pub mod Reflecting
 pub mod Shortly
 pub mod Smallest
 pub mod Telling
@@ -7,3 +8,4 @@ pub use Rattle.class_code.proofs.Bridge
 pub use Rattle.class_code.proofs.Owners
 pub use Rattle.class_code.proofs.Markers
 pub use Rattle.class_code.proofs.Reflective
+pub use Rattle.class_code.proofs.Parameters

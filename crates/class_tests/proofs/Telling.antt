@@ -121,7 +121,7 @@ module _ (p : Program) where
     tells Byte v among stand = cc
     tells Short v among stand = cc
 
-  test_runs : (n : ℕ) (g : Name) (boxes : List ClassLink) (s : State) (k : Kind) (v : Value) → is_told k ≡ true → (k ≡ Char → BoxesStand p g boxes s) → code_call (below p (suc n)) g (Some (test_code k)) (v ∷ []) s ≡ done (gives (boolean (is_of s boxes k v)) s)
+  pub test_runs : (n : ℕ) (g : Name) (boxes : List ClassLink) (s : State) (k : Kind) (v : Value) → is_told k ≡ true → (k ≡ Char → BoxesStand p g boxes s) → code_call (below p (suc n)) g (Some (test_code k)) (v ∷ []) s ≡ done (gives (boolean (is_of s boxes k v)) s)
   test_runs n g boxes s k v among stand = return_hands_on p (below p n) (kind_condition k) no_statements (function_scope g (test_code k) (v ∷ [])) s ∙ tells n g boxes s k v among stand
 
   abbrev ret : Scope → ExpressionEnd → Out StatementEnd
@@ -141,7 +141,7 @@ module _ (p : Program) where
   each_returned low e rest sc (throws v t) = refl
 
   -- a block that only returns, behind it other statements, at the end of a function
-  block_returns : (low : Low) (e : Expression) (rest : Execution) (sc : Scope) (s : State) → then_do (then_do (in_block (only_return e) (execute_all p low (only_return e)) sc s) (next_statement rest)) returned ≡ evaluate p low e sc s
+  pub block_returns : (low : Low) (e : Expression) (rest : Execution) (sc : Scope) (s : State) → then_do (then_do (in_block (only_return e) (execute_all p low (only_return e)) sc s) (next_statement rest)) returned ≡ evaluate p low e sc s
   block_returns low e rest sc s =
       ap (λ (o : Out StatementEnd). then_do (then_do (then_do o (leaving (only_return e) sc)) (next_statement rest)) returned) (then_do-associative (evaluate p low e sc s) (ret sc) (next_statement (execute_all p low no_statements)))
       ∙ ap (λ (o : Out StatementEnd). then_do (then_do o (next_statement rest)) returned) (then_do-associative (evaluate p low e sc s) (after_return low sc) (leaving (only_return e) sc))
@@ -214,7 +214,7 @@ tests_tell p n g boxes s k v among stand = test_runs p n g boxes s k v among sta
 pub apart : (m : MethodName) (vs : List Value) (v : Value) (f : Name) (bs : Name → Cell) → is_same_text f (codes "x") ≡ false → is_among (parameters_of m) f ≡ false → bind_parameters (codes "x" ∷ parameters_of m) (v ∷ vs) bs f ≡ bs f
 apart m vs v f bs other among = parameters_leave (codes "x" ∷ parameters_of m) (v ∷ vs) bs f (ap (λ (b : Bool). b || is_among (parameters_of m) f) other ∙ among)
 
-behind_head : (bs : Name → Cell) (y : Name) (w : Value) (ys : List Name) (ws : List Value) → Hold bs (y ∷ ys) (w ∷ ws) → Hold bs ys ws
+pub behind_head : (bs : Name → Cell) (y : Name) (w : Value) (ys : List Name) (ws : List Value) → Hold bs (y ∷ ys) (w ∷ ws) → Hold bs ys ws
 behind_head bs y w ys ws (hold_more _ _ _ _ e rest) = rest
 
 pub at_head : (bs : Name → Cell) (y : Name) (w : Value) (ys : List Name) (ws : List Value) → Hold bs (y ∷ ys) (w ∷ ws) → bs y ≡ holds false w
@@ -386,7 +386,7 @@ pub kinds_run_targets : KindsRunTargets
 unfolding outcome
 kinds_run_targets w facts p n home boxes m ts v vs last s k owner are told_k of_k t = let i = told_index k told_k in runs_at w facts p n home boxes m v vs s k owner of_k t told_kinds ts are (contains_at told_kinds i.0 k i.1) last
 
-object_is_none : (s : State) (boxes : List ClassLink) (a : ℕ) (k : Kind) → is_box s boxes (object a) ≡ false → is_of s boxes k (object a) ≡ false
+pub object_is_none : (s : State) (boxes : List ClassLink) (a : ℕ) (k : Kind) → is_box s boxes (object a) ≡ false → is_of s boxes k (object a) ≡ false
 object_is_none s boxes a Undefined e = refl
 object_is_none s boxes a Boolean e = refl
 object_is_none s boxes a Char e = e

@@ -1,5 +1,6 @@
 pub mod Instances
 pub mod Kinds
+pub mod Reflecting
 pub mod Shorts
 pub mod Small
 pub mod Tests
@@ -16,9 +17,12 @@ pub use Rattle.class_code.specs.Classes
 pub use Rattle.class_code.specs.Pieces
 pub use Rattle.class_code.specs.Ancestors
 pub use Rattle.class_code.specs.Calls
+pub use Rattle.class_code.specs.Fact
 pub use Rattle.class_code.specs.Known
 pub use Rattle.class_code.specs.Laws
 pub use Rattle.class_code.specs.Paths
 pub use Rattle.class_code.specs.Rows
 pub use Rattle.class_code.specs.Tables
 pub use Rattle.class_code.specs.Entries
+pub use Rattle.class_code.specs.Dispatch
+pub use Rattle.class_code.specs.Objects

@@ -7,6 +7,7 @@
 ghost use Rattle.std.specs.Prelude.{◌≡◌, [], ◌∷◌, codes};
 ghost use Rattle.class_tests.specs.Instances.{TestsTellInstances};
 ghost use Rattle.class_tests.specs.Kinds.{TestsTell, DispatchTells, KindsRunTargets, OthersCallMethods};
+ghost use Rattle.class_tests.specs.Reflecting.{ReflectionTells, OwnLinesRun, ProxiesHandOn, ShortReflectionsGo};
 ghost use Rattle.class_tests.specs.Shorts.{ShortCallsGo};
 ghost use Rattle.class_tests.specs.Small.{SmallTestsTell};
 ghost use Rattle.class_tests.specs.Tests.{MarkersTell, ClassTestsTell, NullIsNoInstance};
@@ -59,6 +60,15 @@ pub fn short_calls_go()
 /// The tests of bytes and shorts tell the Numbers in their ranges.
 pub fn small_tests_tell()
     ensures { SmallTestsTell }
+{}
+
+/// The function of a reflective name runs the function of the first case whose kind its receiver is of, a char in the result as an object that holds it. Where there is none, it calls the
+/// receiver's own entry of the name, if it has one, and else the helper that throws. Such an entry calls the entry of the method that it names. Within a unit a function with a case is going.
+pub fn reflections_tell()
+    ensures cases { ReflectionTells }
+    ensures own_lines { OwnLinesRun }
+    ensures entries { ProxiesHandOn }
+    ensures short { ShortReflectionsGo }
 {}
 
 /// A program made of pieces: a bridge to a default method, calls on a number, on an object and on a boxed char, and the test of a class.

@@ -1,9 +1,9 @@
--- Each call that is looked up in what is written for a built body runs what a hijacked class decides.
+-- Each call on a receiver in what is written for a built body is of a member that a hijacked class decides on, or of a method that is looked up.
 use Rattle.std.proofs.Common.{◌≡◌, Bool, true, List, [], ◌∷◌, ◌++◌, ◌&&◌}
 use Rattle.std.specs.List.{All}
 use Rattle.std.proofs.lemmas.Bool.{and_parts}
 use Rattle.std.proofs.lemmas.List.Elements.{All-nil, All-cons, All-head, All-tail}
-use Rattle.linked_folders.proofs.Direct.{IsCalled, is_called}
+use Rattle.linked_folders.proofs.Direct.{Calls, is_called}
 use Rattle.linked_folders.proofs.Uses.{combine}
 use Rattle.linked_folders.specs.Built.{Usable, can_call, stands, is_built, are_built, are_built_cases}
 use Rattle.linked_folders.proofs.WrittenTrees.{written, written_below, all_written, cases_written}
@@ -12,11 +12,14 @@ use Rattle.sj_names.proofs.Same.{impossible}
 use Rattle.sj_trees.specs.Term.{Term, Terms, no_terms, more_terms, Cases, no_cases, more_cases, var_def, block_of, labeled, assign, return_to, if_then, while_loop, do_while, match_on, throw, new_object, select, select_static, apply, apply_statically, apply_static, unary_op, binary_op, is_instance_of, as_instance_of, var_ref, log_line}
 use Rattle.sj_trees.specs.TypeOf.{type_of_term}
 
-abbrev pub Called : Term → Type 0
-Called (apply p e m ts t) = IsCalled (type_of_term e) m
-Called _ = Unit {0}
+abbrev pub Called : Usable → Term → Type 0
+Called has (apply p e m ts t) = Calls has (type_of_term e) m
+Called has _ = Unit {0}
 
 module _ (has : Usable) (checked : Term → Bool) where
+  abbrev Own : Term → Type 0
+  Own = Called has
+
   abbrev built : Term → Bool
   built = is_built has checked
 
@@ -26,22 +29,22 @@ module _ (has : Usable) (checked : Term → Bool) where
   abbrev own : Term → Bool
   own = stands has checked
 
-  top : (t : Term) → Called t → All Called (written_below t) → All Called (written t)
-  top t h k = All-cons Called t (written_below t) h k
+  top : (t : Term) → Own t → All Own (written_below t) → All Own (written t)
+  top t h k = All-cons Own t (written_below t) h k
 
-  pair : (xs ys : List Term) → All Called xs → All Called ys → All Called (xs ++ ys)
-  pair = combine Called
+  pair : (xs ys : List Term) → All Own xs → All Own ys → All Own (xs ++ ys)
+  pair = combine Own
 
   mutual
-    pub each_called : (t : Term) → built t ≡ true → All Called (written t)
+    pub each_called : (t : Term) → built t ≡ true → All Own (written t)
     each_called (var_def p x t b e) h = top (var_def p x t b e) tt (each_called e h)
     each_called (block_of p ts) h = top (block_of p ts) tt (all_called ts h)
     each_called (labeled p l t e) h = top (labeled p l t e) tt (each_called e h)
-    each_called (assign p (var_ref q x t) e) h = top (assign p (var_ref q x t) e) tt (pair (written (var_ref q x t)) (written e) (top (var_ref q x t) tt (All-nil Called)) (each_called e h))
+    each_called (assign p (var_ref q x t) e) h = top (assign p (var_ref q x t) e) tt (pair (written (var_ref q x t)) (written e) (top (var_ref q x t) tt (All-nil Own)) (each_called e h))
     each_called (assign p (select q d c f t) e) h =
         let inside = and_parts (built d) (built e) (and_parts (own (assign p (select q d c f t) e)) (built d && built e) h).1 in
         top (assign p (select q d c f t) e) tt (pair (written (select q d c f t)) (written e) (top (select q d c f t) tt (each_called d inside.0)) (each_called e inside.1))
-    each_called (assign p (select_static q c f t) e) h = top (assign p (select_static q c f t) e) tt (pair (written (select_static q c f t)) (written e) (top (select_static q c f t) tt (All-nil Called)) (each_called e (and_parts (own (assign p (select_static q c f t) e)) (built e) h).1))
+    each_called (assign p (select_static q c f t) e) h = top (assign p (select_static q c f t) e) tt (pair (written (select_static q c f t)) (written e) (top (select_static q c f t) tt (All-nil Own)) (each_called e (and_parts (own (assign p (select_static q c f t) e)) (built e) h).1))
     each_called (return_to p e l) h = top (return_to p e l) tt (each_called e h)
     each_called (if_then p c a b t) h =
         let first = and_parts (built c) (built a && built b) h in
@@ -72,18 +75,18 @@ module _ (has : Usable) (checked : Term → Bool) where
     each_called (as_instance_of p e t) h = top (as_instance_of p e t) tt (each_called e (and_parts (own (as_instance_of p e t)) (built e) h).1)
     each_called (log_line p e) h = top (log_line p e) tt (each_called e h)
     each_called (assign p a e) h = impossible h
-    each_called t h = top t tt (All-nil Called)
+    each_called t h = top t tt (All-nil Own)
 
-    all_called : (ts : Terms) → all_built ts ≡ true → All Called (all_written ts)
-    all_called no_terms h = All-nil Called
+    all_called : (ts : Terms) → all_built ts ≡ true → All Own (all_written ts)
+    all_called no_terms h = All-nil Own
     all_called (more_terms t ts) h = let inside = and_parts (built t) (all_built ts) h in pair (written t) (all_written ts) (each_called t inside.0) (all_called ts inside.1)
 
-    cases_called : (cs : Cases) → are_built_cases has checked cs ≡ true → All Called (cases_written cs)
-    cases_called no_cases h = All-nil Called
+    cases_called : (cs : Cases) → are_built_cases has checked cs ≡ true → All Own (cases_written cs)
+    cases_called no_cases h = All-nil Own
     cases_called (more_cases [] t cs) h = cases_called cs h
     cases_called (more_cases (n ∷ ns) t cs) h = let inside = and_parts (built t) (are_built_cases has checked cs) h in pair (written t) (cases_written cs) (each_called t inside.0) (cases_called cs inside.1)
 
 -- a law that takes a call for one holds where each call is
-pub with_calls : (P : Term → Type 0) (ts : List Term) → All (λ (t : Term). Called t → P t) ts → All Called ts → All P ts
-with_calls P [] h k = All-nil P
-with_calls P (t ∷ ts) h k = All-cons P t ts (All-head (λ (t : Term). Called t → P t) t ts h (All-head Called t ts k)) (with_calls P ts (All-tail (λ (t : Term). Called t → P t) t ts h) (All-tail Called t ts k))
+pub with_calls : (has : Usable) (P : Term → Type 0) (ts : List Term) → All (λ (t : Term). Called has t → P t) ts → All (Called has) ts → All P ts
+with_calls has P [] h k = All-nil P
+with_calls has P (t ∷ ts) h k = All-cons P t ts (All-head (λ (t : Term). Called has t → P t) t ts h (All-head (Called has) t ts k)) (with_calls has P ts (All-tail (λ (t : Term). Called has t → P t) t ts h) (All-tail (Called has) t ts k))

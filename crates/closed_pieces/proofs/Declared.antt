@@ -1,8 +1,9 @@
 -- What the pieces of an accepted folder declare: functions of needed bodies, live classes, static fields that are needed, tests of classes and casts to them, and helpers.
 use Rattle.std.proofs.Common.{◌≡◌, ◌↔◌, ◌++◌, ◌||◌, Bool, true, List, [], ◌∷◌, Option, Some, refl, sym, ap, subst, ◌∙◌, Contains}
+use Rattle.std.specs.List.{flat_map}
 use Rattle.std.proofs.lemmas.List.Elements.{Contains-append_left, Contains-append_right}
 use Rattle.std.proofs.lemmas.List.Sorted.{Contains-permutation}
-use Rattle.linked_folders.proofs.Blocks.{OwnPieces, own_pieces, method_there, helper_there}
+use Rattle.linked_folders.proofs.Blocks.{OwnPieces, own_pieces, method_there, helper_there, told_there}
 use Rattle.linked_folders.proofs.Derivations.{closed}
 use Rattle.linked_folders.proofs.DeclaredPiecesLive.{classes_kept, live_there}
 use Rattle.linked_folders.proofs.Made as made
@@ -11,9 +12,12 @@ use Rattle.linked_folders.proofs.Parts.{class_there, statics_among, in_statics, 
 use Rattle.linked_folders.specs.Accepted.{IsAccepted}
 use Rattle.linked_folders.specs.Bodies.{AreBodies}
 use Rattle.linked_folders.specs.Classes.{HasForm}
+use Rattle.linked_folders.specs.Dispatch.{dispatch_name, reflective_name}
+use Rattle.linked_folders.specs.Dispatched.{IsDispatched}
+use Rattle.linked_folders.specs.ToldPieces.{IsReflected}
 use Rattle.linked_folders.specs.Emitted.{EmittedMethod}
 use Rattle.linked_folders.specs.Entries.{IsLive}
-use Rattle.linked_folders.specs.Pieces.{piece_of_member, AreLinkedPieces}
+use Rattle.linked_folders.specs.Pieces.{piece_of_member, pieces_of_block, AreLinkedPieces}
 use Rattle.linked_folders.specs.Reachable.{Reachable}
 use Rattle.linked_folders.specs.ReachRulesRules.{the_object}
 use Rattle.linked_folders.specs.Rules.{HasFieldType}
@@ -34,6 +38,7 @@ use Rattle.sj_names.specs.WellKnown.{object}
 use Rattle.sj_names.specs.declared.entry_points.EntryPoint.{EntryPoint}
 use Rattle.sj_names.specs.declared.folders.SourceFile.{SourceFile}
 use Rattle.sj_names.specs.declared.method_names.Member.{Member}
+use Rattle.sj_names.specs.declared.method_names.MethodName.{MethodName}
 use Rattle.sj_split.proofs.Members.{at_first}
 use Rattle.sj_trees.specs.declared.classes.ClassDef.{ClassDef}
 use Rattle.sj_trees.specs.declared.classes.FieldDef.{FieldDef}
@@ -126,6 +131,22 @@ module _ (entries : List EntryPoint) (files : List SourceFile) (l : Linked) (all
   a_helper h i =
       let k = made.present w entries a.resolved (classes_kept entries files w bytes a) object (closed w entries (Needed object) the_object) in
       record { piece = helper_piece p.above h; among = helper_there l all ps p k.0 k.1 h i; owned = refl; named = refl }
+
+  -- a function that tells receivers apart, of which a class's own piece or a function uses the name
+  pub a_told : (m : MethodName) → IsDispatched l (flat_map (pieces_of_block w) p.blocks) m → IsDeclared ps (helper (dispatch_name m))
+  a_told m d =
+      let h = p.are_told.are_methods.each m d in
+      let in_told = subst (λ (qs : List Piece). Contains qs h.piece) (sym p.are_told.told_are) (Contains-append_left p.are_told.methods p.are_told.names h.piece h.among) in
+      let k = made.present w entries a.resolved (classes_kept entries files w bytes a) object (closed w entries (Needed object) the_object) in
+      record { piece = h.piece; among = told_there l all ps p k.0 k.1 h.piece in_told; owned = ap (λ (q : Piece). q.owner) h.is_piece.piece_is; named = ap (λ (q : Piece). q.name) h.is_piece.piece_is }
+
+  -- and one of a reflective name
+  pub a_name : (m : MethodName) → IsReflected l (flat_map (pieces_of_block w) p.blocks) m → IsDeclared ps (helper (reflective_name m))
+  a_name m d =
+      let h = p.are_told.are_names.each m d in
+      let in_told = subst (λ (qs : List Piece). Contains qs h.piece) (sym p.are_told.told_are) (Contains-append_right p.are_told.methods p.are_told.names h.piece h.among) in
+      let k = made.present w entries a.resolved (classes_kept entries files w bytes a) object (closed w entries (Needed object) the_object) in
+      record { piece = h.piece; among = told_there l all ps p k.0 k.1 h.piece in_told; owned = ap (λ (q : Piece). q.owner) h.is_piece.piece_is; named = ap (λ (q : Piece). q.name) h.is_piece.piece_is }
 
   pub declares : Declares entries l p.helpers ps
   declares = record {

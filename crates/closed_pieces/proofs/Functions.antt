@@ -1,15 +1,17 @@
 -- What the function of a needed body uses is declared.
-use Rattle.std.proofs.Common.{◌≡◌, ◌∙◌, List, [], ◌∷◌, Option, Some, None, refl, sym, subst, Contains, true, false, ap, codes, if◌then◌else◌}
+use Rattle.std.specs.Prelude.{is_none}
+use Rattle.sj_names.specs.declared.references.TypeRef.{TypeRef}
+use Rattle.std.proofs.Common.{Bool, ◌≡◌, ◌∙◌, List, [], ◌∷◌, Option, Some, None, refl, sym, subst, Contains, true, false, ap, codes, if◌then◌else◌}
 use Rattle.std.specs.List.{All}
 use Rattle.std.proofs.lemmas.List.Elements.{All-nil, All-cons, All-contains, Contains-append_left}
 use Rattle.closed_pieces.proofs.Called.{Called, each_called, with_calls}
 use Rattle.linked_folders.proofs.Calls.{needed}
 use Rattle.linked_folders.proofs.Derivations.{closed}
-use Rattle.linked_folders.proofs.Direct.{IsCalled}
+use Rattle.linked_folders.proofs.Direct.{Calls, calls_member, looks_up, calls_array, calls_by_name}
 use Rattle.linked_folders.proofs.EachTyped.{in_all}
 use Rattle.linked_folders.proofs.Found.{here}
 use Rattle.linked_folders.proofs.Given.{all_from}
-use Rattle.linked_folders.proofs.Hijacked.{of_hijacked}
+use Rattle.linked_folders.proofs.Hijacked.{of_hijacked, of_looked_up}
 use Rattle.linked_folders.proofs.Members.{defined}
 use Rattle.linked_folders.proofs.Standing.{Stands, each_stands}
 use Rattle.linked_folders.proofs.Written.{some_same, all_at}
@@ -21,11 +23,13 @@ use Rattle.linked_folders.specs.Emitted.{EmittedMethod}
 use Rattle.linked_folders.specs.Pieces.{piece_of_member}
 use Rattle.linked_folders.specs.Reachable.{Reachable}
 use Rattle.linked_folders.specs.Refusals.{missing_class, missing_method, abstract_target, IsPresent, no_class, no_target, no_target_body, no_method, no_hijacked_body}
-use Rattle.linked_folders.specs.ReachRulesRules.{Reads, of_call, of_new, asked_body, new_made, field_needed, resolved_class, resolved_body, call_class, call_hijacked, class_named}
+use Rattle.linked_folders.specs.ReachRulesRules.{Reads, of_call, of_new, asked_body, new_made, field_needed, resolved_class, resolved_body, call, call_class, call_hijacked, class_named}
 use Rattle.linked_folders.specs.Typed.{MeetsThere}
 use Rattle.dispatch_laws.proofs.WorkedOut.{targets_are_worked_out}
 use Rattle.dispatch_laws.specs.Laws.{found_by}
 use Rattle.dispatch_laws.specs.Targets.{at_owner, lookup_in}
+use Rattle.linked_folders.specs.Dispatch.{dispatch_name, reflective_name}
+use Rattle.linked_folders.specs.Entries.{IsReflective}
 use Rattle.helper_rules.specs.Helpers.{helper_name}
 use Rattle.helper_rules.specs.Words.{bound, helper, is_name, as_name}
 use Rattle.helper_rules.specs.declared.kinds.Helper.{Helper}
@@ -47,8 +51,8 @@ use Rattle.sj_core.specs.declared.callees.Callee.TheVariants as callees
 use Rattle.sj_desugar.specs.Desugar.{callee_of, member, desugared_member, body_code, completed, is_mutable_in, result_destination}
 use Rattle.sj_emit_expr.specs.Templates.{called_member}
 use Rattle.sj_emit_expr.specs.Tests.{same_name}
-use Rattle.sj_emit_expr.specs.Uses.{call_uses, object_binding, function_binding, helper_of, test_uses, cast_uses, uses_of_all}
-use Rattle.sj_infos.specs.Forms.{form_of, of_test, forms_by_body}
+use Rattle.sj_emit_expr.specs.Uses.{call_uses, looked_up_uses, object_binding, function_binding, helper_of, test_uses, cast_uses, uses_of_all}
+use Rattle.sj_infos.specs.Forms.{form_of, of_test, forms_by_body, of_call as form_call}
 use Rattle.sj_infos.specs.Forms as of_form
 use Rattle.sj_infos.specs.Infos.{asks, asked_by_body, of_static_call, of_receiver, of_type, is_any, class_cast}
 use Rattle.sj_infos.specs.Sure.{sure_among}
@@ -60,6 +64,7 @@ use Rattle.sj_infos.specs.declared.infos.Info.TheVariants.{New, Static, Field, R
 use Rattle.sj_infos.specs.declared.infos.Info.TheVariants as asked_info
 use Rattle.sj_mangling.specs.Bindings.{class_binding}
 use Rattle.sj_mangling.specs.declared.bindings.ClassBinding.TheVariants.{IsInstance, AsInstance}
+use Rattle.sj_names.proofs.Same.{impossible}
 use Rattle.sj_names.specs.declared.entry_points.EntryPoint.{EntryPoint}
 use Rattle.sj_names.specs.declared.folders.SourceFile.{SourceFile}
 use Rattle.sj_names.specs.declared.method_names.Member.{Member}
@@ -76,12 +81,12 @@ use Rattle.sj_trees.specs.declared.types.IrType.{IrType}
 use Rattle.sj_world.specs.Known.{Name, Classes, class_of, is_hijacked}
 use Rattle.sj_world.specs.Linked.{Linked}
 use Rattle.sj_world.specs.Resolution.{Answer, target, abstract, missing, Resolves}
-use Rattle.sj_world.specs.declared.facts.Fact.TheVariants.{Body, Made, Needed, NeededField}
+use Rattle.sj_world.specs.declared.facts.Fact.TheVariants.{Body, Made, Needed, NeededField, Called as CalledOn}
 use Rattle.std.proofs.lemmas.Bool.{and_parts}
 use Rattle.sure_receivers.specs.Sure.{sure_locals}
 use Rattle.closed_pieces.proofs.Declared.{Declares}
 
-module _ (entries : List EntryPoint) (files : List SourceFile) (l : Linked) (all : List EmittedMethod) (having : List Helper) (ps : List Piece) (a : IsAccepted entries files l.world) (bodies : AreBodies l.world entries all) (built : (f : EmittedMethod) → Contains all f → is_object_body f.definition f.its_body ≡ true) (d : Declares entries l having ps) (e : EmittedMethod) (i : Contains all e) (helped : (h : Helper) → Contains (piece_of_member l.world e).uses (helper (helper_name h)) → IsDeclared ps (helper (helper_name h))) where
+module _ (entries : List EntryPoint) (files : List SourceFile) (l : Linked) (all : List EmittedMethod) (having : List Helper) (ps : List Piece) (a : IsAccepted entries files l.world) (bodies : AreBodies l.world entries all) (built : (f : EmittedMethod) → Contains all f → is_object_body f.definition f.its_body ≡ true) (d : Declares entries l having ps) (e : EmittedMethod) (i : Contains all e) (helped : (h : Helper) → Contains (piece_of_member l.world e).uses (helper (helper_name h)) → IsDeclared ps (helper (helper_name h))) (apart : (c : Name) (m : MethodName) → Reachable l.world entries (CalledOn c m) → Contains (piece_of_member l.world e).uses (helper (dispatch_name m)) → IsDeclared ps (helper (dispatch_name m))) (by_name : (m : MethodName) → IsReflective l.world l.facts m → Contains (piece_of_member l.world e).uses (helper (reflective_name m)) → IsDeclared ps (helper (reflective_name m))) where
   abbrev w : Classes
   w = l.world
 
@@ -144,12 +149,36 @@ module _ (entries : List EntryPoint) (files : List SourceFile) (l : Linked) (all
       go abstract s same = absurd (a.resolved (abstract_target (member c Public m)) (no_hijacked_body c m r (called_on c m r) h s))
       go missing s same = absurd (a.resolved (missing_method (member c Public m)) (no_method c m r (called_on c m r) s))
 
-  -- what is called on a receiver of a hijacked class is declared
-  applied : (p : Position) (r : Term) (m : MethodName) (ts : Terms) (t : IrType) → Contains (trees e.its_body) (apply p r m ts t) → IsCalled (type_of_term r) m → All Q (call_uses runs (callee_of (type_of_term r) m))
-  applied p r m ts t among is =
+  -- a function that tells the receivers of a method apart is declared, where one is called
+  looked : (c : Name) (m : MethodName) → Reachable w entries (CalledOn c m) → (hijacked : Bool) → All Q (looked_up_uses hijacked m)
+  looked c m r true = All-cons Q (object_binding (dispatch_name m)) [] (λ u. apart c m r u) (All-nil Q)
+  looked c m r false = All-nil Q
+
+  -- the body calls by a reflective name
+  form_named : (m : MethodName) → m.result ≡ None → Contains (form_call m) (forms.Reflective m)
+  form_named m n = subst (λ (o : Option TypeRef). Contains (if is_none o then forms.Reflective m ∷ [] else []) (forms.Reflective m)) (sym n) (here (forms.Reflective m) [])
+
+  called_by : (t : Term) → Contains (trees e.its_body) t → (m : MethodName) → Contains (form_of t) (forms.Reflective m) → IsReflective w l.facts m
+  called_by t among m its = record {
+    member = e.member;
+    needed = d.listed (Body e.member) (needed w entries all bodies e i);
+    definition = e.definition;
+    defined = defined w e.member e.definition (bodies.found e i).found;
+    calls = subst (λ (b : Option Term). Contains (forms_by_body b) (forms.Reflective m)) (sym (bodies.found e i).has_body) (in_all form_of (trees e.its_body) t (forms.Reflective m) among its);
+  }
+
+  -- what is called on a receiver is declared
+  applied : (p : Position) (r : Term) (m : MethodName) (ts : Terms) (t : IrType) → Contains (trees e.its_body) (apply p r m ts t) → Calls any_object (type_of_term r) m → All Q (call_uses runs (callee_of (type_of_term r) m))
+  applied p r m ts t among (looks_up is) =
+      let c = is.lookup.class in
+      let of = of_looked_up r m c is.callee in
+      subst (λ (k : Callee). All Q (call_uses runs k)) (sym is.callee) (looked c m (closed w entries (CalledOn c m) (call c m (asked (apply p r m ts t) among (asked_info.Called c m) (of.asked (sure_among [] (trees e.its_body)))) of.free)) (runs.has_hijacked c))
+  applied p r m ts t among (calls_member is) =
       let c = is.direct.class in
       let of = of_hijacked r m c is.callee in
       subst (λ (k : Callee). All Q (call_uses runs k)) (sym is.callee) (All-cons Q (function_binding (runs.target (member c Public m))) [] (λ u. hijacked_declared c m of.hijacked (asked (apply p r m ts t) among (asked_info.Called c m) (of.asked (sure_among [] (trees e.its_body))))) (All-nil Q))
+  applied p r m ts t among (calls_array is) = subst (λ (k : Callee). All Q (call_uses runs k)) (sym is.callee) (All-nil Q)
+  applied p r m ts t among (calls_by_name is) = subst (λ (k : Callee). All Q (call_uses runs k)) (sym is.callee) (All-cons Q (object_binding (reflective_name m)) [] (λ u. by_name m (called_by (apply p r m ts t) among m (form_named m is.named)) u) (All-nil Q))
 
   received : (n : Namespace) (c : Name) (m : MethodName) → ((o : Info) → Contains (of_static_call c n m) o → Asked o) → IsDeclared ps (function_binding (called_member runs n (member c n m)))
   received Public c m f = target_declared c m (f (Resolved c m) (here (Resolved c m) []))
@@ -224,7 +253,7 @@ module _ (entries : List EntryPoint) (files : List SourceFile) (l : Linked) (all
 
   -- a tree that is written brings what is declared
   abbrev IsBrought : Term → Type 0
-  IsBrought t = Called t → Brings Q runs box (sure_locals e.its_body) t
+  IsBrought t = Called any_object t → Brings Q runs box (sure_locals e.its_body) t
 
   brings : (t : Term) → Contains (trees e.its_body) t → Stands (MeetsThere w e.definition.namespace) t → IsBrought t
   brings (apply p r m ts t) among s called = (applied p r m ts t among called, λ u. helped helpers.NotNull)
@@ -257,7 +286,7 @@ module _ (entries : List EntryPoint) (files : List SourceFile) (l : Linked) (all
       let stands = subst (λ (b : Term). All (Stands (MeetsThere w e.definition.namespace)) (trees b)) same (each_stands (MeetsThere w e.definition.namespace) typed.body [] 0 typed.met) in
       let brought = each_written IsBrought body (all_from IsBrought (trees body) (λ t among. brings t among (all_at (Stands (MeetsThere w e.definition.namespace)) (trees body) stands t among))) in
       let calls = each_called any_object (λ t. true) body (and_parts (may_make any_object (body_boxes e.definition body)) (is_built any_object (λ t. true) body) (built e i)).1 in
-      let each = with_calls (Brings Q runs box (sure_locals body)) (written body) brought calls in
+      let each = with_calls any_object (Brings Q runs box (sure_locals body)) (written body) brought calls in
       once_in Q [] (uses_of_all runs (desugared_member e.definition body).body) (completed_in e.definition.namespace (body_code (is_mutable_in e.definition body) e.definition.result body) (tree Q runs box (sure_locals body) (is_mutable_in e.definition body) body each [] (result_destination e.definition.result) 1))
 
   pub function_uses : (b : Binding) → Contains used b → IsDeclared ps b

@@ -4,6 +4,7 @@ pub mod Functions
 pub mod Called
 pub mod Classes
 pub mod Helpers
+pub mod Told
 pub mod Uses
 pub use Rattle.linked_folders.proofs.EachTyped
 pub use Rattle.linked_folders.proofs.DeclaredPiecesFields as Fields
@@ -38,3 +39,8 @@ pub use Rattle.linked_folders.proofs.Throwing
 pub use Rattle.linked_folders.proofs.Verdict
 pub use Rattle.linked_folders.proofs.Whole
 pub use Rattle.linked_folders.proofs.Written
+pub use Rattle.linked_folders.proofs.DeclaredPiecesLooked
+pub use Rattle.linked_folders.proofs.DeclaredPiecesBelow
+pub use Rattle.linked_folders.proofs.Facts
+pub use Rattle.linked_folders.proofs.LinkedEntriesOne
+pub use Rattle.linked_folders.proofs.ReflectedCases

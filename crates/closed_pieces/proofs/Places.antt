@@ -1,4 +1,4 @@
--- A piece of a linked world is a class's own, the function of a method, or a helper.
+-- A piece of a linked world is a class's own, the function of a method, a helper, or a function that tells receivers apart.
 use Rattle.std.proofs.Common.{◌≡◌, ◌++◌, Bool, true, false, List, [], ◌∷◌, inl, inr, sym, subst, map, Contains, if◌then◌else◌}
 use Rattle.std.specs.List.{flat_map}
 use Rattle.std.proofs.lemmas.List.Elements.{All-contains, Contains-append_left, Contains-append_cases}
@@ -6,6 +6,8 @@ use Rattle.linked_folders.proofs.Blocks.{in_block}
 use Rattle.linked_folders.proofs.EachTyped.{in_all}
 use Rattle.linked_folders.proofs.Given.{all_from}
 use Rattle.linked_folders.specs.Classes.{AreClassPieces, AreParts, absent, present}
+use Rattle.linked_folders.specs.Dispatched.{OfDispatched}
+use Rattle.linked_folders.specs.ToldPieces.{OfReflected}
 use Rattle.linked_folders.specs.Emitted.{EmittedMethod}
 use Rattle.linked_folders.specs.Pieces.{piece_of_member, Block, IsBlock, AreBlocks, pieces_of_block, with_helpers, AreLinkedPieces}
 use Rattle.helper_rules.specs.Helpers.{helper_piece}
@@ -32,16 +34,21 @@ module _ (l : Linked) (all : List EmittedMethod) (ps : List Piece) (p : AreLinke
   abbrev its_helpers : List Piece
   its_helpers = map (helper_piece p.above) p.helpers
 
-  -- where a piece stands: among those of a class's own, which are all there, among the functions, or among the helpers
+  abbrev behind : List Piece
+  behind = its_helpers ++ p.told
+
+  -- where a piece stands: among those of a class's own, which are all there, among the functions, among the helpers, or among the functions that tell receivers apart, of methods and of reflective names
   pub data Stands (q : Piece) : Type 0 where
     own : (c : Name) (parts : Parts) → AreParts l c parts → ((r : Piece) → Contains (pieces parts) r → Contains in_blocks r) → Contains (pieces parts) q → Stands q
     method : (e : EmittedMethod) → Contains all e → Contains in_blocks q → piece_of_member l.world e ≡ q → Stands q
     helps : (h : Helper) → Contains p.helpers h → helper_piece p.above h ≡ q → Stands q
+    tells : Contains p.told q → OfDispatched l in_blocks q → Stands q
+    names : Contains p.told q → OfReflected l in_blocks q → Stands q
 
   pub from_blocks : (q : Piece) → Contains in_blocks q → Contains ps q
   from_blocks q i =
       let o = in_one (pieces_of_block l.world) p.blocks q i in
-      subst (λ (qs : List Piece). Contains qs q) (sym p.pieces_are) (in_all (with_helpers l.world its_helpers) p.blocks o.item q o.among (in_block l.world its_helpers o.item q o.within))
+      subst (λ (qs : List Piece). Contains qs q) (sym p.pieces_are) (in_all (with_helpers l.world behind) p.blocks o.item q o.among (in_block l.world behind o.item q o.within))
 
   find : (cs : List Name) (bs : List Block) → AreBlocks l all cs bs → (b : Block) → Contains bs b → (c : Name) × IsBlock l all c b
   find [] [] h b i = nothing_in b i
@@ -72,14 +79,26 @@ module _ (l : Linked) (all : List EmittedMethod) (ps : List Piece) (p : AreLinke
       there r m = in_all (pieces_of_block l.world) p.blocks b r j m
 
   pub stands : (q : Piece) → Contains ps q → Stands q
-  stands q i = let o = in_one (with_helpers l.world its_helpers) p.blocks q (subst (λ (qs : List Piece). Contains qs q) p.pieces_are i) in go o.item o.among (is_object o.item.class) o.within
+  stands q i = let o = in_one (with_helpers l.world behind) p.blocks q (subst (λ (qs : List Piece). Contains qs q) p.pieces_are i) in go o.item o.among (is_object o.item.class) o.within
     where
       helping : Contains its_helpers q → Stands q
       helping j = let m = from_map (helper_piece p.above) p.helpers q j in helps m.item m.among m.is
 
-      go : (b : Block) → Contains p.blocks b → (t : Bool) → Contains (if t then pieces_of_block l.world b ++ its_helpers else pieces_of_block l.world b) q → Stands q
-      go b j true k = elim (Contains-append_cases (pieces_of_block l.world b) its_helpers q k) [
+      telling : Contains p.told q → Stands q
+      telling k = elim (Contains-append_cases p.are_told.methods p.are_told.names q (subst (λ (qs : List Piece). Contains qs q) p.are_told.told_are k)) [
+        | inl m ↦ tells k (p.are_told.are_methods.made q m)
+        | inr m ↦ names k (p.are_told.are_names.made q m)
+      ]
+
+      standing : Contains behind q → Stands q
+      standing j = elim (Contains-append_cases its_helpers p.told q j) [
+        | inl k ↦ helping k
+        | inr k ↦ telling k
+      ]
+
+      go : (b : Block) → Contains p.blocks b → (t : Bool) → Contains (if t then pieces_of_block l.world b ++ behind else pieces_of_block l.world b) q → Stands q
+      go b j true k = elim (Contains-append_cases (pieces_of_block l.world b) behind q k) [
         | inl m ↦ of_block b j q m
-        | inr m ↦ helping m
+        | inr m ↦ standing m
       ]
       go b j false k = of_block b j q k

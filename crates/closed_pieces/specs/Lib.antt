@@ -15,3 +15,9 @@ pub use Rattle.linked_folders.specs.ReachRulesRules as Rules
 pub use Rattle.linked_folders.specs.Running
 pub use Rattle.linked_folders.specs.Used
 pub use Rattle.linked_folders.specs.Verdicts
+pub use Rattle.linked_folders.specs.ClassTestsKinds
+pub use Rattle.linked_folders.specs.Targets
+pub use Rattle.linked_folders.specs.Looked
+pub use Rattle.linked_folders.specs.Dispatch
+pub use Rattle.linked_folders.specs.ToldPieces
+pub use Rattle.linked_folders.specs.Reflected

@@ -1,8 +1,9 @@
 -- Files that declare what can be used: their state behind the declarations stands for the opening of the IR, and they have what objects ask.
-use Rattle.std.proofs.Common.{◌≡◌, ◌≤◌, ℕ, suc, Bool, true, false, List, [], ◌∷◌, ◌++◌, length, map, slice_get, refl, sym, ap, ◌∙◌, subst, Contains, inl, inr, ⊎_elim, Option, Some, None, cond, codes, arith}
+use Rattle.std.specs.Prelude.{is_some, not}
+use Rattle.std.proofs.Common.{◌≡◌, ◌≤◌, ℕ, suc, Bool, true, false, List, [], ◌∷◌, ◌++◌, length, map, slice_get, refl, sym, ap, ◌∙◌, subst, Contains, inl, inr, ⊎_elim, Option, Some, None, cond, codes, arith, if◌then◌else◌}
 use Rattle.body_rules.proofs.Lists.{nothing_in, in_front_or_behind, at_front, further_on}
 use Rattle.built_forms.proofs.Statics.{set_static, static_among}
-use Rattle.built_forms.specs.Built.{has_static, can_box, divides, compares}
+use Rattle.built_forms.specs.Built.{has_static, can_box, divides, compares, can_look_up}
 use Rattle.file_declarations.proofs.Fields.{fields_differ, begins, statics_differ, static_begins}
 use Rattle.file_declarations.proofs.Items.{IsClassItem, alone as class_alone, extending, code_found, members_found}
 use Rattle.file_declarations.proofs.Begun.{marker_held, same_classes, chain_length, zero_literal_is}
@@ -12,16 +13,17 @@ use Rattle.file_tops.proofs.Run.{some_same}
 use Rattle.file_tops.specs.Tops.{literal_value, link}
 use Rattle.body_soundness.specs.Targets.{IsTargetOf}
 use Rattle.helper_rules.specs.Helpers.{helper_name, helper_item, used_helpers, constants, box_constructor}
-use Rattle.helper_rules.specs.Words.{class_name, constants_name, kind_class}
-use Rattle.helper_rules.specs.declared.kinds.Failure.TheVariants.{NullReceiver, Division, Cast}
+use Rattle.helper_rules.specs.Words.{class_name, constants_name, kind_class, entry_name, first_parameters, parameters_of, units_of}
+use Rattle.helper_rules.specs.declared.kinds.Failure.TheVariants.{NullReceiver, Division, Cast, Method}
 use Rattle.helper_rules.specs.declared.kinds.Helper.{Helper}
 use Rattle.helper_rules.specs.declared.kinds.Helper.TheVariants as helpers
 use Rattle.helper_rules.specs.declared.kinds.Kind.{Kind}
 use Rattle.helper_rules.specs.declared.kinds.Kind.TheVariants as kinds
 use Rattle.ir_mean.specs.Dispatch.{chain_of, longest}
 use Rattle.ir_mean.specs.World as ir_world
-use Rattle.js_mean.specs.Classes.{members_in, members_of}
-use Rattle.js_mean.specs.Files.{items_in, owner}
+use Rattle.js_mean.specs.Classes.{members_in, members_of, method_in, method_among, method_code}
+use Rattle.js_mean.specs.Objects.{method_on}
+use Rattle.js_mean.specs.Files.{items_in}
 use Rattle.js_mean.specs.Meaning as js_meaning
 use Rattle.js_mean.specs.Shows.{object_shown, char_shown}
 use Rattle.js_mean.specs.States as js
@@ -29,14 +31,20 @@ use Rattle.js_tree.specs.Terms.{Name, Statements, Member, constructor_of, Item, 
 use Rattle.js_tree.specs.Views.{statements_of}
 use Rattle.outcomes.specs.Agreement.{Room}
 use Rattle.outcomes.specs.Shown as shown_ends
-use Rattle.file_declarations.specs.Pieces.{class_item_of, constructor_body, setter, test_piece, cast_piece, zero_of as zero_literal}
+use Rattle.file_declarations.specs.Pieces.{is_char as is_char_result, class_item_of, constructor_body, setter, test_piece, cast_piece, zero_of as zero_literal}
 use Rattle.file_declarations.proofs.Shapes.{stands_there, zero_alike}
+use Rattle.file_declarations.specs.Bridges.{bridge}
 use Rattle.file_declarations.specs.Chains as chains
 use Rattle.file_declarations.specs.ClassCastsClasses.{class_cast_code, hijacked_test_code}
 use Rattle.file_declarations.specs.Tests.{class_test_code}
 use Rattle.file_declarations.proofs.Casting.{cast_named}
 use Rattle.file_declarations.proofs.Testing.{test_named}
 use Rattle.file_declarations.specs.Helpers.{ReachesBoxes, ReachesTest, ClassTest, by_marker, by_kind, CanTest, Tested, of_kind, of_class, CanCompare, helper_code, HelperStands, BoxStands, failing_code, checking_code, division_code}
+use Rattle.file_declarations.specs.ClassTestsKinds.{dispatch_code}
+use Rattle.file_declarations.specs.Dispatch.{Told, dispatch_item, dispatch_name, Reflected, reflective_item, reflective_name}
+use Rattle.file_declarations.specs.Looked.{RunsTarget, CaseRuns, KindsRun, no_kinds, some_kinds, LooksUpThere}
+use Rattle.file_declarations.specs.Reflected.{ObjectAnswers, no_entry, has_entry, ReflectedRuns, KindAnswers, no_case, has_case, ReflectionStands}
+use Rattle.file_declarations.specs.Reflecting.{reflective_code, proxy_code}
 use Rattle.file_declarations.specs.Made.{zero_value}
 use Rattle.file_declarations.specs.Methods.{Linked, parameters_in, function_of}
 use Rattle.file_declarations.specs.Names.{emitted_in}
@@ -44,16 +52,21 @@ use Rattle.file_declarations.specs.Objects.{RunsOn, Constructs, function_on, bod
 use Rattle.file_declarations.specs.Objects as on_objects
 use Rattle.file_declarations.specs.Worlds.{IsMade, CanCheck, CanDivide, ThrowsCast, CanCast, CanCastClass, Casted, to_kind, to_class, StaticStands, setter_code, HasObjects}
 use Rattle.sj_core.specs.Terms.{named, receiver}
-use Rattle.sj_desugar.specs.Desugar.{is_mutable_in, names_of, body_code, completed, desugared_member}
+use Rattle.sj_desugar.specs.Desugar.{is_mutable_in, names_of, body_code, completed, desugared_member, member}
 use Rattle.sj_emit_expr.specs.Members.{with_receiver, member_piece}
 use Rattle.sj_emit_expr.specs.Names.{variable_name, label_name}
 use Rattle.sj_emit_expr.specs.Templates.{check_name, member_name, static_name, setter_name, parameter_names, statement_templates}
 use Rattle.sj_emit_expr.specs.Tests.{test_name, cast_name}
 use Rattle.sj_names.proofs.Same.{impossible}
+use Rattle.sj_names.specs.MethodNames.{spelled_method}
+use Rattle.sj_names.specs.declared.references.TypeRef.{TypeRef}
+use Rattle.js_mean.specs.Proper.{is_among, are_distinct}
+use Rattle.std.proofs.lemmas.Bool.{and_parts}
 use Rattle.sj_names.specs.declared.method_names.Member.{Member as MemberName}
+use Rattle.sj_names.specs.declared.method_names.MethodName.{MethodName}
 use Rattle.sj_names.specs.declared.method_names.Namespace.{Namespace}
 use Rattle.sj_names.specs.declared.method_names.Namespace.TheVariants.{Public, PublicStatic, Private, PrivateStatic, Constructor}
-use Rattle.file_declarations.specs.Settings.{Place, Top, a_function, a_method, a_constructor, a_class, some_constants, a_static, a_setter, a_test, a_cast, a_helper, top_name, is_usable, IsField, HasField, Holding, holding, HoldsConstants, TopHolds, SameHeap, SameState, Reaches, link_of, box_link, division_helper}
+use Rattle.file_declarations.specs.Settings.{Place, Top, a_function, a_method, a_constructor, a_dispatch, a_reflection, a_class, some_constants, a_static, a_setter, a_test, a_cast, a_helper, top_name, is_usable, IsField, HasField, Holding, holding, HoldsConstants, TopHolds, SameHeap, SameState, Reaches, link_of, box_link, division_helper}
 use Rattle.file_declarations.specs.SjPlainWorlds.{World}
 use Rattle.sj_trees.specs.Term.{Term}
 use Rattle.sj_world.specs.Known.{is_hijacked}
@@ -66,7 +79,7 @@ use Rattle.sj_trees.specs.declared.types.IrType.{IrType}
 use Rattle.sj_trees.specs.declared.types.IrType.TheVariants.{Class}
 use Rattle.built_forms.specs.Built.{Usable}
 use Rattle.declared_files.specs.Declared as declared
-use Rattle.declared_files.specs.Declared.{Spread, all_items, Stands, FunctionDeclared, ClassDeclared, ChainDeclared, KindTestDeclared, ClassTestDeclared, TestDeclared, CastThrows, KindCastDeclared, ClassCastDeclared, CastDeclared, Declared, IsLawful}
+use Rattle.declared_files.specs.Declared.{Spread, all_items, Stands, FunctionDeclared, ClassDeclared, ChainDeclared, KindTestDeclared, ClassTestDeclared, TestDeclared, CastThrows, KindCastDeclared, ClassCastDeclared, CastDeclared, TargetDeclared, EntryDeclared, CaseDeclared, KindsDeclared, ReflectedDeclared, ReflectedKind, NoEntryDeclared, ProxyDeclared, AnswerDeclared, BoxesDeclared, Declared, IsLawful}
 use Rattle.declared_files.specs.Placed.{Placed, placed, Holds, AllHold, OfPlaced, RunInOrder}
 use Rattle.declared_files.proofs.Made.{marks_ancestors}
 use Rattle.declared_files.proofs.Tops.{good_module, stands_in, all_pass, HasModule}
@@ -160,7 +173,7 @@ module _ (z : Spread) where
       members_are = members_there (z.home (a_class c)) (class_name c) (its_members c superclass k) (class_item_of c superclass (its_members c superclass k)) (class_item_is c superclass (its_members c superclass k)) k.class;
       reached = k.leads;
       user = k.user;
-      usable = k.made;
+      usable = k.there;
     }
 
     abbrev chain_stands : (cs : List Name) → ChainDeclared z cs → chains.ChainStands place cs
@@ -186,10 +199,52 @@ module _ (z : Spread) where
     chain_fields _ (declared.extends_one c d ds k to rest) = let o = own_fields c (Some d) k in (o.0, o.1, chain_fields (d ∷ ds) rest)
 
     made_here : (f c : Name) → (z.has f).made c ≡ true → IsMade place c
-    made_here f c l = let k = can.made f c l in record {
+    made_here f c l = let k = can.live f c (can.made f c l) in record {
       depth = let h : length (chain_of z.classes c) ≤ longest z.classes = chain_length z.classes (longest z.classes) [] c in omega (arith, h);
       stands = λ y s u same. stands_there place (fields_differ place can.kept) (begins place can.kept) c k.above (chain_stands (c ∷ k.above) k.classes) (chain_fields (c ∷ k.above) k.classes) k.chain y s u same;
     }
+
+    -- methods that are looked up
+    abbrev target_runs : (t : Top) (c : Name) (m : MethodName) → TargetDeclared z t c m → RunsTarget place (z.home t) c m
+    target_runs t c m d = record {
+      owner = d.owner;
+      target = d.target;
+      runs = runs_here (z.home t) (member d.owner Public m) d.uses;
+      reached = reaches (z.home t) (a_method (member d.owner Public m)) d.uses;
+      user = z.home t;
+      usable = d.uses;
+    }
+
+    class_method : (c : Name) (superclass : Option Name) (ms : List Member) → Stands z (a_class c) (class_item_of c superclass ms) → (x : Name) → method_code z.program (link_of place c) x ≡ method_among ms x
+    class_method c superclass ms h x = ap (λ o. method_in o x) (members_there (z.home (a_class c)) (class_name c) ms (class_item_of c superclass ms) (class_item_is c superclass ms) h)
+
+    -- along these classes an object of this one finds a method that hands on to the function of the target
+    record FindsAlong (d : Name) (m : MethodName) (cs : List Name) : Type 0 where
+      at : Name
+      above : List js.ClassLink
+      lookup : method_on z.program (map (link_of place) cs) (entry_name m) ≡ Some (js.method (link_of place at ∷ above) (entry_name m))
+      its : RunsTarget place (z.home (a_class at)) d m
+      code : method_code z.program (link_of place at) (entry_name m) ≡ Some (bridge (member_name (member its.owner Public m)) (parameters_of m))
+
+    finds_along : (d : Name) (m : MethodName) (cs : List Name) → EntryDeclared z d m cs → FindsAlong d m cs
+    finds_along d m _ (declared.has_entry c cs superclass ms h its e) =
+        let code = class_method c superclass ms h (entry_name m) ∙ e in
+        record {
+          at = c;
+          above = map (link_of place) cs;
+          lookup = ap (λ (o : Option js_meaning.Code). if is_some o then Some (js.method (link_of place c ∷ map (link_of place) cs) (entry_name m)) else method_on z.program (map (link_of place) cs) (entry_name m)) code;
+          its = target_runs (a_class c) d m its;
+          code = code;
+        }
+    finds_along d m _ (declared.has_none c cs superclass ms h e rest) =
+        let k = finds_along d m cs rest in
+        record {
+          at = k.at;
+          above = k.above;
+          lookup = ap (λ (o : Option js_meaning.Code). if is_some o then Some (js.method (link_of place c ∷ map (link_of place) cs) (entry_name m)) else method_on z.program (map (link_of place) cs) (entry_name m)) (class_method c superclass ms h (entry_name m) ∙ e) ∙ k.lookup;
+          its = k.its;
+          code = k.code;
+        }
 
     -- helpers
     helper_there : (f : Name) (h : Helper) → (z.has f).helper (helper_name h) ≡ true → Stands z (a_helper h) (helper_item can.ancestors h)
@@ -197,7 +252,7 @@ module _ (z : Spread) where
 
     module _ (all : Usable) (laws : IsLawful z all) where
       object_here : (f c : Name) → (z.has f).made c ≡ true → is_hijacked c ≡ false
-      object_here f c l = laws.objects.made c ((laws.among f).tops (a_class c) l)
+      object_here f c l = laws.objects.made c ((laws.among f).made c l)
 
       field_here : (f c g : Name) (t : IrType) → (z.has f).field c g t ≡ true → HasField place c g t
       field_here f c g t l = record { field = can.field f c g t l; value = (laws.objects.fields c g t ((laws.among f).fields c g t l)).0; differ = fields_differ place can.kept }
@@ -326,6 +381,91 @@ module _ (z : Spread) where
           by_declaration _ (declared.to_kind t d) = to_kind t (kind_cast_here f t d)
           by_declaration _ (declared.to_class c d) = to_class c (class_cast_here c d)
 
+      case_runs : (m : MethodName) (t : Told) → CaseDeclared z m t → CaseRuns place m t
+      case_runs m t d = record { told = d.told; test = reaches_test (z.home (a_dispatch m)) t.kind d.test; its = target_runs (a_dispatch m) (kind_class t.kind) m d.its; owner_is = d.owner_is }
+
+      kinds_run : (c : Name) (m : MethodName) (b : Bool) → KindsDeclared z c m b → KindsRun place c m b
+      kinds_run c m _ (declared.no_kinds none) = no_kinds none
+      kinds_run c m _ (declared.some_kinds d) =
+          let code = dispatch_code m (d.first ∷ d.others) in
+          some_kinds (record { first = d.first; others = d.others; code = function_there (z.home (a_dispatch m)) (dispatch_name m) code.parameters code.body d.function; distinct = d.distinct; runs = λ t i. case_runs m t (d.runs t i); each = d.each })
+
+      -- what can be looked up by what the code of a file can use
+      looked_here : (f c : Name) (m : MethodName) → can_look_up (z.has f) c m ≡ true → LooksUpThere place c m ((z.has f).lookup.has_hijacked c)
+      looked_here f c m l = let d = can.looked f c m l in record {
+        objects = λ o made below. let k = finds_along o m (chain_of z.classes o) (d.objects made.file o made.made below) in record { at = k.at; above = k.above; lookup = k.lookup; its = k.its; code = k.code; distinct = d.distinct };
+        kinds = kinds_run c m ((z.has f).lookup.has_hijacked c) d.kinds;
+      }
+
+      -- none of these classes has an entry of the name
+      none_along : (m : MethodName) (cs : List Name) → NoEntryDeclared z m cs → method_on z.program (map (link_of place) cs) (entry_name m) ≡ None
+      none_along m _ declared.none_left = refl
+      none_along m _ (declared.none_here c cs superclass ms h e rest) = ap (λ (o : Option js_meaning.Code). if is_some o then Some (js.method (link_of place c ∷ map (link_of place) cs) (entry_name m)) else method_on z.program (map (link_of place) cs) (entry_name m)) (class_method c superclass ms h (entry_name m) ∙ e) ∙ none_along m cs rest
+
+      -- the first has one, which hands on to the entry of the method
+      record ProxyAlong (m t : MethodName) (cs : List Name) : Type 0 where
+        at : Name
+        above : List js.ClassLink
+        lookup : method_on z.program (map (link_of place) cs) (entry_name m) ≡ Some (js.method (link_of place at ∷ above) (entry_name m))
+        code : method_code z.program (link_of place at) (entry_name m) ≡ Some (proxy_code t (parameters_of m))
+        boxes : is_char_result t.result ≡ true → ReachesBoxes place (z.home (a_class at))
+
+      proxy_along : (m t : MethodName) (cs : List Name) → ProxyDeclared z m t cs → ProxyAlong m t cs
+      proxy_along m t _ (declared.proxy_here c cs superclass ms h e uses) =
+          let code = class_method c superclass ms h (entry_name m) ∙ e in
+          record {
+            at = c;
+            above = map (link_of place) cs;
+            lookup = ap (λ (o : Option js_meaning.Code). if is_some o then Some (js.method (link_of place c ∷ map (link_of place) cs) (entry_name m)) else method_on z.program (map (link_of place) cs) (entry_name m)) code;
+            code = code;
+            boxes = λ q. boxes_here (z.home (a_class c)) (uses q);
+          }
+
+      answers_here : (d : Name) (m : MethodName) → are_distinct (parameters_of m) ≡ true → AnswerDeclared z d m → ObjectAnswers place d m
+      answers_here d m distinct (declared.no_answer none entries) = no_entry none (none_along m (chain_of z.classes d) entries)
+      answers_here d m distinct (declared.has_answer t e params proxy entry) =
+          let h = proxy_along m t.name (chain_of z.classes d) proxy in
+          let k = finds_along d t.name (chain_of z.classes d) entry in
+          has_entry t e params (record { at = h.at; above = h.above; lookup = h.lookup; code = h.code; boxes = h.boxes }) (record { at = k.at; above = k.above; lookup = k.lookup; its = k.its; code = k.code; distinct = subst (λ (rs : List TypeRef). are_distinct (first_parameters (length rs)) ≡ true) (sym params) distinct })
+
+      reflected_runs : (m : MethodName) (t : Reflected) → ReflectedDeclared z m t → ReflectedRuns place m t
+      reflected_runs m t d = record { told = d.told; test = reaches_test (z.home (a_reflection m)) t.kind d.test; definition = d.definition; proxy = d.proxy; method_is = d.method_is; params = d.params; its = target_runs (a_reflection m) (kind_class t.kind) t.method d.its; owner_is = d.owner_is; boxes = λ e. boxes_here (z.home (a_reflection m)) (d.boxes e) }
+
+      kind_answers : (m : MethodName) (cases : List Reflected) (k : Kind) → ReflectedKind z m cases k → KindAnswers place m cases k
+      kind_answers m cases k (declared.no_case none) = no_case none
+      kind_answers m cases k (declared.has_case c) = has_case c
+
+      -- objects that hold chars have no entries
+      box_bare : (m : MethodName) → BoxesDeclared z → method_on z.program (box_link place ∷ []) (entry_name m) ≡ None
+      box_bare m boxes = ap (λ (o : Option js_meaning.Code). if is_some o then Some (js.method (box_link place ∷ []) (entry_name m)) else None) (boxes.bare m)
+
+      -- what can be called by a reflective name by what the code of a file can use
+      reflected_here : (f : Name) (m : MethodName) → (z.has f).reflected m ≡ true → ReflectionStands place m
+      reflected_here f m l =
+          let d = can.reflected f m l in
+          let code = reflective_code m (units_of (spelled_method m)) d.cases in
+          let g = z.home (a_helper (helpers.Throws Method)) in
+          let entries = (and_parts (not (is_among (parameters_of m) (codes "x"))) (are_distinct (parameters_of m)) d.distinct).1 in
+          record {
+            cases = d.cases;
+            code = function_there (z.home (a_reflection m)) (reflective_name m) code.parameters code.body d.function;
+            distinct = d.distinct;
+            entries = entries;
+            runs = λ t i. reflected_runs m t (d.runs t i);
+            each = λ k told. kind_answers m d.cases k (d.each k told);
+            objects = λ o made. answers_here o m entries (d.objects made.file o made.made);
+            boxless = box_bare m d.boxes;
+            throws = record {
+              failure = function_there g (helper_name (helpers.Throws Method)) (helper_code (helpers.Throws Method)).parameters (helper_code (helpers.Throws Method)).body (helper_there (z.home (a_reflection m)) (helpers.Throws Method) d.thrower);
+              owned = reaches (z.home (a_reflection m)) (a_helper (helpers.Throws Method)) d.thrower;
+              user = z.home (a_reflection m);
+              usable = d.thrower;
+              reaches = reaches g;
+              built = d.built;
+              made = d.made;
+            };
+          }
+
       compared_here : (f : Name) → compares (z.has f) ≡ true → CanCompare place
       compared_here f l = let g = z.home (a_helper helpers.Equal) in record {
         equality = function_there g (helper_name helpers.Equal) (helper_code helpers.Equal).parameters (helper_code helpers.Equal).body (helper_there f helpers.Equal l);
@@ -337,7 +477,7 @@ module _ (z : Spread) where
       target_here f m l = let same = (laws.among f).targets m in subst (IsTargetOf z.classes m) same (laws.objects.targets m (subst (λ (o : MemberName). all.received o ≡ true) (sym same) ((laws.among f).tops (a_method ((z.has f).lookup.target m)) l)))
 
       pub has_objects : HasObjects place
-      has_objects = record { linked = linked_here; received = runs_here; targets = target_here; built = constructs_here; made = made_here; objects = object_here; field = field_here; statics = static_here; checked = check_here; divided = divided_here; boxes = box_here; tested = tested_here; cast = cast_here; compared = compared_here; each = omega arith; beyond = omega arith }
+      has_objects = record { linked = linked_here; received = runs_here; targets = target_here; looked = looked_here; reflected = reflected_here; built = constructs_here; made = made_here; lives = can.made; objects = object_here; field = field_here; statics = static_here; checked = check_here; divided = divided_here; boxes = box_here; tested = tested_here; cast = cast_here; compared = compared_here; each = omega arith; beyond = omega arith }
 
     -- the state behind the declarations
     module _ (t : js.State) (hold : AllHold z.program t 0 (all_items z)) (made : (a : ℕ) (y : js.Stored) → slice_get t.heap a ≡ Some y → OfPlaced (all_items z) y) where
@@ -346,7 +486,7 @@ module _ (z : Spread) where
 
       -- nothing is made, and what stands on the heap is the emitted code's own
       abbrev pub begun : World
-      begun = record { place = λ i. None; owned = λ a. slice_get t.heap a; pending = λ a. None; boxes = box_link place ∷ [] }
+      begun = record { place = λ i. None; classes = λ i. None; owned = λ a. slice_get t.heap a; pending = λ a. None; boxes = box_link place ∷ [] }
 
       none_there : {A : Type 0} (o : A) → None ≡ Some o → ⊥
       none_there o e = cc
@@ -361,7 +501,8 @@ module _ (z : Spread) where
         unborn = λ i a o e g. none_there a e;
         separate = λ a o b e g. none_there b g;
         marked = λ a constants e. marks_ancestors z.classes (all_items z) can.marked constants (made a (js.plain [] constants) e);
-        free = λ i a e. absurd (none_there a e);
+        free = λ i c e. absurd (none_there c e);
+        made = λ i c e. absurd (none_there c e);
         boxes = refl;
       }
 
@@ -414,9 +555,11 @@ module _ (z : Spread) where
       top_held : (f : Name) (x : Top) → is_usable (z.has f) x ≡ true → TopHolds place begun.owned x (t.tops (z.home x) (top_name x))
       top_held f (a_function m) l = let d = can.linked f m l in (held_in (z.home (a_function m)) (member_item d) d.function).1
       top_held f (a_method m) l = let d = can.received f m l in (held_in (z.home (a_method m)) (member_item d) d.function).1
+      top_held f (a_dispatch m) l = let d = can.dispatched f m l in (held_in (z.home (a_dispatch m)) (dispatch_item m d.cases) d.function).1
+      top_held f (a_reflection m) l = let d = can.reflected f m l in (held_in (z.home (a_reflection m)) (reflective_item m (units_of (spelled_method m)) d.cases) d.function).1
       top_held f (a_constructor m) l = let d = (can.built f m l).0 in (held_in (z.home (a_constructor m)) (member_item d) d.function).1
-      top_held f (a_class c) l = let k = can.made f c l in class_held c k.above k.classes ∙ ap (λ cs. js.holds false (js.class (map (link_of place) cs))) (sym k.chain)
-      top_held f (some_constants c) l = let k = can.made f c l in first_constants c k.above k.classes
+      top_held f (a_class c) l = let k = can.live f c l in class_held c k.above k.classes ∙ ap (λ cs. js.holds false (js.class (map (link_of place) cs))) (sym k.chain)
+      top_held f (some_constants c) l = let k = can.live f c l in first_constants c k.above k.classes
       top_held f (a_static c g k) l = tt
       top_held f (a_setter c g k) l = let its = can.static_field f c g k (set_static (z.has f) c g k l) in (held_in (z.home (a_setter c g k)) (setter (setter_name c g) (static_name c g)) (subst (λ n. Stands z (a_setter c g k) (setter (setter_name c n) (static_name c n))) its.field.named its.setter)).1
       top_held f (a_test k) l = test_held f k (can.tests f k l)

@@ -14,7 +14,7 @@ use Rattle.body_soundness.specs.Laws.{null_pointer, arithmetic}
 use Rattle.body_soundness.specs.Rules.{RightMember}
 use Rattle.body_soundness.specs.Worked.{class_name, field_name, init_name, get_name, init_method, get_method, main_method, gets, gets_field, its_field, object_world, main_member, object_use}
 use Rattle.body_soundness.specs.Worked as worked
-use Rattle.built_forms.specs.Built.{Usable, has_static, members_alone, divides}
+use Rattle.built_forms.specs.Built.{Usable, has_static, members_alone, divides, can_look_up}
 use Rattle.file_declarations.specs.Declared.{alone, on_receiver, completing, is_covered, FieldsAreKept}
 use Rattle.file_tops.proofs.Run.{some_same}
 use Rattle.helper_rules.specs.Helpers.{helper_name, helper_item, used_helpers, constants}
@@ -34,9 +34,10 @@ use Rattle.sj_emit_expr.specs.Templates.{check_name}
 use Rattle.sj_names.proofs.Same.{impossible}
 use Rattle.sj_names.specs.Grammar.{is_class_name, is_plain_name}
 use Rattle.sj_names.specs.declared.entry_points.EntryPoint.{EntryPoint}
+use Rattle.sj_names.specs.declared.method_names.MethodName.{MethodName}
 use Rattle.sj_names.specs.declared.method_names.Member.{Member}
 use Rattle.sj_names.specs.declared.method_names.Namespace.TheVariants.{Private, Constructor}
-use Rattle.file_declarations.specs.Settings.{Top, a_function, a_method, a_constructor, a_class, some_constants, a_static, a_setter, a_test, a_cast, a_helper, is_named, is_usable, IsField}
+use Rattle.file_declarations.specs.Settings.{Top, a_function, a_method, a_constructor, a_dispatch, a_reflection, a_class, some_constants, a_static, a_setter, a_test, a_cast, a_helper, is_named, is_usable, IsField}
 use Rattle.body_soundness.specs.Emitted.{initializer_member}
 use Rattle.body_soundness.specs.Methods.{KeepsRules}
 use Rattle.sj_trees.specs.Term.{skip}
@@ -49,7 +50,7 @@ use Rattle.sj_world.specs.Known.{is_same}
 use Rattle.sj_world.specs.Subtypes.{equal}
 use Rattle.sj_world.specs.Tables.{AreAncestors}
 use Rattle.typing_rules.specs.Rules.{nothing_wanted, fitting, HasFieldType}
-use Rattle.declared_files.specs.Declared.{Leads, Stands, Uses, FunctionDeclared, ClassDeclared, extends_none, extends_one, MadeDeclared, StaticDeclared, Declared, IsAmong, IsPublic, IsLawful, all_items, TestDeclared, CastDeclared, AreConstants}
+use Rattle.declared_files.specs.Declared.{Leads, Stands, Makes, Uses, FunctionDeclared, ClassDeclared, extends_none, extends_one, MadeDeclared, StaticDeclared, LookupDeclared, TellsApart, ReflectionDeclared, Declared, IsAmong, IsPublic, IsLawful, all_items, TestDeclared, CastDeclared, AreConstants}
 use Rattle.declared_files.specs.Placed.{Placed, placed}
 use Rattle.declared_files.specs.Worked.{object_constants, object_class, its_constants, its_class, init_function, get_function, main_function, main_file, class_file, object_file, main_use, class_use, use_of, three_files, spread}
 use Rattle.declared_files.proofs.Whole.{files_agree}
@@ -70,6 +71,8 @@ by_file P main class none f = go (is_same_text f main_file) refl (is_same_text f
 main_leads : (t : Top) → is_named main_use t ≡ true → Leads spread main_file t
 main_leads (a_function m) h = subst (λ k. Leads spread main_file (a_function k)) (sym (member-same m main_member h)) refl
 main_leads (a_method m) h = subst (λ k. Leads spread main_file (a_method k)) (sym (member-same m (member class_name Private get_name) h)) refl
+main_leads (a_dispatch m) h = impossible h
+main_leads (a_reflection m) h = impossible h
 main_leads (a_constructor m) h = subst (λ k. Leads spread main_file (a_constructor k)) (sym (member-same m (member class_name Constructor init_name) h)) refl
 main_leads (a_class c) h = subst (λ k. Leads spread main_file (a_class k)) (is-equal class_name c h) refl
 main_leads (some_constants c) h = impossible h
@@ -82,6 +85,8 @@ main_leads (a_helper k) h = impossible h
 class_leads : (t : Top) → is_named class_use t ≡ true → Leads spread class_file t
 class_leads (a_function m) h = impossible h
 class_leads (a_method m) h = impossible h
+class_leads (a_dispatch m) h = impossible h
+class_leads (a_reflection m) h = impossible h
 class_leads (a_constructor m) h = impossible h
 class_leads (a_class c) h = subst (λ k. Leads spread class_file (a_class k)) (is-equal object_name c h) refl
 class_leads (some_constants c) h = impossible h
@@ -94,6 +99,8 @@ class_leads (a_helper k) h = impossible h
 nothing_leads : (f : Name) (t : Top) → is_named nothing t ≡ true → Leads spread f t
 nothing_leads f (a_function m) h = impossible h
 nothing_leads f (a_method m) h = impossible h
+nothing_leads f (a_dispatch m) h = impossible h
+nothing_leads f (a_reflection m) h = impossible h
 nothing_leads f (a_constructor m) h = impossible h
 nothing_leads f (a_class c) h = impossible h
 nothing_leads f (some_constants c) h = impossible h
@@ -155,7 +162,7 @@ Completes m = (b : FunctionDeclared spread (a_constructor m) completing m) × (b
 object_declared : ClassDeclared spread object_name None
 object_declared = record {
   user = class_file;
-  made = refl;
+  there = refl;
   definition = object_with (main_method ∷ []);
   found = refl;
   fields = [];
@@ -176,7 +183,7 @@ own_field f h = ⊎_elim (λ same. same) (λ none. nothing_in f none) (in_front_
 its_declared : ClassDeclared spread class_name (Some object_name)
 its_declared = record {
   user = main_file;
-  made = refl;
+  there = refl;
   definition = worked.its_class;
   found = refl;
   fields = its_field ∷ [];
@@ -290,8 +297,12 @@ all_declared = record {
   leads = by_file (λ f u. (t : Top) → is_named u t ≡ true → Leads spread f t) main_leads class_leads nothing_leads;
   linked = by_file (λ f u. (m : Member) → u.linked m ≡ true → FunctionDeclared spread (a_function m) alone m) (λ m h. subst (λ k. FunctionDeclared spread (a_function k) alone k) (sym (member-same m main_member h)) main_declared) (λ m h. impossible h) (λ f m h. impossible h);
   received = by_file (λ f u. (m : Member) → u.received m ≡ true → FunctionDeclared spread (a_method m) on_receiver m) (λ m h. subst (λ k. FunctionDeclared spread (a_method k) on_receiver k) (sym (member-same m (member class_name Private get_name) h)) get_declared) (λ m h. impossible h) (λ f m h. impossible h);
+  looked = by_file (λ f u. (c : Name) (m : MethodName) → can_look_up u c m ≡ true → LookupDeclared spread c m (u.lookup.has_hijacked c)) (λ c m h. impossible h) (λ c m h. impossible h) (λ f c m h. impossible h);
+  reflected = by_file (λ f u. (m : MethodName) → u.reflected m ≡ true → ReflectionDeclared spread m) (λ m h. impossible h) (λ m h. impossible h) (λ f m h. impossible h);
+  dispatched = by_file (λ f u. (m : MethodName) → u.dispatched m ≡ true → TellsApart spread m) (λ m h. impossible h) (λ m h. impossible h) (λ f m h. impossible h);
   built = by_file (λ f u. (m : Member) → u.built m ≡ true → Completes m) (λ m h. subst Completes (sym (member-same m (member class_name Constructor init_name) h)) (init_declared, refl)) (λ m h. impossible h) (λ f m h. impossible h);
-  made = by_file (λ f u. (c : Name) → u.made c ≡ true → MadeDeclared spread c) (λ c h. main_makes c (is-equal class_name c h)) (λ c h. class_makes c (is-equal object_name c h)) (λ f c h. impossible h);
+  live = by_file (λ f u. (c : Name) → u.live c ≡ true → MadeDeclared spread c) (λ c h. main_makes c (is-equal class_name c h)) (λ c h. class_makes c (is-equal object_name c h)) (λ f c h. impossible h);
+  made = by_file (λ f u. (c : Name) → u.made c ≡ true → u.live c ≡ true) (λ c h. h) (λ c h. h) (λ f c h. impossible h);
   field = by_file (λ f u. (c g : Name) (t : IrType) → u.field c g t ≡ true → IsField object_world c g t) (λ c g t h. impossible h) (λ c g t h. field_declared c g t (field_is c g t h)) (λ f c g t h. impossible h);
   static_field = by_file (λ f u. (c g : Name) (t : IrType) → has_static u c g t ≡ true → StaticDeclared spread c g t) (λ c g t h. impossible h) (λ c g t h. impossible h) (λ f c g t h. impossible h);
   tests = by_file (λ f u. (t : IrType) → u.tests t ≡ true → TestDeclared spread f t) (λ t h. impossible h) (λ t h. impossible h) (λ f t h. impossible h);
@@ -301,17 +312,19 @@ all_declared = record {
   ancestors = λ k. [];
   helper = by_file (λ f u. (h : Helper) → u.helper (helper_name h) ≡ true → (is_covered h ≡ true) × Stands spread (a_helper h) (helper_item (λ k. []) h)) (λ h l. impossible l) (λ h l. impossible l) (λ f h l. impossible l);
   helpers = by_file (λ f u. (h k : Helper) → u.helper (helper_name h) ≡ true → Contains (used_helpers h) k → Uses spread (a_helper h) (a_helper k)) (λ h k l c. impossible l) (λ h k l c. impossible l) (λ f h k l c. impossible l);
-  exceptions = by_file (λ f u. u.helper check_name ≡ true → Uses spread (a_helper (Throws NullReceiver)) (a_class null_pointer) × Uses spread (a_helper (Throws NullReceiver)) (a_constructor (member null_pointer Constructor with_message))) (λ h. impossible h) (λ h. impossible h) (λ f h. impossible h);
-  divisions = by_file (λ f u. (o : BinaryOp) → divides u o ≡ true → Uses spread (a_helper (Throws Division)) (a_class arithmetic) × Uses spread (a_helper (Throws Division)) (a_constructor (member arithmetic Constructor with_message))) (λ o h. no_division main_use (λ x. refl) o h) (λ o h. no_division class_use (λ x. refl) o h) (λ f o h. no_division nothing (λ x. refl) o h);
+  exceptions = by_file (λ f u. u.helper check_name ≡ true → Makes spread (a_helper (Throws NullReceiver)) null_pointer × Uses spread (a_helper (Throws NullReceiver)) (a_constructor (member null_pointer Constructor with_message))) (λ h. impossible h) (λ h. impossible h) (λ f h. impossible h);
+  divisions = by_file (λ f u. (o : BinaryOp) → divides u o ≡ true → Makes spread (a_helper (Throws Division)) arithmetic × Uses spread (a_helper (Throws Division)) (a_constructor (member arithmetic Constructor with_message))) (λ o h. no_division main_use (λ x. refl) o h) (λ o h. no_division class_use (λ x. refl) o h) (λ f o h. no_division nothing (λ x. refl) o h);
 }
 
 -- what each file can use can be used of the classes
 main_among : (t : Top) → is_usable main_use t ≡ true → is_usable object_use t ≡ true
 main_among (a_function m) h = h
 main_among (a_method m) h = h
+main_among (a_dispatch m) h = impossible h
+main_among (a_reflection m) h = impossible h
 main_among (a_constructor m) h = h
-main_among (a_class c) h = subst (λ k. object_use.made k ≡ true) (is-equal class_name c h) refl
-main_among (some_constants c) h = subst (λ k. object_use.made k ≡ true) (is-equal class_name c h) refl
+main_among (a_class c) h = subst (λ k. object_use.live k ≡ true) (is-equal class_name c h) refl
+main_among (some_constants c) h = subst (λ k. object_use.live k ≡ true) (is-equal class_name c h) refl
 main_among (a_static c g t) h = impossible h
 main_among (a_setter c g t) h = impossible h
 main_among (a_test t) h = impossible h
@@ -321,9 +334,11 @@ main_among (a_helper k) h = impossible h
 class_among : (t : Top) → is_usable class_use t ≡ true → is_usable object_use t ≡ true
 class_among (a_function m) h = impossible h
 class_among (a_method m) h = impossible h
+class_among (a_dispatch m) h = impossible h
+class_among (a_reflection m) h = impossible h
 class_among (a_constructor m) h = impossible h
-class_among (a_class c) h = subst (λ k. object_use.made k ≡ true) (is-equal object_name c h) refl
-class_among (some_constants c) h = subst (λ k. object_use.made k ≡ true) (is-equal object_name c h) refl
+class_among (a_class c) h = subst (λ k. object_use.live k ≡ true) (is-equal object_name c h) refl
+class_among (some_constants c) h = subst (λ k. object_use.live k ≡ true) (is-equal object_name c h) refl
 class_among (a_static c g t) h = impossible h
 class_among (a_setter c g t) h = impossible h
 class_among (a_test t) h = impossible h
@@ -333,6 +348,8 @@ class_among (a_helper k) h = impossible h
 none_among : (t : Top) → is_usable nothing t ≡ true → is_usable object_use t ≡ true
 none_among (a_function m) h = impossible h
 none_among (a_method m) h = impossible h
+none_among (a_dispatch m) h = impossible h
+none_among (a_reflection m) h = impossible h
 none_among (a_constructor m) h = impossible h
 none_among (a_class c) h = impossible h
 none_among (some_constants c) h = impossible h
@@ -344,7 +361,7 @@ none_among (a_helper k) h = impossible h
 
 pub lawful : IsLawful spread object_use
 lawful = record {
-  among = by_file (λ f u. IsAmong u object_use) (record { tops = main_among; fields = λ c g t h. impossible h; targets = λ m. refl }) (record { tops = class_among; fields = λ c g t h. h; targets = λ m. refl }) (λ f. record { tops = none_among; fields = λ c g t h. impossible h; targets = λ m. refl });
+  among = by_file (λ f u. IsAmong u object_use) (record { tops = main_among; made = λ c h. subst (λ k. object_use.made k ≡ true) (is-equal class_name c h) refl; fields = λ c g t h. impossible h; targets = λ m. refl }) (record { tops = class_among; made = λ c h. subst (λ k. object_use.made k ≡ true) (is-equal object_name c h) refl; fields = λ c g t h. h; targets = λ m. refl }) (λ f. record { tops = none_among; made = λ c h. impossible h; fields = λ c g t h. impossible h; targets = λ m. refl });
   objects = object_laws;
   linked = λ m h. subst (RightMember object_world object_use) (sym (member-same m main_member h)) main_right_at_all;
 }

@@ -1,38 +1,50 @@
 -- What the code of bodies can use in a world, as the items of several files declare it.
-use Rattle.std.specs.Prelude.{◌≡◌, ℕ, true, false, List, [], ◌∷◌, ◌++◌, map, Option, Some, None, codes}
+use Rattle.std.specs.Prelude.{◌≡◌, ℕ, Bool, true, false, List, [], ◌∷◌, ◌++◌, map, Option, Some, None, codes}
 use Rattle.std.specs.List.{Contains, list_all}
 use Rattle.body_soundness.specs.Laws.{ObjectLaws, null_pointer, arithmetic, class_cast}
 use Rattle.body_soundness.specs.Rules.{RightMember}
-use Rattle.built_forms.specs.Built.{Usable, has_static, divides}
+use Rattle.body_soundness.specs.Targets.{IsTargetOf}
+use Rattle.built_forms.specs.Built.{Usable, has_static, divides, can_look_up}
 use Rattle.file_declarations.specs.Declared.{Running, alone, on_receiver, completing, running, is_covered, FieldsAreKept}
 use Rattle.helper_rules.specs.Helpers.{Above, helper_name, helper_item, used_helpers, constants}
-use Rattle.helper_rules.specs.Words.{marker, kind_class, worded_kinds}
-use Rattle.helper_rules.specs.declared.kinds.Failure.TheVariants.{NullReceiver, Division, Cast}
+use Rattle.helper_rules.specs.Words.{marker, kind_class, worded_kinds, entry_name, parameters_of, units_of}
+use Rattle.helper_rules.specs.declared.kinds.Failure.TheVariants.{NullReceiver, Division, Cast, Method}
 use Rattle.helper_rules.specs.declared.kinds.Helper.{Helper}
 use Rattle.helper_rules.specs.declared.kinds.Kind.{Kind}
 use Rattle.file_declarations.specs.Helpers.{kind_of}
-use Rattle.helper_rules.specs.declared.kinds.Helper.TheVariants.{Throws, TestOf, CastTo}
-use Rattle.ir_mean.specs.Dispatch.{chain_of}
-use Rattle.ir_mean.specs.Meaning.{with_message}
+use Rattle.helper_rules.specs.declared.kinds.Helper.TheVariants.{BoxedChar, Throws, TestOf, CastTo}
+use Rattle.ir_mean.specs.Dispatch.{chain_of, is_ancestor, proxy_target}
+use Rattle.ir_mean.specs.Meaning.{with_message, no_such_method}
 use Rattle.ir_mean.specs.World.{World, class_of}
+use Rattle.js_mean.specs.Classes.{method_among, method_in, members_of}
+use Rattle.js_mean.specs.Proper.{are_distinct}
 use Rattle.js_mean.specs.Files.{module_among, items_in, is_good_file, owner, running_order}
 use Rattle.js_mean.specs.Shows.{class_marked, file_of}
 use Rattle.js_mean.specs.States.{Program}
 use Rattle.js_tree.specs.Terms.{Name, Property, Item, object_item, Member, constructor_of}
 use Rattle.js_tree.specs.Views.{statements_of}
+use Rattle.file_declarations.specs.Bridges.{bridge}
 use Rattle.file_declarations.specs.Classes.{AreInstances}
-use Rattle.file_declarations.specs.Pieces.{constants_piece, class_item_of, constructor_body, variable_piece, setter_piece, test_piece, cast_piece}
+use Rattle.file_declarations.specs.ClassTestsKinds.{is_told}
+use Rattle.file_declarations.specs.Dispatch.{Told, dispatch_item, Reflected, reflective_item}
+use Rattle.file_declarations.specs.Looked.{HasCase}
+use Rattle.file_declarations.specs.Reflected.{HasReflected}
+use Rattle.file_declarations.specs.Reflecting.{proxy_code}
+use Rattle.file_declarations.specs.Pieces.{is_char as is_char_result, constants_piece, class_item_of, constructor_body, variable_piece, setter_piece, test_piece, cast_piece}
 use Rattle.sj_desugar.specs.Desugar.{desugared_member, member}
 use Rattle.sj_emit_expr.specs.Members.{member_piece}
-use Rattle.sj_emit_expr.specs.Templates.{check_name}
+use Rattle.sj_emit_expr.specs.Templates.{check_name, member_name}
+use Rattle.sj_names.specs.MethodNames.{spelled_method}
 use Rattle.sj_names.specs.Same.{is_same_text}
 use Rattle.sj_names.specs.declared.entry_points.EntryPoint.{EntryPoint}
 use Rattle.sj_names.specs.declared.method_names.Member.{Member as MemberName}
-use Rattle.sj_names.specs.declared.method_names.Namespace.TheVariants.{Constructor}
-use Rattle.file_declarations.specs.Settings.{Top, a_function, a_method, a_constructor, a_class, some_constants, a_static, a_setter, a_test, a_cast, a_helper, top_name, is_usable, is_named, IsField, IsStaticField}
+use Rattle.sj_names.specs.declared.method_names.MethodName.{MethodName}
+use Rattle.sj_names.specs.declared.method_names.Namespace.TheVariants.{Public, Constructor}
+use Rattle.file_declarations.specs.Settings.{Top, a_function, a_method, a_constructor, a_dispatch, a_reflection, a_class, some_constants, a_static, a_setter, a_test, a_cast, a_helper, top_name, is_usable, is_named, IsField, IsStaticField}
 use Rattle.body_soundness.specs.Emitted.{initializer_member, call_item_of}
 use Rattle.sj_trees.specs.declared.classes.ClassDef.{ClassDef}
 use Rattle.sj_trees.specs.declared.classes.FieldDef.{FieldDef}
+use Rattle.sj_trees.specs.declared.classes.MethodDef.{MethodDef}
 use Rattle.sj_trees.specs.declared.operators.BinaryOp.{BinaryOp}
 use Rattle.sj_trees.specs.declared.types.IrType.{IrType}
 use Rattle.sj_trees.specs.declared.types.IrType.TheVariants.{NoType, Class}
@@ -62,6 +74,10 @@ Leads z f t = owner z.program f (top_name t) ≡ Some (z.home t)
 abbrev pub Uses : Spread → Top → Top → Type 0
 Uses z t u = is_usable (z.has (z.home t)) u ≡ true
 
+-- the code of the file of the binding can make objects of the class
+abbrev pub Makes : Spread → Top → Name → Type 0
+Makes z t c = (z.has (z.home t)).made c ≡ true
+
 -- the item stands in the file of the binding
 abbrev pub Stands : Spread → Top → Item → Type 0
 Stands z t i = Contains (all_items z) (placed (z.home t) i)
@@ -72,11 +88,11 @@ pub record FunctionDeclared (z : Spread) (t : Top) (r : Running) (m : MemberName
   pub runs : running right.definition.namespace ≡ r
   pub function : Stands z t (member_piece (z.has (z.home t)).lookup m (desugared_member right.definition right.its_body)).item
 
--- a class whose objects the code of some file can make, its constants, to which its file leads, and its class with the constructor of its own fields, which extends
+-- a class that the code of some file has, its constants, to which its file leads, and its class with the constructor of its own fields, which extends
 -- this one, if there is one
 pub record ClassDeclared (z : Spread) (c : Name) (superclass : Option Name) : Type 0 where
   pub user : Name
-  pub made : (z.has user).made c ≡ true
+  pub there : (z.has user).live c ≡ true
   pub definition : ClassDef
   pub found : class_of z.classes c ≡ Some definition
   pub fields : List FieldDef
@@ -128,7 +144,7 @@ pub data TestDeclared (z : Spread) (f : Name) : IrType → Type 0 where
 
 -- the file of what a cast throws can use the exception
 pub record CastThrows (z : Spread) : Type 0 where
-  pub made : Uses z (a_helper (Throws Cast)) (a_class class_cast)
+  pub made : Makes z (a_helper (Throws Cast)) class_cast
   pub built : Uses z (a_helper (Throws Cast)) (a_constructor (member class_cast Constructor with_message))
 
 -- a primitive type to which the code of this file can cast: the cast is the helper of its kind
@@ -152,6 +168,99 @@ pub data CastDeclared (z : Spread) (f : Name) : IrType → Type 0 where
   to_kind : (t : IrType) → KindCastDeclared z f t → CastDeclared z f t
   to_class : (c : Name) → ClassCastDeclared z c → CastDeclared z f (Class c)
 
+-- what a call of the method runs on a value of the class: its target, whose function the code of the file of the binding can use
+pub record TargetDeclared (z : Spread) (t : Top) (c : Name) (m : MethodName) : Type 0 where
+  pub owner : Name
+  pub target : IsTargetOf z.classes (member c Public m) (member owner Public m)
+  pub uses : Uses z t (a_method (member owner Public m))
+
+-- the first of these classes that has an entry of the method hands it on to the function of the target for an object of this class
+pub data EntryDeclared (z : Spread) (d : Name) (m : MethodName) : List Name → Type 0 where
+  has_entry : (c : Name) (cs : List Name) (superclass : Option Name) (members : List Member) → Stands z (a_class c) (class_item_of c superclass members) → (its : TargetDeclared z (a_class c) d m) → method_among members (entry_name m) ≡ Some (bridge (member_name (member its.owner Public m)) (parameters_of m)) → EntryDeclared z d m (c ∷ cs)
+  has_none : (c : Name) (cs : List Name) (superclass : Option Name) (members : List Member) → Stands z (a_class c) (class_item_of c superclass members) → method_among members (entry_name m) ≡ None → EntryDeclared z d m cs → EntryDeclared z d m (c ∷ cs)
+
+-- a case of the function that tells primitive receivers apart: its file can use the test of the kind, and the function of the target for the class of the kind
+pub record CaseDeclared (z : Spread) (m : MethodName) (t : Told) : Type 0 where
+  pub told : is_told t.kind ≡ true
+  pub test : Uses z (a_dispatch m) (a_helper (TestOf t.kind))
+  pub its : TargetDeclared z (a_dispatch m) (kind_class t.kind) m
+  pub owner_is : its.owner ≡ t.owner
+
+-- the function, with a case for each kind whose class is at or below this one, of which there are some
+pub record DispatchDeclared (z : Spread) (c : Name) (m : MethodName) : Type 0 where
+  pub first : Told
+  pub others : List Told
+  pub function : Stands z (a_dispatch m) (dispatch_item m (first ∷ others))
+  pub distinct : are_distinct (codes "x" ∷ parameters_of m) ≡ true
+  pub runs : (t : Told) → Contains (first ∷ others) t → CaseDeclared z m t
+  pub each : (k : Kind) → is_told k ≡ true → is_ancestor z.classes (kind_class k) c ≡ true → HasCase (first ∷ others) k
+
+-- by whether a hijacked class stands at or below this one
+pub data KindsDeclared (z : Spread) (c : Name) (m : MethodName) : Bool → Type 0 where
+  no_kinds : ((h : Name) → is_hijacked h ≡ true → is_ancestor z.classes h c ≡ false) → KindsDeclared z c m false
+  some_kinds : DispatchDeclared z c m → KindsDeclared z c m true
+
+-- a method that can be looked up on the instances of the class: each object of which the code of some file makes finds it, and so does each primitive value
+pub record LookupDeclared (z : Spread) (c : Name) (m : MethodName) (hijacked : Bool) : Type 0 where
+  pub objects : (f d : Name) → (z.has f).made d ≡ true → is_ancestor z.classes d c ≡ true → EntryDeclared z d m (chain_of z.classes d)
+  pub distinct : are_distinct (parameters_of m) ≡ true
+  pub kinds : KindsDeclared z c m hijacked
+
+-- the function that tells the primitive receivers of a method apart, with these cases
+pub record TellsApart (z : Spread) (m : MethodName) : Type 0 where
+  pub cases : List Told
+  pub function : Stands z (a_dispatch m) (dispatch_item m cases)
+
+-- a case of the function by which receivers are called under a reflective name: its file can use the test of the kind, the function of the target of the method that the class of the kind has
+-- under the name, and for a char the class of objects that hold them
+pub record ReflectedDeclared (z : Spread) (m : MethodName) (t : Reflected) : Type 0 where
+  pub told : is_told t.kind ≡ true
+  pub test : Uses z (a_reflection m) (a_helper (TestOf t.kind))
+  pub definition : MethodDef
+  pub proxy : proxy_target z.classes (kind_class t.kind) m ≡ Some definition
+  pub method_is : t.method ≡ definition.name
+  pub params : t.method.params ≡ m.params
+  pub its : TargetDeclared z (a_reflection m) (kind_class t.kind) t.method
+  pub owner_is : its.owner ≡ t.owner
+  pub boxes : is_char_result t.method.result ≡ true → Uses z (a_reflection m) (a_helper BoxedChar)
+
+-- a kind whose class has no method of the name, or one that has a case
+pub data ReflectedKind (z : Spread) (m : MethodName) (cases : List Reflected) (k : Kind) : Type 0 where
+  no_case : proxy_target z.classes (kind_class k) m ≡ None → ReflectedKind z m cases k
+  has_case : HasReflected cases k → ReflectedKind z m cases k
+
+-- none of these classes has an entry of the name
+pub data NoEntryDeclared (z : Spread) (m : MethodName) : List Name → Type 0 where
+  none_left : NoEntryDeclared z m []
+  none_here : (c : Name) (cs : List Name) (superclass : Option Name) (members : List Member) → Stands z (a_class c) (class_item_of c superclass members) → method_among members (entry_name m) ≡ None → NoEntryDeclared z m cs → NoEntryDeclared z m (c ∷ cs)
+
+-- the first of these classes has an entry of the name, which hands on to the entry of this method; for a char its file can use the class of objects that hold them
+pub data ProxyDeclared (z : Spread) (m t : MethodName) : List Name → Type 0 where
+  proxy_here : (c : Name) (cs : List Name) (superclass : Option Name) (members : List Member) → Stands z (a_class c) (class_item_of c superclass members) → method_among members (entry_name m) ≡ Some (proxy_code t (parameters_of m)) → (is_char_result t.result ≡ true → Uses z (a_class c) (a_helper BoxedChar)) → ProxyDeclared z m t (c ∷ cs)
+
+-- an object of the class has no method of the name, and no entry; or it has one, of the same parameters, to whose entry its entry of the name hands on
+pub data AnswerDeclared (z : Spread) (d : Name) (m : MethodName) : Type 0 where
+  no_answer : proxy_target z.classes d m ≡ None → NoEntryDeclared z m (chain_of z.classes d) → AnswerDeclared z d m
+  has_answer : (t : MethodDef) → proxy_target z.classes d m ≡ Some t → t.name.params ≡ m.params → ProxyDeclared z m t.name (chain_of z.classes d) → EntryDeclared z d t.name (chain_of z.classes d) → AnswerDeclared z d m
+
+-- objects that hold chars have no entries: the class of their name, if the file of helpers has one, has no method of the name of an entry
+pub record BoxesDeclared (z : Spread) : Type 0 where
+  pub bare : (m : MethodName) → method_in (members_of z.program (record { file = z.home (a_helper BoxedChar); name = helper_name BoxedChar })) (entry_name m) ≡ None
+
+-- a reflective name by which receivers can be called: its function, with a case for each kind whose class has a method of the name; the entries of objects of which the code of some file makes;
+-- and the helper that throws where there is none, whose file can use the exception
+pub record ReflectionDeclared (z : Spread) (m : MethodName) : Type 0 where
+  pub cases : List Reflected
+  pub function : Stands z (a_reflection m) (reflective_item m (units_of (spelled_method m)) cases)
+  pub distinct : are_distinct (codes "x" ∷ parameters_of m) ≡ true
+  pub runs : (t : Reflected) → Contains cases t → ReflectedDeclared z m t
+  pub each : (k : Kind) → is_told k ≡ true → ReflectedKind z m cases k
+  pub objects : (f d : Name) → (z.has f).made d ≡ true → AnswerDeclared z d m
+  pub boxes : BoxesDeclared z
+  pub thrower : Uses z (a_reflection m) (a_helper (Throws Method))
+  pub made : Makes z (a_helper (Throws Method)) no_such_method
+  pub built : Uses z (a_helper (Throws Method)) (a_constructor (member no_such_method Constructor with_message))
+
 -- properties that are the constants of a class, with the markers of the classes that stand above it
 pub record AreConstants (w : World) (ps : List Property) : Type 0 where
   pub class : Name
@@ -159,15 +268,19 @@ pub record AreConstants (w : World) (ps : List Property) : Type 0 where
   pub are : ps ≡ constants class ancestors
   pub above : AreAncestors w class ancestors
 
--- all that the code of some file can use is declared, and its file leads to what it names: each member as it runs, a constructor without a value; each class that is
--- made; each field and each static field; tests and casts; and each helper, whose file can use those that it uses, and that of
+-- all that the code of some file can use is declared, and its file leads to what it names: each member as it runs, and each method that can be looked up, each reflective name by which receivers can be called, a constructor without a value; each class whose
+-- code it has, among them each that is made; each field and each static field; tests and casts; and each helper, whose file can use those that it uses, and that of
 -- a failure the exception of it. Each object that is declared is the constants of a class
 pub record Declared (z : Spread) : Type 0 where
   pub leads : (f : Name) (t : Top) → is_named (z.has f) t ≡ true → Leads z f t
   pub linked : (f : Name) (m : MemberName) → (z.has f).linked m ≡ true → FunctionDeclared z (a_function m) alone m
   pub received : (f : Name) (m : MemberName) → (z.has f).received m ≡ true → FunctionDeclared z (a_method m) on_receiver m
+  pub looked : (f c : Name) (m : MethodName) → can_look_up (z.has f) c m ≡ true → LookupDeclared z c m ((z.has f).lookup.has_hijacked c)
+  pub dispatched : (f : Name) (m : MethodName) → (z.has f).dispatched m ≡ true → TellsApart z m
+  pub reflected : (f : Name) (m : MethodName) → (z.has f).reflected m ≡ true → ReflectionDeclared z m
   pub built : (f : Name) (m : MemberName) → (z.has f).built m ≡ true → (b : FunctionDeclared z (a_constructor m) completing m) × (b.right.definition.result ≡ NoType)
-  pub made : (f c : Name) → (z.has f).made c ≡ true → MadeDeclared z c
+  pub live : (f c : Name) → (z.has f).live c ≡ true → MadeDeclared z c
+  pub made : (f c : Name) → (z.has f).made c ≡ true → (z.has f).live c ≡ true
   pub field : (f c g : Name) (t : IrType) → (z.has f).field c g t ≡ true → IsField z.classes c g t
   pub static_field : (f c g : Name) (t : IrType) → has_static (z.has f) c g t ≡ true → StaticDeclared z c g t
   pub tests : (f : Name) (t : IrType) → (z.has f).tests t ≡ true → TestDeclared z f t
@@ -177,12 +290,13 @@ pub record Declared (z : Spread) : Type 0 where
   pub ancestors : Above
   pub helper : (f : Name) (h : Helper) → (z.has f).helper (helper_name h) ≡ true → (is_covered h ≡ true) × Stands z (a_helper h) (helper_item ancestors h)
   pub helpers : (f : Name) (h k : Helper) → (z.has f).helper (helper_name h) ≡ true → Contains (used_helpers h) k → Uses z (a_helper h) (a_helper k)
-  pub exceptions : (f : Name) → (z.has f).helper check_name ≡ true → Uses z (a_helper (Throws NullReceiver)) (a_class null_pointer) × Uses z (a_helper (Throws NullReceiver)) (a_constructor (member null_pointer Constructor with_message))
-  pub divisions : (f : Name) (o : BinaryOp) → divides (z.has f) o ≡ true → Uses z (a_helper (Throws Division)) (a_class arithmetic) × Uses z (a_helper (Throws Division)) (a_constructor (member arithmetic Constructor with_message))
+  pub exceptions : (f : Name) → (z.has f).helper check_name ≡ true → Makes z (a_helper (Throws NullReceiver)) null_pointer × Uses z (a_helper (Throws NullReceiver)) (a_constructor (member null_pointer Constructor with_message))
+  pub divisions : (f : Name) (o : BinaryOp) → divides (z.has f) o ≡ true → Makes z (a_helper (Throws Division)) arithmetic × Uses z (a_helper (Throws Division)) (a_constructor (member arithmetic Constructor with_message))
 
 -- what can be used is among what can be used of the classes at all, and a call runs the same
 pub record IsAmong (has all : Usable) : Type 0 where
   pub tops : (t : Top) → is_usable has t ≡ true → is_usable all t ≡ true
+  pub made : (c : Name) → has.made c ≡ true → all.made c ≡ true
   pub fields : (c f : Name) (t : IrType) → has.field c f t ≡ true → all.field c f t ≡ true
   pub targets : (m : MemberName) → all.lookup.target m ≡ has.lookup.target m
 

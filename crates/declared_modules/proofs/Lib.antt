@@ -1,3 +1,4 @@
+pub mod Boxes
 pub mod HijackedKinds
 pub mod Whole
 pub use Rattle.module_uses.proofs.Among

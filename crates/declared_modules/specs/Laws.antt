@@ -7,7 +7,7 @@ use Rattle.module_uses.specs.Bodies.{AreBodies}
 use Rattle.module_uses.specs.Closed.{IsClosed}
 use Rattle.module_uses.specs.FileDeclarationsDeclared.{is_covered}
 use Rattle.module_uses.specs.Emitted.{EmittedMethod}
-use Rattle.module_uses.specs.Entries.{IsLive}
+use Rattle.module_uses.specs.Entries.{AreEntries, IsLive}
 use Rattle.module_uses.specs.LinkedPiecesPieces.{AreLinkedPieces}
 use Rattle.module_uses.specs.Running.{CanRun}
 use Rattle.module_uses.specs.LinkedPiecesUsed.{used_of}
@@ -29,6 +29,7 @@ ModulesDeclare = (entries : List EntryPoint) (files : List SourceFile) (l : Link
     → IsAccepted entries files l.world
     → AreBodies l.world entries all
     → (p : AreLinkedPieces l all ps)
+    → AreEntries l.world l.facts l.entries
     → ((c : Name) → Contains live c ↔ IsLive l.world l.facts c)
     → CanRun l.world entries l.facts all live p.helpers written
     → IsClosed ps written

@@ -18,3 +18,4 @@ pub use Rattle.module_uses.specs.Emitted
 pub use Rattle.module_uses.specs.RunningModulesLaws
 pub use Rattle.module_uses.specs.Link
 pub use Rattle.module_uses.specs.Placed
+pub use Rattle.module_uses.specs.Entries

@@ -1,4 +1,4 @@
--- Where the pieces of a linked world stand: in the block of their class, and the helpers behind that of `java.lang.Object`.
+-- Where the pieces of a linked world stand: in the block of their class, and behind that of `java.lang.Object` the helpers and the functions that tell receivers apart.
 use Rattle.std.proofs.Common.{◌≡◌, ◌⊎◌, ◌++◌, Bool, true, false, List, [], ◌∷◌, Option, Some, None, inl, inr, refl, sym, ap, subst, ◌∙◌, map, if◌then◌else◌}
 use Rattle.std.specs.Prelude.{is_some}
 use Rattle.std.specs.List.{Contains, flat_map}
@@ -62,7 +62,7 @@ module _ (l : Linked) (all : List EmittedMethod) where
 
   module _ (ps : List Piece) (p : AreLinkedPieces l all ps) where
     abbrev its_helpers : List Piece
-    its_helpers = map (helper_piece p.above) p.helpers
+    its_helpers = map (helper_piece p.above) p.helpers ++ p.told
 
     pub in_classes : (c : Name) (k : ClassDef) → class_of l.world c ≡ Some k → Contains p.classes c
     in_classes c k e = (p.are_classes.exact c).1 (ap is_some e)
@@ -93,7 +93,18 @@ module _ (l : Linked) (all : List EmittedMethod) where
         let j : Contains f.block.methods e = (f.is_block.methods.exact e).1 (i, refl) in
         whole f.block (piece_of_member l.world e) f.among_blocks (in_block l.world its_helpers f.block (piece_of_member l.world e) (Contains-append_right f.block.own (map (piece_of_member l.world) f.block.methods) (piece_of_member l.world e) (into_map (piece_of_member l.world) f.block.methods e j)))
 
+    pub method_in_blocks : (e : EmittedMethod) → Contains all e → (k : ClassDef) → class_of l.world e.member.class ≡ Some k → Contains (flat_map (pieces_of_block l.world) p.blocks) (piece_of_member l.world e)
+    method_in_blocks e i k found =
+        let f = block_of e.member.class k found in
+        let j : Contains f.block.methods e = (f.is_block.methods.exact e).1 (i, refl) in
+        in_all (pieces_of_block l.world) p.blocks f.block (piece_of_member l.world e) f.among_blocks (Contains-append_right f.block.own (map (piece_of_member l.world) f.block.methods) (piece_of_member l.world e) (into_map (piece_of_member l.world) f.block.methods e j))
+
     pub helper_there : (k : ClassDef) → class_of l.world object ≡ Some k → (h : Helper) → Contains p.helpers h → Contains ps (helper_piece p.above h)
     helper_there k found h i =
         let f = block_of object k found in
-        whole f.block (helper_piece p.above h) f.among_blocks (behind_object l.world its_helpers f.block (helper_piece p.above h) (ap is_object f.is_block.class_is) (into_map (helper_piece p.above) p.helpers h i))
+        whole f.block (helper_piece p.above h) f.among_blocks (behind_object l.world its_helpers f.block (helper_piece p.above h) (ap is_object f.is_block.class_is) (Contains-append_left (map (helper_piece p.above) p.helpers) p.told (helper_piece p.above h) (into_map (helper_piece p.above) p.helpers h i)))
+
+    pub told_there : (k : ClassDef) → class_of l.world object ≡ Some k → (q : Piece) → Contains p.told q → Contains ps q
+    told_there k found q i =
+        let f = block_of object k found in
+        whole f.block q f.among_blocks (behind_object l.world its_helpers f.block q (ap is_object f.is_block.class_is) (Contains-append_right (map (helper_piece p.above) p.helpers) p.told q i))

@@ -1,3 +1,4 @@
+pub mod Below
 pub mod Blocks
 pub mod Chains
 pub mod Covered
@@ -5,6 +6,8 @@ pub mod Fields
 pub mod Forms
 pub mod HelperNames
 pub mod Live
+pub mod Looked
+pub mod Named
 pub mod Order
 pub mod Parts
 pub mod Whole
@@ -47,3 +50,7 @@ pub use Rattle.object_helpers.proofs.WrittenTrees
 pub use Rattle.object_helpers.proofs.Resolves
 pub use Rattle.object_helpers.proofs.Boxes
 pub use Rattle.file_declarations.proofs.Markers
+pub use Rattle.object_helpers.proofs.Facts
+pub use Rattle.object_helpers.proofs.LinkedEntriesOne
+pub use Rattle.object_helpers.proofs.Proxies
+pub use Rattle.file_declarations.proofs.ReflectedCases

@@ -21,6 +21,8 @@ use Rattle.helper_rules.specs.declared.kinds.Helper.{Helper}
 use Rattle.js_mean.specs.Proper.{is_among}
 use Rattle.js_tree.specs.Names.{is_same_text}
 use Rattle.js_tree.specs.Terms.{Name, Member, Item, const_item, object_item, let_item, expression_item, function_item, class_item, subclass_item, Piece}
+use Rattle.object_helpers.specs.Dispatched.{AreDispatchPieces}
+use Rattle.object_helpers.specs.ToldPieces.{AreReflectivePieces, AreToldPieces}
 use Rattle.object_helpers.specs.Order.{AreInOrder, StandsBefore, by_ancestors, by_name}
 use Rattle.object_helpers.specs.Pieces.{piece_of_member, Block, IsBlock, AreBlocks, pieces_of_block, with_helpers}
 use Rattle.file_declarations.specs.Classes.{AreClassPieces, AreParts, absent, present}
@@ -179,6 +181,15 @@ module _ (written : List Name) where
   helpers_each : (fs : List Name) (above : Above) (hs : List Helper) → ((h : Helper) → Contains hs h → is_covered h ≡ true) → Each fs (map (helper_piece above) hs)
   helpers_each fs above hs covered q i own = let m = from_map (helper_piece above) hs q i in subst (λ (x : Piece). declares fs x.item ≡ true) m.is (helper_declares fs above m.item (covered m.item m.among))
 
+  methods_told : (fs : List Name) (l : Linked) (qs told : List Piece) → AreDispatchPieces l qs told → Each fs told
+  methods_told fs l qs told h q i own = subst (λ (x : Piece). declares fs x.item ≡ true) (sym (h.made q i).is_piece.piece_is) refl
+
+  names_told : (fs : List Name) (l : Linked) (qs told : List Piece) → AreReflectivePieces l qs told → Each fs told
+  names_told fs l qs told h q i own = subst (λ (x : Piece). declares fs x.item ≡ true) (sym (h.made q i).is_piece.piece_is) refl
+
+  told_each : (fs : List Name) (l : Linked) (qs told : List Piece) → AreToldPieces l qs told → Each fs told
+  told_each fs l qs told h = subst (Each fs) (sym h.told_are) (each_joined fs h.methods h.names (methods_told fs l qs h.methods h.are_methods) (names_told fs l qs h.names h.are_names))
+
   module _ (w : Classes) (acyclic : HasNoCycle w) (plain : IsPlain w) where
     -- a class stands neither before the one that it extends, nor is it that
     never_before : (c s : Name) → IsNext w c s → StandsBefore w c s → ⊥
@@ -188,15 +199,12 @@ module _ (written : List Name) where
     never_itself : (c s : Name) (names : List Name) → AreAncestors w c names → IsNext w c s → c ≡ s → ⊥
     never_itself c s names are next e = let grow = ancestors_grow w acyclic plain c c names names (subst (λ (n : Name). IsNext w c n) (sym e) next) are are in omega (arith, grow)
 
-  module _ (entries : List EntryPoint) (files : List SourceFile) (l : Linked) (all : List EmittedMethod) (ps : List Piece) (bytes : (file : SourceFile) → Contains files file → AreBytes file.bytes) (a : IsAccepted entries files l.world) (reached : (f : Fact) → Contains l.facts f → Reachable l.world entries f) (closed : IsClosed ps written) (above : Above) (hs : List Helper) (covered : (h : Helper) → Contains hs h → is_covered h ≡ true) where
+  module _ (entries : List EntryPoint) (files : List SourceFile) (l : Linked) (all : List EmittedMethod) (ps : List Piece) (bytes : (file : SourceFile) → Contains files file → AreBytes file.bytes) (a : IsAccepted entries files l.world) (reached : (f : Fact) → Contains l.facts f → Reachable l.world entries f) (closed : IsClosed ps written) (behind : List Piece) (each_behind : (fs : List Name) → Each fs behind) where
     abbrev w : Classes
     w = l.world
 
     abbrev Live : Name → Type 0
     Live = IsLive w l.facts
-
-    abbrev its_helpers : List Piece
-    its_helpers = map (helper_piece above) hs
 
     plain : IsPlain w
     plain = let kept = classes_kept entries files w bytes a in plain_world w kept.superclass kept.hijacked
@@ -205,9 +213,9 @@ module _ (written : List Name) where
     abbrev Placed : List Name → List Name → Type 0
     Placed fs cs = (s : Name) → Live s → Contains written s → Contains cs s ⊎ (is_among fs (class_name s) ≡ true)
 
-    module _ (c : Name) (cs : List Name) (b : Block) (block : IsBlock l all c b) (before : (d : Name) → Contains cs d → StandsBefore w c d) (there : (q : Piece) → Contains (with_helpers w its_helpers b) q → Contains ps q) (fs : List Name) (placed : Placed fs (c ∷ cs)) where
-      own_there : (q : Piece) → Contains b.own q → Contains (with_helpers w its_helpers b) q
-      own_there q i = in_block w its_helpers b q (Contains-append_left b.own (map (piece_of_member w) b.methods) q i)
+    module _ (c : Name) (cs : List Name) (b : Block) (block : IsBlock l all c b) (before : (d : Name) → Contains cs d → StandsBefore w c d) (there : (q : Piece) → Contains (with_helpers w behind b) q → Contains ps q) (fs : List Name) (placed : Placed fs (c ∷ cs)) where
+      own_there : (q : Piece) → Contains b.own q → Contains (with_helpers w behind b) q
+      own_there q i = in_block w behind b q (Contains-append_left b.own (map (piece_of_member w) b.methods) q i)
 
       -- what a class extends is declared in front of it
       extends_one : (p : Parts) → AreParts l c p → b.own ≡ pieces p → ExtendsOne fs p
@@ -239,14 +247,14 @@ module _ (written : List Name) where
       own_each_there (absent none is) = subst (Each fs) (sym is) (each_none fs)
       own_each_there (present p are is) = subst (Each fs) (sym is) (own_each fs p (extends_one p are is))
 
-      block_each : Each fs (with_helpers w its_helpers b)
+      block_each : Each fs (with_helpers w behind b)
       block_each = go (is_object b.class)
         where
           block_itself : Each fs (pieces_of_block w b)
           block_itself = each_joined fs b.own (map (piece_of_member w) b.methods) (own_each_there block.own) (methods_each w fs b.methods)
 
-          go : (t : Bool) → Each fs (if t then pieces_of_block w b ++ its_helpers else pieces_of_block w b)
-          go true = each_joined fs (pieces_of_block w b) its_helpers block_itself (helpers_each fs above hs covered)
+          go : (t : Bool) → Each fs (if t then pieces_of_block w b ++ behind else pieces_of_block w b)
+          go true = each_joined fs (pieces_of_block w b) behind block_itself (each_behind fs)
           go false = block_itself
 
       declares_itself : (superclass : Option Name) (ms : List Member) → is_among (with_class (class_item_of c superclass ms) []) (class_name c) ≡ true
@@ -254,7 +262,7 @@ module _ (written : List Name) where
       declares_itself (Some s) ms = or_left (is_same_text (class_name c) (class_name c)) false (text-refl (class_name c))
 
       -- behind its block a class is declared, if it is live and owned
-      itself_given : (gs : List Name) → Gives (with_helpers w its_helpers b) gs → Live c → Contains written c → is_among gs (class_name c) ≡ true
+      itself_given : (gs : List Name) → Gives (with_helpers w behind b) gs → Live c → Contains written c → is_among gs (class_name c) ≡ true
       itself_given gs given live own =
           let k = live_there entries files w bytes a l.facts reached c live in
           let r = parts_of l c b.own k.0 k.1 block.own in
@@ -262,7 +270,7 @@ module _ (written : List Name) where
           let named : r.parts.class.name ≡ c = (class_found w c r.parts.class r.are.class_is).1 in
           given its_class (own_there its_class (subst (λ (qs : List Piece). Contains qs its_class) (sym r.own) (subst (λ (n : Name). Contains (pieces r.parts) (class_piece n r.parts.class.superclass r.parts.entries r.parts.fields)) named (class_there r.parts (r.are.live.1 live))))) ((among written c).1 own) (class_name c) (declares_itself r.parts.class.superclass (members c r.parts.class.superclass r.parts.entries r.parts.fields))
 
-      placed_behind : (gs : List Name) → Below fs gs → Gives (with_helpers w its_helpers b) gs → Placed gs cs
+      placed_behind : (gs : List Name) → Below fs gs → Gives (with_helpers w behind b) gs → Placed gs cs
       placed_behind gs below given s live own = go (placed s live own)
         where
           at_front : (c ≡ s) ⊎ Contains cs s → Contains cs s ⊎ (is_among gs (class_name s) ≡ true)
@@ -273,16 +281,19 @@ module _ (written : List Name) where
           go (inl i) = at_front (cons_cases c s cs i)
           go (inr h) = inr (below (class_name s) h)
 
-    blocks_declare : (cs : List Name) (bs : List Block) → AreBlocks l all cs bs → AreInOrder (StandsBefore w) cs → (fs : List Name) → Placed fs cs → ((q : Piece) → Contains (flat_map (with_helpers w its_helpers) bs) q → Contains ps q) → declare fs (items_of written (flat_map (with_helpers w its_helpers) bs)) ≡ true
+    blocks_declare : (cs : List Name) (bs : List Block) → AreBlocks l all cs bs → AreInOrder (StandsBefore w) cs → (fs : List Name) → Placed fs cs → ((q : Piece) → Contains (flat_map (with_helpers w behind) bs) q → Contains ps q) → declare fs (items_of written (flat_map (with_helpers w behind) bs)) ≡ true
     blocks_declare [] [] h o fs placed there = refl
     blocks_declare [] (b ∷ bs) h o fs placed there = absurd h
     blocks_declare (c ∷ cs) [] h o fs placed there = absurd h
     blocks_declare (c ∷ cs) (b ∷ bs) h o fs placed there =
-        let here = λ (q : Piece) (i : Contains (with_helpers w its_helpers b) q). there q (Contains-append_left (with_helpers w its_helpers b) (flat_map (with_helpers w its_helpers) bs) q i) in
-        declare_joined fs (with_helpers w its_helpers b) (flat_map (with_helpers w its_helpers) bs) (block_each c cs b h.0 o.0 here fs placed) (λ gs below given. blocks_declare cs bs h.1 o.1 gs (placed_behind c cs b h.0 o.0 here fs placed gs below given) (λ q i. there q (Contains-append_right (with_helpers w its_helpers b) (flat_map (with_helpers w its_helpers) bs) q i)))
+        let here = λ (q : Piece) (i : Contains (with_helpers w behind b) q). there q (Contains-append_left (with_helpers w behind b) (flat_map (with_helpers w behind) bs) q i) in
+        declare_joined fs (with_helpers w behind b) (flat_map (with_helpers w behind) bs) (block_each c cs b h.0 o.0 here fs placed) (λ gs below given. blocks_declare cs bs h.1 o.1 gs (placed_behind c cs b h.0 o.0 here fs placed gs below given) (λ q i. there q (Contains-append_right (with_helpers w behind b) (flat_map (with_helpers w behind) bs) q i)))
 
 pub pieces_are_declarations : PiecesAreDeclarations
-pieces_are_declarations entries files l all written ps bytes a reached p closed covered = subst (λ (qs : List Piece). declare [] (items_of written qs) ≡ true) (sym p.pieces_are) (blocks_declare written entries files l all ps bytes a reached closed p.above p.helpers covered p.classes p.blocks p.are_blocks p.are_classes.in_order [] placed (λ q i. subst (λ (qs : List Piece). Contains qs q) (sym p.pieces_are) i))
+pieces_are_declarations entries files l all written ps bytes a reached p closed covered = subst (λ (qs : List Piece). declare [] (items_of written qs) ≡ true) (sym p.pieces_are) (blocks_declare written entries files l all ps bytes a reached closed (helpers ++ p.told) (λ fs. each_joined written fs helpers p.told (helpers_each written fs p.above p.helpers covered) (told_each written fs l (flat_map (pieces_of_block l.world) p.blocks) p.told p.are_told)) p.classes p.blocks p.are_blocks p.are_classes.in_order [] placed (λ q i. subst (λ (qs : List Piece). Contains qs q) (sym p.pieces_are) i))
   where
+    helpers : List Piece
+    helpers = map (helper_piece p.above) p.helpers
+
     placed : (s : Name) → IsLive l.world l.facts s → Contains written s → Contains p.classes s ⊎ (is_among [] (class_name s) ≡ true)
     placed s live own = let k = live_there entries files l.world bytes a l.facts reached s live in inl (in_classes l all ps p s k.0 k.1)

@@ -84,7 +84,7 @@ is_reached known c _ _ (other f fs gs h never) d i mark need = elim (Contains-ap
   ]
 ]
 
-in_once : (bs : List Binding) (b : Binding) → Contains bs b → Contains (once_each [] bs) b
+pub in_once : (bs : List Binding) (b : Binding) → Contains bs b → Contains (once_each [] bs) b
 in_once bs b i = go (kept bs [] b i)
   where
     go : IsKept [] bs b → Contains (once_each [] bs) b

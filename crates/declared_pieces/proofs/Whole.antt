@@ -1,8 +1,9 @@
 -- What the code of the written classes can use has its pieces.
 use Rattle.std.proofs.Common.{◌≡◌, ◌&&◌, ◌||◌, not, Bool, true, false, List, [], ◌∷◌, inl, inr, Option, Some, None, IsTrue, codes, map, refl, sym, ap, subst, ◌∙◌}
 use Rattle.std.specs.Prelude.{◌↔◌}
-use Rattle.std.specs.List.{Contains, filter, list_any}
+use Rattle.std.specs.List.{Contains, filter, flat_map, list_any}
 use Rattle.std.proofs.lemmas.Bool.{and_parts, and_from, or_cases, or_left, or_right}
+use Rattle.std.proofs.lemmas.List.Elements.{Contains-append_left}
 use Rattle.std.proofs.lemmas.List.Folds.{Any-from_list_any, list_any_at}
 use Rattle.std.proofs.lemmas.List.Sorted.{Contains-permutation, IsPermutation-sym}
 use Rattle.object_helpers.proofs.Members.{same-class, defined}
@@ -14,25 +15,30 @@ use Rattle.object_helpers.proofs.Chains.{byte_not}
 use Rattle.object_helpers.specs.Built.{Usable, has_static, is_static, has_kind, has_no_value}
 use Rattle.file_declarations.proofs.Markers.{marked}
 use Rattle.declared_pieces.proofs.Blocks.{OwnPieces, own_pieces, method_there, helper_there}
-use Rattle.declared_pieces.proofs.Chains.{Stands, whole_chain}
+use Rattle.declared_pieces.proofs.Chains.{Stands}
 use Rattle.declared_pieces.proofs.Fields.{field_there, static_there, class_named, fields_kept}
 use Rattle.declared_pieces.proofs.HelperNames.{one_helper}
-use Rattle.declared_pieces.proofs.Live.{next_is, live_next, classes_kept, live_free, live_there}
-use Rattle.declared_pieces.proofs.Parts.{constants_there, class_there, statics_among, in_statics, is_reached, uses_superclass, test_among, cast_among}
+use Rattle.declared_pieces.proofs.Below.{stands_above}
+use Rattle.declared_pieces.proofs.Live.{classes_kept}
+use Rattle.declared_pieces.proofs.Looked as looked
+use Rattle.declared_pieces.proofs.Parts.{statics_among, in_statics, is_reached, test_among, cast_among}
 use Rattle.declared_pieces.proofs.Forms.{body_tells, test_form, cast_form}
 use Rattle.declared_pieces.specs.Closed.{IsClosed}
-use Rattle.declared_pieces.specs.Laws.{TestThere, CastThere, WhatIsUsedHasPieces}
+use Rattle.declared_pieces.specs.Laws.{FindsEntry, TestThere, CastThere, WhatIsUsedHasPieces}
 use Rattle.file_declarations.specs.Declared.{alone, on_receiver, running}
-use Rattle.object_helpers.specs.Entries.{IsLive}
+use Rattle.object_helpers.proofs.Facts.{made_known, called_known}
+use Rattle.object_helpers.specs.Entries.{AreEntries, IsLive}
+use Rattle.object_helpers.specs.Targets.{has_hijacked_in}
+use Rattle.ir_mean.specs.Dispatch.{is_ancestor}
 use Rattle.file_listings.specs.Listed.{AreBytes}
 use Rattle.helper_rules.specs.Helpers.{helper_name, helper_item, helper_piece}
 use Rattle.helper_rules.specs.Words.{class_name, bound, all_kinds, helper}
 use Rattle.helper_rules.specs.declared.kinds.Helper.{Helper}
 use Rattle.helper_rules.specs.declared.kinds.Helper.TheVariants.{TestOf}
 use Rattle.js_tree.specs.Terms.{Item, Piece}
-use Rattle.object_helpers.specs.Pieces.{piece_of_member, by_piece, AreLinkedPieces}
+use Rattle.object_helpers.specs.Pieces.{piece_of_member, pieces_of_block, by_piece, AreLinkedPieces}
 use Rattle.object_helpers.proofs.Statics.{static_is}
-use Rattle.object_helpers.specs.Used.{used_of, is_among, is_received, is_constructor, is_constructor_without_value, has_static_in, needs_static, is_tested, is_cast}
+use Rattle.object_helpers.specs.Used.{used_of, makes, calls_on, tells_apart, is_among, is_received, is_constructor, is_constructor_without_value, has_static_in, needs_static, is_tested, is_cast}
 use Rattle.file_declarations.specs.Settings.{IsStaticField}
 use Rattle.object_helpers.proofs.Made as made
 use Rattle.object_helpers.proofs.ObjectFoldersMethods.{right_method}
@@ -49,6 +55,7 @@ use Rattle.sj_names.specs.WellKnown.{object}
 use Rattle.sj_names.specs.declared.entry_points.EntryPoint.{EntryPoint}
 use Rattle.sj_names.specs.declared.folders.SourceFile.{SourceFile}
 use Rattle.sj_names.specs.declared.method_names.Member.{Member}
+use Rattle.sj_names.specs.declared.method_names.MethodName.{MethodName}
 use Rattle.sj_names.specs.declared.method_names.Namespace.{Namespace}
 use Rattle.sj_names.specs.declared.method_names.Namespace.TheVariants.{Public, PublicStatic, Private, PrivateStatic, Constructor}
 use Rattle.sj_names.specs.declared.references.TypeRef.{TypeRef}
@@ -129,7 +136,7 @@ own_fields given sorted h f i = let p = from_filter is_own given f (Contains-per
 pub whole_fields : (given sorted : List FieldDef) → AreSorted (filter is_own given) sorted → (f : FieldDef) → Contains given f → f.is_static ≡ false → Contains sorted f
 whole_fields given sorted h f i mark = Contains-permutation (filter is_own given) sorted f h.exact (into_filter is_own given f i (own_mark f.is_static mark))
 
-module _ (entries : List EntryPoint) (files : List SourceFile) (l : Linked) (all : List EmittedMethod) (live written : List Name) (ps : List Piece) (bytes : (file : SourceFile) → Contains files file → AreBytes file.bytes) (a : IsAccepted entries files l.world) (bodies : AreBodies l.world entries all) (p : AreLinkedPieces l all ps) (are_live : (c : Name) → Contains live c ↔ IsLive l.world l.facts c) (run : CanRun l.world entries l.facts all live p.helpers written) (owned : IsClosed ps written) where
+module _ (entries : List EntryPoint) (files : List SourceFile) (l : Linked) (all : List EmittedMethod) (live written : List Name) (ps : List Piece) (bytes : (file : SourceFile) → Contains files file → AreBytes file.bytes) (a : IsAccepted entries files l.world) (bodies : AreBodies l.world entries all) (p : AreLinkedPieces l all ps) (are : AreEntries l.world l.facts l.entries) (are_live : (c : Name) → Contains live c ↔ IsLive l.world l.facts c) (run : CanRun l.world entries l.facts all live p.helpers written) (owned : IsClosed ps written) where
   abbrev w : Classes
   w = l.world
 
@@ -157,44 +164,56 @@ module _ (entries : List EntryPoint) (files : List SourceFile) (l : Linked) (all
     pub is_live : Contains live c
     pub is_written : Contains written c
 
+  abbrev exact : (f : Fact) → Contains l.facts f ↔ Reachable w entries f
+  exact f = (run.reached f, run.whole f)
+
   module _ (c : Name) (good : Good c) where
-    c_live : IsLive w l.facts c
-    c_live = (are_live c).0 good.is_live
+    abbrev stood : looked.Stood entries files l all written ps bytes a bodies p are exact owned c
+    stood = record { lives = (are_live c).0 good.is_live; here = good.is_written }
 
     pub free : is_hijacked c ≡ false
-    free = live_free entries files w bytes a l.facts run.reached c c_live
+    free = looked.free entries files l all written ps bytes a bodies p are exact owned c stood
 
-    pub own : OwnPieces l all ps p c
-    own = let k = live_there entries files w bytes a l.facts run.reached c c_live in own_pieces l all ps p c k.0 k.1
+    abbrev pub own : OwnPieces l all ps p c
+    own = looked.own entries files l all written ps bytes a bodies p are exact owned c stood
 
     abbrev pub its : Parts
     its = own.parts
 
-    named : its.class.name ≡ c
-    named = (class_found w c its.class own.are.class_is).1
-
     pub is_named : IsTrue (is_class_name c)
-    is_named = subst (λ (n : Name). IsTrue (is_class_name n)) named (class_named entries files w bytes a its.class (class_found w c its.class own.are.class_is).0)
+    is_named = subst (λ (n : Name). IsTrue (is_class_name n)) (looked.named entries files l all written ps bytes a bodies p are exact owned c stood) (class_named entries files w bytes a its.class (class_found w c its.class own.are.class_is).0)
 
     pub constants_here : Contains ps (constants_piece c its.ancestors)
-    constants_here = subst (λ (n : Name). Contains ps (constants_piece n its.ancestors)) named (own.there (constants_piece its.class.name its.ancestors) (constants_there its (own.are.live.1 c_live)))
+    constants_here = looked.constants_here entries files l all written ps bytes a bodies p are exact owned c stood
 
     abbrev pub class_of_its : Piece
     class_of_its = class_piece c its.class.superclass its.entries its.fields
 
     pub class_here : Contains ps class_of_its
-    class_here = subst (λ (n : Name). Contains ps (class_piece n its.class.superclass its.entries its.fields)) named (own.there (class_piece its.class.name its.class.superclass its.entries its.fields) (class_there its (own.are.live.1 c_live)))
+    class_here = looked.class_here entries files l all written ps bytes a bodies p are exact owned c stood
 
     pub super_good : (d : Name) → its.class.superclass ≡ Some d → Good d
-    super_good d super =
-        let next : IsNext w c d = next_is w c its.class own.are.class_is free ∙ super in
-        record { is_live = (are_live d).1 (live_next w l.facts c d c_live next); is_written = owned class_of_its class_here good.is_written (bound d (class_name d)) (uses_superclass c d its.class.superclass its.entries super) }
+    super_good d super = let above = looked.super_stood entries files l all written ps bytes a bodies p are exact owned c stood d super in record { is_live = (are_live d).1 above.lives; is_written = above.here }
 
     abbrev pub stands : Stands w Good c
     stands = record { class = its.class; found = own.are.class_is; free = free; up = super_good }
 
-  pub made_good : (c : Name) → (is_among written c && is_among live c) ≡ true → Good c
-  made_good c h = let q = and_parts (is_among written c) (is_among live c) h in record { is_live = (among live c).0 q.1; is_written = (among written c).0 q.0 }
+  pub live_good : (c : Name) → (is_among written c && is_among live c) ≡ true → Good c
+  live_good c h = let q = and_parts (is_among written c) (is_among live c) h in record { is_live = (among live c).0 q.1; is_written = (among written c).0 q.0 }
+
+  -- a class of which objects are made is live
+  pub made_is_live : (c : Name) → has.made c ≡ true → has.live c ≡ true
+  made_is_live c h =
+      let q = and_parts (is_among written c) (list_any (makes c) l.facts) h in
+      and_from (is_among written c) (is_among live c) q.0 ((among live c).1 ((are_live c).1 (looked.made_lives entries files l all written ps bytes a bodies p are exact owned c (made_known l.facts c q.1))))
+
+  -- methods that are looked up
+
+  pub entry_there : (c : Name) (m : MethodName) → has.looked_up c m ≡ true → (d : Name) → has.made d ≡ true → is_ancestor w d c ≡ true → FindsEntry l ps written d m
+  entry_there c m h d made below =
+      let q = and_parts (list_any (calls_on c m) l.facts) (not (has_hijacked_in w c) || tells_apart w l.facts all written m) h in
+      let r = and_parts (is_among written d) (list_any (makes d) l.facts) made in
+      looked.finds entries files l all written ps bytes a bodies p are exact owned c m (called_known l.facts c m q.0) d ((among written d).0 r.0) (made_known l.facts d r.1) (stands_above w d c below)
 
   -- static fields
 
@@ -269,7 +288,7 @@ module _ (entries : List EntryPoint) (files : List SourceFile) (l : Linked) (all
       are = own.are;
       here = here;
       test = subst (λ (n : Name). Contains ps (test_of_it n)) name_of_it (own.there (test_of_it parts_of_it.class.name) (test_among parts_of_it h));
-      kinds = λ k u. (p.are_helpers.exact (TestOf k)).1 (by_piece (test_of_it parts_of_it.class.name) (TestOf k) (own.in_blocks (test_of_it parts_of_it.class.name) (test_among parts_of_it h)) (subst (λ (n : Name). Contains (test_uses parts_of_it.instances (kind_of_class n all_kinds)) (helper (helper_name (TestOf k)))) (sym name_of_it) u));
+      kinds = λ k u. (p.are_helpers.exact (TestOf k)).1 (by_piece (test_of_it parts_of_it.class.name) (TestOf k) (Contains-append_left (flat_map (pieces_of_block l.world) p.blocks) p.told (test_of_it parts_of_it.class.name) (own.in_blocks (test_of_it parts_of_it.class.name) (test_among parts_of_it h))) (subst (λ (n : Name). Contains (test_uses parts_of_it.instances (kind_of_class n all_kinds)) (helper (helper_name (TestOf k)))) (sym name_of_it) u));
     }
 
     cast_there : parts_of_it.is_cast ≡ true → CastThere l written ps p.helpers c
@@ -316,23 +335,30 @@ module _ (entries : List EntryPoint) (files : List SourceFile) (l : Linked) (all
   helper_listed h i = let k = made.present w entries a.resolved (classes_kept entries files w bytes a) object (closed w entries (NeededClass object) the_object) in helper_there l all ps p k.0 k.1 h i.among_helpers
 
 pub has_pieces : WhatIsUsedHasPieces
-has_pieces entries files l all live written ps bytes a bodies p are_live run owned = record {
+has_pieces entries files l all live written ps bytes a bodies p are are_live run owned = record {
   methods = λ m h.
-      let f = method_of entries files l all live written ps bytes a bodies p are_live run owned m h in
+      let f = method_of entries files l all live written ps bytes a bodies p are are_live run owned m h in
       let d = defined l.world f.method.member f.method.definition (bodies.found f.method f.listed).found in
       record { method = f.method; listed = f.listed; is = f.is; function = method_there l all ps p f.method f.listed d.class d.is_class };
-  classes = λ c h. let good = made_good entries files l all live written ps bytes a bodies p are_live run owned c h in record {
-    parts = its entries files l all live written ps bytes a bodies p are_live run owned c good;
-    are = (own entries files l all live written ps bytes a bodies p are_live run owned c good).are;
-    constants = constants_here entries files l all live written ps bytes a bodies p are_live run owned c good;
-    class = class_here entries files l all live written ps bytes a bodies p are_live run owned c good;
+  entries = entry_there entries files l all live written ps bytes a bodies p are are_live run owned;
+  reflections = looked.reflection_there entries files l all written ps bytes a bodies p are (exact entries files l all live written ps bytes a bodies p are are_live run owned) owned;
+  names = λ m h d made.
+      let there = looked.reflection_there entries files l all written ps bytes a bodies p are (exact entries files l all live written ps bytes a bodies p are are_live run owned) owned m h in
+      let q = and_parts (is_among written d) (list_any (makes d) l.facts) made in
+      looked.answer_there entries files l all written ps bytes a bodies p are (exact entries files l all live written ps bytes a bodies p are are_live run owned) owned m there.called d ((among written d).0 q.0) (made_known l.facts d q.1);
+  dispatched = looked.dispatch_there entries files l all written ps bytes a bodies p are (exact entries files l all live written ps bytes a bodies p are are_live run owned) owned;
+  classes = λ c h. let good = live_good entries files l all live written ps bytes a bodies p are are_live run owned c h in record {
+    parts = its entries files l all live written ps bytes a bodies p are are_live run owned c good;
+    are = (own entries files l all live written ps bytes a bodies p are are_live run owned c good).are;
+    constants = constants_here entries files l all live written ps bytes a bodies p are are_live run owned c good;
+    class = class_here entries files l all live written ps bytes a bodies p are are_live run owned c good;
   };
-  statics = λ c f t h. let need = needed_static entries files l all live written ps bytes a bodies p are_live run owned c f t h in record {
+  statics = λ c f t h. let need = needed_static entries files l all live written ps bytes a bodies p are are_live run owned c f t h in record {
     field = need.field;
-    variable = variable_there entries files l all live written ps bytes a bodies p are_live run owned c f t need;
-    setter = setter_there entries files l all live written ps bytes a bodies p are_live run owned c f t need;
+    variable = variable_there entries files l all live written ps bytes a bodies p are are_live run owned c f t need;
+    setter = setter_there entries files l all live written ps bytes a bodies p are are_live run owned c f t need;
   };
-  tests = λ c h. class_test_there entries files l all live written ps bytes a bodies p are_live run owned c h;
-  casts = λ c h. class_cast_there entries files l all live written ps bytes a bodies p are_live run owned c h;
-  helpers = λ h e. helper_listed entries files l all live written ps bytes a bodies p are_live run owned h (helper_written entries files l all live written ps bytes a bodies p are_live run owned h e);
+  tests = λ c h. class_test_there entries files l all live written ps bytes a bodies p are are_live run owned c h;
+  casts = λ c h. class_cast_there entries files l all live written ps bytes a bodies p are are_live run owned c h;
+  helpers = λ h e. helper_listed entries files l all live written ps bytes a bodies p are are_live run owned h (helper_written entries files l all live written ps bytes a bodies p are are_live run owned h e);
 }

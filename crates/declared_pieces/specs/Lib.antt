@@ -16,6 +16,9 @@ pub use Rattle.object_helpers.specs.LinkedPiecesLaws
 pub use Rattle.object_helpers.specs.Used
 pub use Rattle.object_helpers.specs.Files
 pub use Rattle.object_helpers.specs.Written
+pub use Rattle.object_helpers.specs.Dispatch
+pub use Rattle.object_helpers.specs.Dispatched
+pub use Rattle.object_helpers.specs.ToldPieces
 pub use Rattle.file_declarations.specs.Declared as FileDeclarations
 pub use Rattle.object_helpers.specs.Running
 pub use Rattle.object_helpers.specs.ProperPiecesLaws
@@ -29,3 +32,8 @@ pub use Rattle.file_declarations.specs.Pieces as PieceRulesPieces
 pub use Rattle.object_helpers.specs.Helpers
 pub use Rattle.object_helpers.specs.Given
 pub use Rattle.object_helpers.specs.BodyUsesLaws
+pub use Rattle.object_helpers.specs.BodySoundnessLaws
+pub use Rattle.object_helpers.specs.Targets
+pub use Rattle.file_declarations.specs.ClassTestsKinds
+pub use Rattle.file_declarations.specs.Looked
+pub use Rattle.file_declarations.specs.Reflected

@@ -25,10 +25,10 @@ use Rattle.worklist.proofs.Inserted.{nothing_in}
 use Rattle.dispatch_laws.proofs.Bodies.{body_found, none_found}
 use Rattle.dispatch_laws.proofs.Lists.{first_stands, stands_behind, first_or_behind, is_kept}
 
-abbrev Among : Name → List Name → Type 0
+abbrev pub Among : Name → List Name → Type 0
 Among x xs = list_any (is_same x) xs ≡ true
 
-differ : (c : Name) (xs : List Name) → list_any (is_same c) xs ≡ false → AllByRecursion (λ (y : Name). is_same c y ≡ false) xs
+pub differ : (c : Name) (xs : List Name) → list_any (is_same c) xs ≡ false → AllByRecursion (λ (y : Name). is_same c y ≡ false) xs
 differ c [] h = tt
 differ c (y ∷ ys) h = let p = or_parts (is_same c y) (list_any (is_same c) ys) h in (p.0, differ c ys p.1)
 
@@ -38,7 +38,7 @@ names_length (c ∷ v) = let rest = names_length v in omega (arith, rest)
 
 module _ (w : Classes) where
   -- where a chain comes to a class of the world, its first class is known
-  begins_known : (c o : Name) (class : ClassDef) → IsOnChain w c o → class_of w o ≡ Some class → is_known w c ≡ true
+  pub begins_known : (c o : Name) (class : ClassDef) → IsOnChain w c o → class_of w o ≡ Some class → is_known w c ≡ true
   begins_known c o class path e = go (is_known w c) refl
     where
       go : (b : Bool) → is_known w c ≡ b → is_known w c ≡ true
@@ -64,7 +64,7 @@ module _ (w : Classes) where
   chain_rises c o class path e = record { known = begins_known c o class path e; way = by_path (parents_along c o o class path stay e) }
 
   -- the rest of a chain, where there is one
-  abbrev onward : ℕ → List Name → Option Name → List Name
+  abbrev pub onward : ℕ → List Name → Option Name → List Name
   onward k seen None = []
   onward k seen (Some x) = chain_from w k seen x
 
@@ -82,17 +82,17 @@ module _ (w : Classes) where
   chain_of-right c x h = on_chain (longest w) [] c x h
 
   -- each of these names is known
-  abbrev AreKnown : List Name → Type 0
+  abbrev pub AreKnown : List Name → Type 0
   AreKnown seen = (q : Name) → Among q seen → Among q (names_of w ++ hijacked)
 
-  another_known : (c : Name) (seen : List Name) → is_known w c ≡ true → AreKnown seen → AreKnown (c ∷ seen)
+  pub another_known : (c : Name) (seen : List Name) → is_known w c ≡ true → AreKnown seen → AreKnown (c ∷ seen)
   another_known c seen k known q i = go (or_cases (is_same q c) (list_any (is_same q) seen) i)
     where
       go : (is_same q c ≡ true) ⊎ Among q seen → Among q (names_of w ++ hijacked)
       go (inl e) = subst (λ (n : Name). Among n (names_of w ++ hijacked)) (sym (same_name q c e)) ((among (names_of w ++ hijacked) c).1 (known_named w c k))
       go (inr j) = known q j
 
-  few : (seen : List Name) → IsDistinct is_same seen → AreKnown seen → length seen ≤ length w + 8
+  pub few : (seen : List Name) → IsDistinct is_same seen → AreKnown seen → length seen ≤ length w + 8
   few seen once known = let most : length seen ≤ length (names_of w ++ hijacked) = length-le_from_is_member nat_list_eq_equiv seen (names_of w ++ hijacked) once known in omega (arith, most, names_length w)
 
   -- the first of names with a body

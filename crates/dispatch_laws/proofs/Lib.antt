@@ -3,6 +3,7 @@ pub mod SameNames
 pub mod OwnTargets
 pub mod Bodies
 pub mod Chains
+pub mod Proxies
 pub mod Defaults
 pub mod Running
 pub mod WorkedOut
@@ -10,3 +11,4 @@ pub mod Emission
 pub use Rattle.ir_mean.proofs.AncestorsFound
 pub use Rattle.ir_mean.proofs.HijackedCalls
 pub use Rattle.ir_mean.proofs.LawsHold
+pub use Rattle.ir_mean.proofs.LookedUpCalls

@@ -21,7 +21,7 @@ reference-itself TypeRef.Long = refl
 reference-itself (TypeRef.Class c) = text-refl c
 reference-itself (TypeRef.Array a) = array-refl a
 
-references-itself : (rs : List TypeRef) → pointwise is_same_reference rs rs ≡ true
+pub references-itself : (rs : List TypeRef) → pointwise is_same_reference rs rs ≡ true
 references-itself [] = refl
 references-itself (r ∷ rs) = and_from (is_same_reference r r) (pointwise is_same_reference rs rs) (reference-itself r) (references-itself rs)
 

@@ -1,7 +1,8 @@
 -- Targets as the meaning of the IR works them out, as a world has them, and as emission finds them.
 use Rattle.std.specs.Prelude.{◌≡◌, List, Option, Some, None, Ok}
 use Rattle.emit_questions.specs.Task.{Emitted, emitted, emit_task}
-use Rattle.ir_mean.specs.Dispatch.{Found, resolved}
+use Rattle.ir_mean.specs.Calls.{IsProxyTarget, HasNoProxyTarget}
+use Rattle.ir_mean.specs.Dispatch.{Found, resolved, proxy_target}
 use Rattle.emit_questions.specs.Answers.{IsAnswer}
 use Rattle.emit_questions.specs.Apart.{Exchange}
 use Rattle.emit_questions.specs.Runs.{Comes}
@@ -10,6 +11,7 @@ use Rattle.emit_questions.specs.Terms.{Method}
 use Rattle.sj_names.specs.declared.memory.NoMemory.{NoMemory}
 use Rattle.sj_names.specs.declared.method_names.Member.{Member}
 use Rattle.sj_names.specs.declared.method_names.MethodName.{MethodName}
+use Rattle.sj_trees.specs.declared.classes.MethodDef.{MethodDef}
 use Rattle.ir_mean.specs.Known.{Name, Classes}
 use Rattle.ir_mean.specs.Laws.{IsTopped}
 use Rattle.ir_mean.specs.Refusals.{IsInOrder}
@@ -28,6 +30,15 @@ TargetsAreWorkedOut = (w : Classes) → IsInOrder w → (c : Name) (m : MethodNa
 -- the target of a member is what the IR runs where the member is called, if nothing stands above `java.lang.Object`
 abbrev pub TargetsRun : Type 0
 TargetsRun = (w : Classes) → IsTopped w → (k : Member) → IsTargetOf w k (target_in w k)
+
+-- a reflective call on a class reaches this method, in some class of its chain, or none
+abbrev pub IsProxied : Classes → Name → MethodName → Option MethodDef → Type 0
+IsProxied w c p None = HasNoProxyTarget w c p
+IsProxied w c p (Some d) = (owner : Name) × IsProxyTarget w c p d owner
+
+-- what the meaning of the IR works out for a reflective call on a class, the call reaches
+abbrev pub ProxiesAreWorkedOut : Type 0
+ProxiesAreWorkedOut = (w : Classes) (c : Name) (p : MethodName) → IsProxied w c p (proxy_target w c p)
 
 -- what emission comes to by the answers of a world in order is the emitted function by the targets and the hijacked classes of that world
 abbrev pub EmissionFindsTargets : Type 0

@@ -5,6 +5,7 @@ pub mod Tops
 pub use Rattle.sj_calls.proofs.Casting
 pub use Rattle.sj_calls.proofs.Names
 pub use Rattle.sj_calls.proofs.ObjectLevels
+pub use Rattle.sj_calls.proofs.ReflectedCases
 pub use Rattle.sj_calls.proofs.Shapes
 pub use Rattle.sj_calls.proofs.Testing
 pub use Rattle.sj_calls.proofs.Whole

@@ -13,3 +13,9 @@ pub use Rattle.sj_calls.specs.Objects
 pub use Rattle.sj_calls.specs.Worlds
 pub use Rattle.sj_calls.specs.Settings
 pub use Rattle.sj_calls.specs.SjPlainWorlds
+pub use Rattle.sj_calls.specs.Bridges
+pub use Rattle.sj_calls.specs.ClassTestsKinds
+pub use Rattle.sj_calls.specs.Dispatch
+pub use Rattle.sj_calls.specs.Looked
+pub use Rattle.sj_calls.specs.Reflected
+pub use Rattle.sj_calls.specs.Reflecting

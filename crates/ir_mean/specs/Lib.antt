@@ -9,6 +9,7 @@ pub mod States
 pub mod Values
 pub mod World
 pub use Rattle.sj_world.specs.Ancestors
+pub use Rattle.sj_world.specs.Calls
 pub use Rattle.sj_world.specs.Known
 pub use Rattle.sj_world.specs.Laws
 pub use Rattle.sj_world.specs.Paths

@@ -25,7 +25,7 @@ use Rattle.ir_mean.specs.Operators.{Answer, answers, raises, lacks, unary_value,
 use Rattle.sj_names.specs.Same.{is_same_text}
 use Rattle.ir_mean.specs.States.{Value, undefined, null, boolean, char, number, long, text, reference, Stored, object, array, State, Locals, Env, Kind, gives, throws, leaves, stops, Ended, ends, Run, given, go_on, next_address, with_stored, at_address, with_field, with_static, with_cell}
 use Rattle.sure_receivers.specs.Sure.{is_sure, sure_locals}
-use Rattle.ir_mean.specs.World.{World, member_of, new_fields, class_of_value, is_of_type, zero_of, cast_of_null, type_text}
+use Rattle.ir_mean.specs.World.{World, member_of, new_fields, class_of_value, is_instance, is_of_type, zero_of, cast_of_null, type_text, units_of}
 
 -- trees evaluated with one unit less than what stands around them: the bodies of calls and the next turns of loops
 abbrev pub Low : Type 0
@@ -275,6 +275,10 @@ abbrev pub test : World → IrType → List Value → Run
 test w t (v ∷ []) env s = given (is_instance_value w t s v) env s
 test w t _ env s = wrong
 
+-- the exception of a reflective call that finds no method
+abbrev pub no_such_method : List ℕ
+no_such_method = codes "java.lang.NoSuchMethodException"
+
 -- the constructor of an exception with a message
 abbrev pub with_message : MethodName
 with_message = record { simple = codes "<init>"; params = TypeRef.Class (codes "java.lang.String") ∷ []; result = Some TypeRef.Void }
@@ -286,6 +290,15 @@ without_parameters = record { simple = codes "<init>"; params = []; result = Som
 abbrev pub method_found : Option Found → Option MethodDef
 method_found None = None
 method_found (Some found) = Some found.method
+
+-- the class of which the receiver of Apply has to be an instance: the receiver class, where the value's own class decides where the call looks
+abbrev pub looked_class : Option (List ℕ) → Option (List ℕ)
+looked_class None = None
+looked_class (Some c) = if is_hijacked c then None else Some c
+
+abbrev pub class_looked_up : IrType → Option TypeRef → Option (List ℕ)
+class_looked_up t None = None
+class_looked_up t (Some r) = looked_class (receiver_class t)
 
 module _ (world : World) where
   -- New: an object of the class is made, with its fields at the zeros of their types; its constructor runs on it, with one unit less; and it is given
@@ -333,18 +346,26 @@ module _ (world : World) where
   target_in None m = None
   target_in (Some c) m = method_found (resolved world c m)
 
-  -- Apply with a receiver class: a hijacked one decides where the call looks, and else the value's own class
-  abbrev pub is_fixed_class : Option (List ℕ) → Bool
-  is_fixed_class None = false
-  is_fixed_class (Some c) = is_hijacked c
+  -- a receiver of such a call: what is no instance takes none, and so its arguments aren't evaluated
+  abbrev pub only_instance : List ℕ → Value → Run
+  only_instance c v env s = if is_instance world s v c then given v env s else wrong
 
-  abbrev pub call_virtual : Low → IrType → MethodName → List Value → Run
-  call_virtual low t m (v ∷ vs) env s = call_on low (target_in (if is_fixed_class (receiver_class t) then receiver_class t else class_of_value s v) m) (v ∷ vs) env s
-  call_virtual low t m [] env s = wrong
+  abbrev pub taking : Option (List ℕ) → Run → Run
+  taking None r = r
+  taking (Some c) r = λ env s. go_on (r env s) (only_instance c)
+
+  -- Apply with a receiver class: a hijacked one decides where the call looks, and else the value's own class, where the value is an instance
+  abbrev pub call_instance : Low → List ℕ → MethodName → List Value → Run
+  call_instance low c m (v ∷ vs) env s = if is_instance world s v c then call_on low (target_in (class_of_value s v) m) (v ∷ vs) env s else wrong
+  call_instance low c m [] env s = wrong
+
+  abbrev pub call_virtual : Low → Option (List ℕ) → MethodName → List Value → Run
+  call_virtual low None m vs env s = wrong
+  call_virtual low (Some c) m vs env s = if is_hijacked c then call_on low (target_in (Some c) m) vs env s else call_instance low c m vs env s
 
   -- a reflective call: the proxy target of the value's own class, resolved again from that class
   abbrev pub call_named : Low → MethodName → List ℕ → Option MethodDef → List Value → Run
-  call_named low p c None vs env s = raise low (codes "java.lang.NoSuchMethodException") (spelled_method p) env s
+  call_named low p c None vs env s = raise low no_such_method (units_of (spelled_method p)) env s
   call_named low p c (Some d) vs env s = call_on low (target_in (Some c) d.name) vs env s
 
   abbrev pub call_proxy : Low → MethodName → Option (List ℕ) → List Value → Run
@@ -358,7 +379,7 @@ module _ (world : World) where
   -- a name without a result is that of a reflective call
   abbrev pub call_method : Low → IrType → MethodName → Option TypeRef → List Value → Run
   call_method low t m None = call_reflective low m
-  call_method low t m (Some r) = call_virtual low t m
+  call_method low t m (Some r) = call_virtual low (receiver_class t) m
 
   -- ApplyStatically: in Public the target of the class that is named, else its own member
   abbrev pub static_target : List ℕ → Namespace → MethodName → Option MethodDef
@@ -414,7 +435,7 @@ module _ (world : World) where
     step low (store_module p c e) env s = in_order (step low e ∷ []) (store c) env s
     step low (select p e c f t) env s = in_order (receiving (is_sure env.sure e) low (step low e) ∷ []) (select_field c f) env s
     step low (select_static p c f t) env s = value_or_wrong (s.statics c f) env s
-    step low (apply p e m ts t) env s = in_order (receiving (is_sure env.sure e) low (step low e) ∷ operands low ts) (call_method low (type_of_term e) m m.result) env s
+    step low (apply p e m ts t) env s = in_order (taking (class_looked_up (type_of_term e) m.result) (receiving (is_sure env.sure e) low (step low e)) ∷ operands low ts) (call_method low (type_of_term e) m m.result) env s
     step low (apply_statically p e c n m ts t) env s = in_order (receiving (is_sure env.sure e) low (step low e) ∷ operands low ts) (call_on low (static_target c n m)) env s
     step low (apply_static p c n m ts t) env s = in_order (operands low ts) (call low (member_of world c n m) None) env s
     step low (unary_op p op e) env s = in_order (step low e ∷ []) (unary low op) env s

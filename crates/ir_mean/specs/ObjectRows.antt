@@ -69,9 +69,9 @@ exceptions = exception (codes "java.lang.NullPointerException") ∷ exception (c
 abbrev a_type : IrType
 a_type = types.Class (codes "A")
 
--- the interface `I` with a body for `m`; `A` with the field `x`, a constructor that sets it to 1, and `n`; `B` below `A`, an `I`, with its own `n`
+-- the interface `I` with a body for `m`; `A` with the field `x`, a constructor that sets it to 1, and `n`; `B` below `A`, an `I`, with its own `n`; the interface `J` with bodies for `m` and `n`, and `C` below `A`, a `J` and an `I`, with nothing of its own
 abbrev family : World
-family = class_with (codes "I") kinds.Interface None [] [] (gives_text (codes "m") (word (codes "i")) ∷ []) ∷ class_with (codes "A") kinds.Class (Some object_name) [] (int_field (codes "x") ∷ int_static (codes "y") ∷ []) (constructor (assign nowhere (select nowhere (this_ref nowhere a_type) (codes "A") (codes "x") types.Int) (int_literal nowhere (pos 1))) ∷ gives_text (codes "n") (word (codes "a")) ∷ []) ∷ class_with (codes "B") kinds.Class (Some (codes "A")) (codes "I" ∷ []) [] (constructor (skip nowhere) ∷ gives_text (codes "n") (word (codes "b")) ∷ []) ∷ class_with (codes "java.lang.Integer") kinds.HijackedClass (Some object_name) [] [] (gives_text (codes "n") (word (codes "int")) ∷ []) ∷ class_with (codes "M") kinds.ModuleClass (Some object_name) [] (int_field (codes "z") ∷ []) (constructor (block_of nowhere (more_terms (store_module nowhere (codes "M") (this_ref nowhere (types.Class (codes "M")))) (more_terms (logs (codes "loaded")) no_terms))) ∷ []) ∷ []
+family = class_with (codes "I") kinds.Interface None [] [] (gives_text (codes "m") (word (codes "i")) ∷ []) ∷ class_with (codes "A") kinds.Class (Some object_name) [] (int_field (codes "x") ∷ int_static (codes "y") ∷ []) (constructor (assign nowhere (select nowhere (this_ref nowhere a_type) (codes "A") (codes "x") types.Int) (int_literal nowhere (pos 1))) ∷ gives_text (codes "n") (word (codes "a")) ∷ []) ∷ class_with (codes "B") kinds.Class (Some (codes "A")) (codes "I" ∷ []) [] (constructor (skip nowhere) ∷ gives_text (codes "n") (word (codes "b")) ∷ []) ∷ class_with (codes "J") kinds.Interface None [] [] (gives_text (codes "m") (word (codes "j")) ∷ gives_text (codes "n") (word (codes "j")) ∷ []) ∷ class_with (codes "C") kinds.Class (Some (codes "A")) (codes "J" ∷ codes "I" ∷ []) [] (constructor (skip nowhere) ∷ []) ∷ class_with (codes "java.lang.Integer") kinds.HijackedClass (Some object_name) [] [] (gives_text (codes "n") (word (codes "int")) ∷ []) ∷ class_with (codes "M") kinds.ModuleClass (Some object_name) [] (int_field (codes "z") ∷ []) (constructor (block_of nowhere (more_terms (store_module nowhere (codes "M") (this_ref nowhere (types.Class (codes "M")))) (more_terms (logs (codes "loaded")) no_terms))) ∷ []) ∷ []
 
 abbrev world : Term → World
 world main = object_with (static_method (codes "main") main ∷ []) ∷ family ++ exceptions
@@ -110,12 +110,12 @@ y_of_a = select_static nowhere (codes "A") (codes "y") types.Int
 abbrev pub fields : Term
 fields = all_of (says (x_of (new_of (codes "A"))) ∷ says (x_of (new_of (codes "B"))) ∷ var_def nowhere (codes "a") a_type false (new_of (codes "A")) ∷ assign nowhere (x_of (var_ref nowhere (codes "a") a_type)) (whole 7) ∷ says (x_of (var_ref nowhere (codes "a") a_type)) ∷ says y_of_a ∷ assign nowhere y_of_a (whole 8) ∷ says y_of_a ∷ [])
 
--- a call goes by the value's own class, also to a body of an interface; a hijacked receiver class decides itself
+-- a call goes by the value's own class, also to a body of an interface: the least of two, and none where a superclass has a body; a hijacked receiver class decides itself
 abbrev calls_n : IrType → Term → Term
 calls_n t e = log_line nowhere (apply nowhere (as_instance_of nowhere e t) (text_name (codes "n")) no_terms types.String)
 
 abbrev pub dispatches : Term
-dispatches = all_of (calls_n a_type (new_of (codes "A")) ∷ calls_n a_type (new_of (codes "B")) ∷ calls_n types.Any (whole 300) ∷ log_line nowhere (apply nowhere (new_of (codes "B")) (text_name (codes "m")) no_terms types.String) ∷ log_line nowhere (apply_statically nowhere (new_of (codes "B")) (codes "A") Namespace.Public (text_name (codes "n")) no_terms types.String) ∷ log_line nowhere (apply nowhere (new_of (codes "B")) (named (codes "n") [] None) no_terms types.String) ∷ [])
+dispatches = all_of (calls_n a_type (new_of (codes "A")) ∷ calls_n a_type (new_of (codes "B")) ∷ calls_n types.Any (whole 300) ∷ log_line nowhere (apply nowhere (new_of (codes "B")) (text_name (codes "m")) no_terms types.String) ∷ log_line nowhere (apply_statically nowhere (new_of (codes "B")) (codes "A") Namespace.Public (text_name (codes "n")) no_terms types.String) ∷ log_line nowhere (apply nowhere (new_of (codes "B")) (named (codes "n") [] None) no_terms types.String) ∷ calls_n a_type (new_of (codes "C")) ∷ log_line nowhere (apply nowhere (new_of (codes "C")) (text_name (codes "m")) no_terms types.String) ∷ [])
 
 -- each is thrown by its constructor, which logs the message, and costs a unit
 abbrev pub raises : List Term
@@ -195,3 +195,7 @@ finals = all_of (says (try_catch nowhere (try_finally nowhere (throw nowhere (wo
 -- a value that travels past a finalizer that gives its own jump up
 abbrev pub given_up : Term
 given_up = says (labeled nowhere (codes "l") types.Int (try_finally nowhere (return_to nowhere (whole 1) (codes "l")) (labeled nowhere (codes "m") types.NoType (try_finally nowhere (return_to nowhere (whole 2) (codes "l")) (return_to nowhere (skip nowhere) (codes "m"))))))
+
+-- a call on what is no instance of the class that it names: its arguments aren't evaluated
+abbrev pub sent_to_text : Term
+sent_to_text = all_of (var_def nowhere (codes "a") a_type false (word (codes "w")) ∷ apply nowhere (var_ref nowhere (codes "a") a_type) (text_name (codes "n")) (block (all_of (logs (codes "late") ∷ word [] ∷ []) ∷ [])) types.String ∷ [])

@@ -82,13 +82,14 @@ pub fn worked_trees()
 pub fn worked_objects()
     ensures fields { objects.shown (objects.fields) 2 ≡ record { lines = codes "1" ∷ codes "0" ∷ codes "7" ∷ codes "0" ∷ codes "8" ∷ []; end = Done normal } }
     ensures constructor_going { objects.shown (objects.fields) 1 ≡ record { lines = []; end = Going } }
-    ensures dispatches { objects.shown (objects.dispatches) 2 ≡ record { lines = codes "a" ∷ codes "b" ∷ codes "int" ∷ codes "i" ∷ codes "a" ∷ codes "b" ∷ []; end = Done normal } }
+    ensures dispatches { objects.shown (objects.dispatches) 2 ≡ record { lines = codes "a" ∷ codes "b" ∷ codes "int" ∷ codes "i" ∷ codes "a" ∷ codes "b" ∷ codes "a" ∷ codes "i" ∷ []; end = Done normal } }
     ensures all_caught { objects.shown (objects.all_caught) 2 ≡ record { lines = codes "null" ∷ codes "/ by zero" ∷ codes "/ by zero" ∷ codes "B" ∷ codes "[[I" ∷ codes "undef" ∷ codes "1" ∷ codes "-1" ∷ codes "-3" ∷ codes "bad element" ∷ codes "gone;I;R" ∷ []; end = Done normal } }
     ensures exception_going { objects.shown (objects.all_caught) 1 ≡ record { lines = []; end = Going } }
     ensures uncaught { objects.shown (objects.uncaught) 2 ≡ record { lines = codes "null" ∷ []; end = Done (uncaught (object_of (codes "java.lang.NullPointerException"))) } }
     ensures sent_to_null { objects.shown (objects.sent_to_null) 2 ≡ record { lines = codes "null" ∷ []; end = Done (uncaught (object_of (codes "java.lang.NullPointerException"))) } }
     ensures made_last { objects.given (objects.made_last) 2 ≡ Some (reference 1) }
     ensures set_on_text { objects.shown (objects.set_on_text) 2 ≡ record { lines = []; end = Wrong } }
+    ensures sent_to_text { objects.shown (objects.sent_to_text) 2 ≡ record { lines = []; end = Wrong } }
     ensures mutable_local { objects.shown (objects.sure_local true) 2 ≡ record { lines = codes "null" ∷ []; end = Done (uncaught (object_of (codes "java.lang.NullPointerException"))) } }
     ensures sure_local { objects.shown (objects.sure_local false) 2 ≡ record { lines = []; end = Wrong } }
     ensures order { objects.shown (objects.order) 2 ≡ record { lines = codes "index" ∷ codes "value" ∷ codes "0" ∷ []; end = Done (uncaught (object_of (codes "java.lang.ArrayIndexOutOfBoundsException"))) } }

@@ -39,3 +39,4 @@ pub use Rattle.linked_pieces.proofs.Equal
 pub use Rattle.accepted_folders.proofs.Kept
 pub use Rattle.accepted_folders.proofs.Targets as BuiltFormsTargets
 pub use Rattle.accepted_folders.proofs.Undenied
+pub use Rattle.linked_pieces.proofs.Facts

@@ -13,6 +13,7 @@ use Rattle.accepted_folders.proofs.Owners.{one_owner}
 use Rattle.linked_pieces.proofs.Reflective.{without_result}
 use Rattle.accepted_folders.proofs.Firsts.{standing}
 use Rattle.linked_pieces.specs.Order.{AreInOrder}
+use Rattle.linked_pieces.specs.Reflected.{HasOneTarget}
 use Rattle.linked_pieces.proofs.Names.{tied_name}
 use Rattle.linked_pieces.proofs.Order.{one_order}
 use Rattle.proxy_targets.specs.Proxies.{IsTargetName}
@@ -166,6 +167,10 @@ module _ (entries : List EntryPoint) (files : List SourceFile) (w : Classes) (a 
 
   plain : IsPlain w
   plain = plain_world w (λ c h. keeps-superclass c (kept c h)) (λ c h. keeps-hijacked c (kept c h))
+
+  -- a reflective call on a class reaches methods of one name
+  pub one_method : HasOneTarget w
+  one_method c p d e owner other h k = one_target_name w a.world.no_cycle plain kept wide c p d.name e.name (record { definition = d; owner = owner; is_target = h; name_is = refl }) (record { definition = e; owner = other; is_target = k; name_is = refl })
 
   unique : (facts : List Fact) (x y : MethodEntry) → IsMethodEntry w facts x → IsMethodEntry w facts y → AreTied x y → x ≡ y
   unique facts = one_entry w (one_target_name w a.world.no_cycle plain kept wide) kept wide facts

@@ -29,6 +29,9 @@ pub use Rattle.linked_pieces.specs.Laws as LinkedPiecesLaws
 pub use Rattle.linked_pieces.specs.Order
 pub use Rattle.linked_pieces.specs.Pieces as LinkedPiecesPieces
 pub use Rattle.linked_pieces.specs.Used
+pub use Rattle.linked_pieces.specs.Dispatch
+pub use Rattle.linked_pieces.specs.Dispatched
+pub use Rattle.linked_pieces.specs.Reflected as ToldPieces
 pub use Rattle.accepted_folders.specs.Boxes
 pub use Rattle.accepted_folders.specs.Kept
 pub use Rattle.accepted_folders.specs.Label

@@ -28,6 +28,9 @@ pub use Rattle.declared_pieces.proofs.Forms
 pub use Rattle.declared_pieces.proofs.Found
 pub use Rattle.declared_pieces.proofs.Hijacked
 pub use Rattle.declared_pieces.proofs.Live as DeclaredPiecesLive
+pub use Rattle.declared_pieces.proofs.Below as DeclaredPiecesBelow
+pub use Rattle.declared_pieces.proofs.Looked as DeclaredPiecesLooked
+pub use Rattle.declared_pieces.proofs.Named as DeclaredPiecesNamed
 pub use Rattle.declared_pieces.proofs.Made
 pub use Rattle.declared_pieces.proofs.Order
 pub use Rattle.declared_pieces.proofs.Parts
@@ -45,3 +48,7 @@ pub use Rattle.declared_pieces.proofs.ObjectFoldersWorlds
 pub use Rattle.declared_pieces.proofs.Throwing
 pub use Rattle.declared_pieces.proofs.Verdict
 pub use Rattle.declared_pieces.proofs.Whole
+pub use Rattle.declared_pieces.proofs.Facts
+pub use Rattle.declared_pieces.proofs.LinkedEntriesOne
+pub use Rattle.declared_pieces.proofs.Proxies
+pub use Rattle.declared_pieces.proofs.ReflectedCases

@@ -8,6 +8,8 @@ use Rattle.js_tree.specs.Terms.{Module, Piece}
 use Rattle.js_tree.proofs.Kept.{module_kept}
 use Rattle.js_tree.proofs.TextLaws.{module_spelled}
 use Rattle.declared_pieces.proofs.One.{are_one as pieces_are_one}
+use Rattle.declared_pieces.proofs.LinkedEntriesOne.{one_method}
+use Rattle.declared_pieces.specs.ToldPieces.{HasOneTarget}
 use Rattle.declared_pieces.specs.LinkedPiecesLaws.{AreAlike}
 use Rattle.declared_pieces.proofs.LinkedEntriesOne.{entries_one}
 use Rattle.declared_pieces.specs.Emitted.{EmittedMethod, call_item_of}
@@ -28,8 +30,8 @@ use Rattle.linked_folders.specs.Link.{ArePieces}
 use Rattle.linked_folders.specs.Laws.{PiecesAreOne}
 
 -- what is found for a member is one
-one_method : (w : Classes) (e f : EmittedMethod) → e.member ≡ f.member → IsFound w e → IsFound w f → e ≡ f
-one_method w e f same one other =
+one_found : (w : Classes) (e f : EmittedMethod) → e.member ≡ f.member → IsFound w e → IsFound w f → e ≡ f
+one_found w e f same one other =
     let found : Some e.definition ≡ Some f.definition = sym one.found ∙ ap (λ (m : Member). member_of w m.class m.namespace m.method) same ∙ other.found in
     let definition : e.definition ≡ f.definition = cc in
     let body : Some e.its_body ≡ Some f.its_body = sym one.has_body ∙ ap (λ d. d.body) definition ∙ other.has_body in
@@ -40,7 +42,7 @@ module _ (w : Classes) (entries : List EntryPoint) where
   pub same_bodies : (all more : List EmittedMethod) → AreBodies w entries all → AreBodies w entries more → (e : EmittedMethod) → Contains all e → Contains more e
   same_bodies all more one other e i =
       let f : HasFunction more e.member = (other.exact e.member).1 ((one.exact e.member).0 (record { method = e; listed = i; is = refl })) in
-      subst (Contains more) (one_method w f.method e f.is (other.found f.method f.listed) (one.found e i)) f.listed
+      subst (Contains more) (one_found w f.method e f.is (other.found f.method f.listed) (one.found e i)) f.listed
 
 -- graphs of the same pieces have the same references, and so the same walks
 pub same_walk : (one other : References) → ((r : Reference) → Contains one r → Contains other r) → (a b : Name) → Walk one a b → Walk other a b
@@ -59,10 +61,13 @@ module _ (entries : List EntryPoint) (files : List SourceFile) (w : Classes) (ac
   kept c i = accepted.kept c (Contains-permutation w accepted.classes c (IsPermutation-sym accepted.classes w accepted.world.sorted.same) i)
 
   pub one_pieces : (ps qs : List Piece) → ArePieces w entries ps → ArePieces w entries qs → ps ≡ qs
-  one_pieces ps qs one other = pieces_are_one one.linked other.linked one.all other.all ps qs of_world alike (λ e. (same_bodies w entries one.all other.all one.bodies other.bodies e, same_bodies w entries other.all one.all other.bodies one.bodies e)) one.are other.are
+  one_pieces ps qs one other = pieces_are_one one.linked other.linked one.all other.all ps qs of_world of_names alike (λ e. (same_bodies w entries one.all other.all one.bodies other.bodies e, same_bodies w entries other.all one.all other.bodies one.bodies e)) one.are other.are
     where
       of_world : (c : ClassDef) → Contains one.linked.world c → FirstBroken c None
       of_world = subst (λ (u : Classes). (c : ClassDef) → Contains u c → FirstBroken c None) (sym one.is_linked.world) kept
+
+      of_names : HasOneTarget one.linked.world
+      of_names = subst HasOneTarget (sym one.is_linked.world) (one_method entries files w accepted)
 
       same_facts : (f : Fact) → Contains one.facts f ↔ Contains other.facts f
       same_facts f = (λ i. (other.are_facts f).1 ((one.are_facts f).0 i), λ i. (one.are_facts f).1 ((other.are_facts f).0 i))

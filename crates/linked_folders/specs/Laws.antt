@@ -7,7 +7,7 @@ use Rattle.declared_pieces.specs.Bodies.{AreBodies}
 use Rattle.declared_pieces.specs.Built.{is_object_body}
 use Rattle.declared_pieces.specs.Closed.{IsClosed}
 use Rattle.declared_pieces.specs.Emitted.{EmittedMethod}
-use Rattle.declared_pieces.specs.Entries.{IsLive}
+use Rattle.declared_pieces.specs.Entries.{AreEntries, IsLive}
 use Rattle.declared_pieces.specs.Pieces.{AreLinkedPieces}
 use Rattle.declared_pieces.specs.Reachable.{Reachable}
 use Rattle.declared_pieces.specs.Running.{CanRun}
@@ -38,6 +38,7 @@ WrittenPiecesRun = (entries : List EntryPoint) (files : List SourceFile) (l : Li
     → ((f : Fact) → Contains l.facts f ↔ Reachable l.world entries f)
     → ((e : EmittedMethod) → Contains all e → is_object_body e.definition e.its_body ≡ true)
     → (p : AreLinkedPieces l all ps)
+    → AreEntries l.world l.facts l.entries
     → (written : List Name)
     → IsClosed ps written
     → Runs entries l all ps p written

@@ -7,6 +7,9 @@ pub use Rattle.declared_pieces.specs.Modules
 pub use Rattle.declared_pieces.specs.Entries
 pub use Rattle.declared_pieces.specs.Accepted
 pub use Rattle.declared_pieces.specs.Pieces
+pub use Rattle.declared_pieces.specs.Dispatch
+pub use Rattle.declared_pieces.specs.Dispatched
+pub use Rattle.declared_pieces.specs.ToldPieces
 pub use Rattle.declared_pieces.specs.Bodies
 pub use Rattle.declared_pieces.specs.Used
 pub use Rattle.declared_pieces.specs.Refusals
@@ -26,3 +29,7 @@ pub use Rattle.declared_pieces.specs.BodyUsesLaws
 pub use Rattle.declared_pieces.specs.Laws as DeclaredPiecesLaws
 pub use Rattle.declared_pieces.specs.Linked
 pub use Rattle.declared_pieces.specs.Running
+pub use Rattle.declared_pieces.specs.ClassTestsKinds
+pub use Rattle.declared_pieces.specs.Targets
+pub use Rattle.declared_pieces.specs.Looked
+pub use Rattle.declared_pieces.specs.Reflected

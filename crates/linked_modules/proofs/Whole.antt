@@ -62,6 +62,7 @@ use Rattle.declared_modules.specs.RunningModulesLaws.{IsThere}
 use Rattle.sj_agree.specs.Agrees.{Agrees}
 use Rattle.sj_graph.specs.References.{IsGraph}
 use Rattle.sj_graph.specs.declared.graphs.Graph.{Graph}
+use Rattle.declared_modules.specs.Entries.{AreEntries as AreMethodEntries}
 use Rattle.sj_names.specs.EntryPoints.{AreEntries}
 use Rattle.sj_names.specs.declared.entry_points.EntryPoint.{EntryPoint}
 use Rattle.sj_names.specs.declared.folders.SourceFile.{SourceFile}
@@ -81,7 +82,7 @@ use Rattle.linked_modules.specs.Laws.{LinkedModulesAgree}
 one_file : (f g : Name) → Some f ≡ Some g → f ≡ g
 one_file f g e = cc
 
-module _ (entries : List EntryPoint) (files : List SourceFile) (l : Linked) (all : List EmittedMethod) (ps : List Piece) (bytes : (file : SourceFile) → Contains files file → AreBytes file.bytes) (a : IsAccepted entries files l.world) (bodies : AreBodies l.world entries all) (exact : (f : Fact) → Contains l.facts f ↔ Reachable l.world entries f) (objects : (e : EmittedMethod) → Contains all e → is_object_body e.definition e.its_body ≡ true) (p : AreLinkedPieces l all ps)
+module _ (entries : List EntryPoint) (files : List SourceFile) (l : Linked) (all : List EmittedMethod) (ps : List Piece) (bytes : (file : SourceFile) → Contains files file → AreBytes file.bytes) (a : IsAccepted entries files l.world) (bodies : AreBodies l.world entries all) (exact : (f : Fact) → Contains l.facts f ↔ Reachable l.world entries f) (objects : (e : EmittedMethod) → Contains all e → is_object_body e.definition e.its_body ≡ true) (p : AreLinkedPieces l all ps) (methods : AreMethodEntries l.world l.facts l.entries)
     (uses : (q : Piece) → Contains ps q → (b : Binding) → Contains q.uses b → IsDeclared ps b) (graph : Graph) (style : Style) (modules : List PlannedModule) (valid : AreEntries entries) (countable : AreCountable graph entries) (is_graph : IsGraph ps graph) (is : IsPlan sha1_digest graph entries style modules) (id : Id) (entered : Contains (map module_of entries) id) where
   abbrev w : Classes
   w = l.world
@@ -135,16 +136,16 @@ module _ (entries : List EntryPoint) (files : List SourceFile) (l : Linked) (all
   owned = written_closed modules ps order stands whole first
 
   abbrev its_live : List Name
-  its_live = links.its_live entries files l all ps bytes a bodies exact objects p written owned
+  its_live = links.its_live entries files l all ps bytes a bodies exact objects p methods written owned
 
   abbrev has : Usable
-  has = links.has entries files l all ps bytes a bodies exact objects p written owned
+  has = links.has entries files l all ps bytes a bodies exact objects p methods written owned
 
   run : CanRun w entries l.facts all its_live p.helpers written
-  run = links.run entries files l all ps bytes a bodies exact objects p written owned
+  run = links.run entries files l all ps bytes a bodies exact objects p methods written owned
 
   proper : AreProper modules ps
-  proper = linked_pieces_are_proper l all ps modules (links.named entries files l all ps bytes a bodies exact objects p written owned) (links.once entries files l all ps bytes a bodies exact objects p written owned) p closed
+  proper = linked_pieces_are_proper l all ps modules (links.named entries files l all ps bytes a bodies exact objects p methods written owned) (links.once entries files l all ps bytes a bodies exact objects p methods written owned) p closed
 
   abbrev z : Spread
   z = spread_of modules ps w has runs_last.front last own_items
@@ -160,15 +161,15 @@ module _ (entries : List EntryPoint) (files : List SourceFile) (l : Linked) (all
       in_last e = item_in_last program runs_last.front last own_items q.item (into_map item_of (filter (is_owned_in (file_with modules) last) ps) q (into_filter (is_owned_in (file_with modules) last) ps q i (is_it last (file_with modules q.owner) e)))
 
       go : Contains runs_last.front f ⊎ (last ≡ f) → Contains (all_items z) (placed f q.item)
-      go (inl j) = item_in_front program runs_last.front last own_items f q.item j (item_at sha1_digest graph entries style modules files l all ps bytes a (λ g. (exact g).0) p (links.all_covered entries files l all ps bytes a bodies exact objects p written owned) valid keep is_graph is closed q f i is_in)
+      go (inl j) = item_in_front program runs_last.front last own_items f q.item j (item_at sha1_digest graph entries style modules files l all ps bytes a (λ g. (exact g).0) p (links.all_covered entries files l all ps bytes a bodies exact objects p methods written owned) valid keep is_graph is closed q f i is_in)
       go (inr e) = subst (λ (g : Name). Contains (all_items z) (placed g q.item)) e (in_last (is_in ∙ ap Some (sym e)))
 
   -- the objects of those files are constants of classes
   marks : DeclaresConstants z
-  marks g x qs i = modules_declare_constants sha1_digest graph entries style modules files l all ps bytes a (λ f. (exact f).0) p (links.all_covered entries files l all ps bytes a bodies exact objects p written owned) valid keep is_graph is closed there.planned there.among runs_last.front runs_last.order g x qs i
+  marks g x qs i = modules_declare_constants sha1_digest graph entries style modules files l all ps bytes a (λ f. (exact f).0) p (links.all_covered entries files l all ps bytes a bodies exact objects p methods written owned) valid keep is_graph is closed there.planned there.among runs_last.front runs_last.order g x qs i
 
   declared : Declared z
-  declared = modules_declare entries files l all its_live written modules ps runs_last.front last own_items bytes a bodies p (links.lives entries files l all ps bytes a bodies exact objects p written owned) run owned (links.all_covered entries files l all ps bytes a bodies exact objects p written owned) proper.together whole all_stand marks
+  declared = modules_declare entries files l all its_live written modules ps runs_last.front last own_items bytes a bodies p methods (links.lives entries files l all ps bytes a bodies exact objects p methods written owned) run owned (links.all_covered entries files l all ps bytes a bodies exact objects p methods written owned) proper.together whole all_stand marks
 
   lawful : IsLawful z has
   lawful = record {
@@ -184,7 +185,7 @@ module _ (entries : List EntryPoint) (files : List SourceFile) (l : Linked) (all
   initializer_linked : (e : EntryPoint) → Contains (initializers entries id) e → (z.has last).linked (initializer_member e) ≡ true
   initializer_linked e i =
       and_from (has.linked (initializer_member e)) (uses_in modules ps last (called e))
-      (links.starts entries files l all ps bytes a bodies exact objects p written owned e (links.initializers_among id entries e i) (use_written modules ps order stands whole first last (called e) last_runs (calls e i)))
+      (links.starts entries files l all ps bytes a bodies exact objects p methods written owned e (links.initializers_among id entries e i) (use_written modules ps order stands whole first last (called e) last_runs (calls e i)))
       ((used_there modules ps last (called e)).1 (calls e i))
 
   public : IsPublic z id (initializers entries id)
@@ -193,7 +194,7 @@ module _ (entries : List EntryPoint) (files : List SourceFile) (l : Linked) (all
     order = runs_last.order;
     good = reached_files_are_good modules ps proper there.planned there.among;
     items = modules_have_their_items sha1_digest graph entries style modules ps keep is there.planned there.among ∙ ap (λ (es : List EntryPoint). own_items ++ map call_item_of es) there.calls;
-    declares = modules_declare_in_order sha1_digest graph entries style modules files l all ps bytes a (λ f. (exact f).0) p (links.all_covered entries files l all ps bytes a bodies exact objects p written owned) valid keep is_graph is closed there.planned there.among runs_last.front runs_last.order;
+    declares = modules_declare_in_order sha1_digest graph entries style modules files l all ps bytes a (λ f. (exact f).0) p (links.all_covered entries files l all ps bytes a bodies exact objects p methods written owned) valid keep is_graph is closed there.planned there.among runs_last.front runs_last.order;
     linked = initializer_linked;
   }
 
@@ -217,5 +218,8 @@ linked_modules_agree entries files w style id link_files bytes a valid built lin
     l : Linked
     l = pieces.linked
 
+    its_methods : AreMethodEntries l.world l.facts l.entries
+    its_methods = subst (λ (fs : List Fact). AreMethodEntries l.world fs l.entries) (sym pieces.is_linked.facts_are) (subst (λ (x : Classes). AreMethodEntries x pieces.facts l.entries) (sym pieces.is_linked.world) pieces.is_linked.entries)
+
     at_linked : Agreed entries files id link_files pieces.all pieces.facts l.world
-    at_linked accepted forms bodies facts = files_show entries files l pieces.all link.pieces bytes accepted bodies (subst (λ (fs : List Fact). (f : Fact) → Contains fs f ↔ Reachable l.world entries f) (sym pieces.is_linked.facts_are) facts) (λ e i. links.body_built e.definition e.its_body (bodies.found e i).has_body (forms e.member e.definition (needed l.world entries pieces.all bodies e i) (defined l.world e.member e.definition (bodies.found e i).found))) pieces.are (uses_are_declared entries files w link.pieces bytes a built pieces) link.graph style link.plan valid countable link.is_graph link.is_plan id entered link_files link.files_are
+    at_linked accepted forms bodies facts = files_show entries files l pieces.all link.pieces bytes accepted bodies (subst (λ (fs : List Fact). (f : Fact) → Contains fs f ↔ Reachable l.world entries f) (sym pieces.is_linked.facts_are) facts) (λ e i. links.body_built e.definition e.its_body (bodies.found e i).has_body (forms e.member e.definition (needed l.world entries pieces.all bodies e i) (defined l.world e.member e.definition (bodies.found e i).found))) pieces.are its_methods (uses_are_declared entries files w link.pieces bytes a built pieces) link.graph style link.plan valid countable link.is_graph link.is_plan id entered link_files link.files_are

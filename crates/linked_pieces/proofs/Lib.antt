@@ -1,3 +1,7 @@
+pub mod Dispatched
+pub mod Reflected
+pub mod Telling
+pub mod Facts
 pub mod Fields
 pub mod Names
 pub mod One

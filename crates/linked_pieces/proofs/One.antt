@@ -33,6 +33,8 @@ use Rattle.sj_world.specs.declared.linked.MethodEntry.{MethodEntry}
 use Rattle.linked_pieces.specs.Laws.{LinkedPiecesAreOne}
 use Rattle.linked_pieces.specs.Order.{StandsBefore, by_ancestors, by_name, AreClasses, HasLesserName, AreMethodsOf}
 use Rattle.linked_pieces.specs.Pieces.{Block, IsBlock, AreBlocks, HasLesserWord, IsUsed, AreHelpers, pieces_of_block, with_helpers, AreLinkedPieces}
+use Rattle.linked_pieces.proofs.Reflected.{one_told}
+use Rattle.linked_pieces.specs.Reflected.{HasOneTarget}
 use Rattle.linked_pieces.proofs.Fields.{Apart, moved, fields_apart, one_sorting, picked_among, picked_apart, picks_filter}
 use Rattle.linked_pieces.proofs.Names.{one_ancestors}
 use Rattle.linked_pieces.proofs.Order.{one_order}
@@ -179,14 +181,16 @@ module _ (w : Classes) (kept : (c : ClassDef) → Contains w c → FirstBroken c
     one_helpers : (ps qs : List Piece) (hs gs : List Helper) → ps ≡ qs → AreHelpers ps hs → AreHelpers qs gs → hs ≡ gs
     one_helpers ps qs hs gs same one other = one_order HasLesserWord never_word hs gs one.in_order other.in_order (λ h. (λ i. (other.exact h).1 (subst (λ xs. IsUsed xs h) same ((one.exact h).0 i)), λ i. (one.exact h).1 (subst (λ xs. IsUsed xs h) (sym same) ((other.exact h).0 i))))
 
-    pub one_list : (all others : List EmittedMethod) → ((e : EmittedMethod) → Contains all e ↔ Contains others e) → (ps qs : List Piece) → AreLinkedPieces (with_facts known) all ps → AreLinkedPieces (with_facts more) others qs → ps ≡ qs
-    one_list all others each ps qs one other =
+    pub one_list : HasOneTarget w → (all others : List EmittedMethod) → ((e : EmittedMethod) → Contains all e ↔ Contains others e) → (ps qs : List Piece) → AreLinkedPieces (with_facts known) all ps → AreLinkedPieces (with_facts more) others qs → ps ≡ qs
+    one_list one_target all others each ps qs one other =
         let cs : one.classes ≡ other.classes = one_classes w one.classes other.classes one.are_classes other.are_classes in
         let blocks : one.blocks ≡ other.blocks = one_blocks all others each other.classes one.blocks other.blocks (subst (λ xs. AreBlocks (with_facts known) all xs one.blocks) cs one.are_blocks) other.are_blocks in
-        let helpers : one.helpers ≡ other.helpers = one_helpers (flat_map (pieces_of_block w) one.blocks) (flat_map (pieces_of_block w) other.blocks) one.helpers other.helpers (ap (flat_map (pieces_of_block w)) blocks) one.are_helpers other.are_helpers in
+        let pieces_too : flat_map (pieces_of_block w) one.blocks ≡ flat_map (pieces_of_block w) other.blocks = ap (flat_map (pieces_of_block w)) blocks in
+        let told : one.told ≡ other.told = one_told w one_target entries known more to from (flat_map (pieces_of_block w) one.blocks) (flat_map (pieces_of_block w) other.blocks) one.told other.told pieces_too one.are_told other.are_told in
+        let helpers : one.helpers ≡ other.helpers = one_helpers (flat_map (pieces_of_block w) one.blocks ++ one.told) (flat_map (pieces_of_block w) other.blocks ++ other.told) one.helpers other.helpers (λ i. pieces_too i ++ told i) one.are_helpers other.are_helpers in
         let above : one.above ≡ other.above = (λ i k. one_ancestors w (kind_class k) (one.above k) (other.above k) (one.are_above k) (other.are_above k) i) in
-        one.pieces_are ∙ (λ i. flat_map (with_helpers w (map (helper_piece (above i)) (helpers i))) (blocks i)) ∙ sym other.pieces_are
+        one.pieces_are ∙ (λ i. flat_map (with_helpers w (map (helper_piece (above i)) (helpers i) ++ told i)) (blocks i)) ∙ sym other.pieces_are
 
 pub are_one : LinkedPiecesAreOne
-are_one l m all more ps qs kept alike each one other =
-    one_list l.world kept l.entries l.facts m.facts alike.facts all more each ps qs one (subst (λ (k : Linked). AreLinkedPieces k more qs) (sym (λ i. record { world = alike.world i; facts = m.facts; entries = alike.entries i })) other)
+are_one l m all more ps qs kept one_target alike each one other =
+    one_list l.world kept l.entries l.facts m.facts alike.facts one_target all more each ps qs one (subst (λ (k : Linked). AreLinkedPieces k more qs) (sym (λ i. record { world = alike.world i; facts = m.facts; entries = alike.entries i })) other)

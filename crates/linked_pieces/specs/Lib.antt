@@ -1,7 +1,11 @@
+pub mod Dispatched
+pub mod Reflected
 pub mod Order
 pub mod Pieces
 pub mod Laws
 pub mod Used
+pub use Rattle.sj_sound.specs.Dispatch
+pub use Rattle.sj_sound.specs.Entries
 pub use Rattle.sj_sound.specs.Pieces as PieceRulesPieces
 pub use Rattle.sj_sound.specs.Emitted
 pub use Rattle.sj_kept.specs.Once

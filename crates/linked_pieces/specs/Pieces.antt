@@ -1,4 +1,5 @@
--- The pieces of a linked world in the order of a module: of each class its own and the functions of its methods, and behind those of `java.lang.Object` the helpers.
+-- The pieces of a linked world in the order of a module: of each class its own and the functions of its methods, and behind those of `java.lang.Object` the helpers and the functions that tell
+-- primitive receivers apart.
 use Rattle.std.specs.Prelude.{◌≡◌, ◌↔◌, List, [], ◌∷◌, ◌++◌, Contains, map, if◌then◌else◌}
 use Rattle.std.specs.List.{flat_map}
 use Rattle.sj_sound.specs.Targets.{lookup_in}
@@ -16,6 +17,7 @@ use Rattle.sj_split.specs.Orders.{IsBefore}
 use Rattle.sj_world.specs.Known.{Name, Classes}
 use Rattle.sj_world.specs.Linked.{Linked}
 use Rattle.sj_world.specs.Tables.{AreAncestors}
+use Rattle.linked_pieces.specs.Reflected.{AreToldPieces}
 use Rattle.linked_pieces.specs.Order.{AreInOrder, AreClasses, AreMethodsOf}
 
 -- the piece of a method, whose calls run the targets of a world
@@ -63,14 +65,17 @@ AreAbove w above = (k : Kind) → AreAncestors w (kind_class k) (above k)
 abbrev pub with_helpers : Classes → List Piece → Block → List Piece
 with_helpers w helpers b = if is_object b.class then pieces_of_block w b ++ helpers else pieces_of_block w b
 
--- the pieces of a linked world, with functions of these methods
+-- the pieces of a linked world, with functions of these methods: the names of helpers begin with `$`, and those of the functions that tell receivers apart with `d`, and with `r` for a reflective
+-- name, so all together stand in the order of their names
 pub record AreLinkedPieces (l : Linked) (all : List EmittedMethod) (ps : List Piece) : Type 0 where
   pub classes : List Name
   pub are_classes : AreClasses l.world classes
   pub blocks : List Block
   pub are_blocks : AreBlocks l all classes blocks
+  pub told : List Piece
+  pub are_told : AreToldPieces l (flat_map (pieces_of_block l.world) blocks) told
   pub helpers : List Helper
-  pub are_helpers : AreHelpers (flat_map (pieces_of_block l.world) blocks) helpers
+  pub are_helpers : AreHelpers (flat_map (pieces_of_block l.world) blocks ++ told) helpers
   pub above : Above
   pub are_above : AreAbove l.world above
-  pub pieces_are : ps ≡ flat_map (with_helpers l.world (map (helper_piece above) helpers)) blocks
+  pub pieces_are : ps ≡ flat_map (with_helpers l.world (map (helper_piece above) helpers ++ told)) blocks

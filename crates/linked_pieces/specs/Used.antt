@@ -2,16 +2,19 @@
 use Rattle.std.specs.Prelude.{Bool, true, false, ◌&&◌, ◌||◌, not, List, Option, Some, None}
 use Rattle.std.specs.List.{list_any}
 use Rattle.sj_kept.specs.Built.{Usable, is_static, has_kind, has_no_value}
-use Rattle.sj_sound.specs.Targets.{lookup_in}
+use Rattle.sj_kept.specs.Uses.{is_same_binding}
+use Rattle.sj_sound.specs.Targets.{has_hijacked_in, lookup_in}
 use Rattle.helper_rules.specs.Helpers.{helper_name}
+use Rattle.helper_rules.specs.Words.{helper}
 use Rattle.helper_rules.specs.declared.kinds.Helper.{Helper}
 use Rattle.sj_sound.specs.Tests.{test_name, cast_name}
 use Rattle.sj_infos.specs.Forms.{forms_in}
 use Rattle.sj_infos.specs.declared.forms.BodyForm.{BodyForm}
-use Rattle.sj_infos.specs.declared.forms.BodyForm.TheVariants.{Test, Cast}
+use Rattle.sj_infos.specs.declared.forms.BodyForm.TheVariants.{Test, Cast, Reflective}
 use Rattle.sj_names.specs.WellKnown.{object}
-use Rattle.sj_names.specs.Same.{is_same_text}
+use Rattle.sj_names.specs.Same.{is_same_text, is_same_method}
 use Rattle.sj_names.specs.declared.method_names.Member.{Member}
+use Rattle.sj_names.specs.declared.method_names.MethodName.{MethodName}
 use Rattle.sj_names.specs.declared.method_names.Namespace.{Namespace}
 use Rattle.sj_names.specs.declared.method_names.Namespace.TheVariants.{Public, Private, Constructor}
 use Rattle.sj_sound.specs.Emitted.{EmittedMethod}
@@ -23,7 +26,9 @@ use Rattle.sj_trees.specs.declared.types.IrType.{IrType}
 use Rattle.sj_trees.specs.declared.types.IrType.TheVariants.{Class}
 use Rattle.sj_world.specs.Known.{Name, Classes, class_of}
 use Rattle.sj_world.specs.declared.facts.Fact.{Fact}
-use Rattle.sj_world.specs.declared.facts.Fact.TheVariants.{NeededField}
+use Rattle.sj_world.specs.declared.facts.Fact.TheVariants.{NeededField, Made, Called}
+use Rattle.linked_pieces.specs.Pieces.{piece_of_member}
+use Rattle.sj_sound.specs.Dispatch.{dispatch_name, reflective_name}
 
 abbrev pub is_among : List Name → Name → Bool
 is_among names name = list_any (is_same_text name) names
@@ -94,16 +99,58 @@ abbrev pub uses_cast : List EmittedMethod → List Helper → List Name → IrTy
 uses_cast all helpers written (Class c) = is_among written c && is_cast all c
 uses_cast all helpers written t = has_kind t && uses_helper helpers written (cast_name t)
 
+-- that objects of this class are made
+abbrev pub makes : Name → Fact → Bool
+makes c (Made d) = is_same_text c d
+makes c _ = false
+
+-- that the method is called on receivers of this class; on those of any
+abbrev pub calls_on : Name → MethodName → Fact → Bool
+calls_on c m (Called d n) = is_same_text c d && is_same_method m n
+calls_on c m _ = false
+
+abbrev pub calls : MethodName → Fact → Bool
+calls m (Called d n) = is_same_method m n
+calls m _ = false
+
+-- the method is written, and its function uses the one that tells the primitive receivers of this apart
+abbrev pub uses_dispatch : Classes → List Name → MethodName → EmittedMethod → Bool
+uses_dispatch w written m e = is_among written e.member.class && list_any (is_same_binding (helper (dispatch_name m))) (piece_of_member w e).uses
+
+-- the primitive receivers of a method are told apart by a function that is written: the method is called, and a written one uses the function
+abbrev pub tells_apart : Classes → List Fact → List EmittedMethod → List Name → MethodName → Bool
+tells_apart w facts all written m = list_any (calls m) facts && list_any (uses_dispatch w written m) all
+
+-- one of these bodies calls by the reflective name
+abbrev pub is_reflective : MethodName → BodyForm → Bool
+is_reflective p (Reflective q) = is_same_method p q
+is_reflective p _ = false
+
+abbrev pub is_called_by : List EmittedMethod → MethodName → Bool
+is_called_by all p = list_any (λ (e : EmittedMethod). list_any (is_reflective p) (forms_in e.its_body)) all
+
+-- the method is written, and its function uses that of the reflective name
+abbrev pub uses_reflective : Classes → List Name → MethodName → EmittedMethod → Bool
+uses_reflective w written p e = is_among written e.member.class && list_any (is_same_binding (helper (reflective_name p))) (piece_of_member w e).uses
+
+-- receivers are called under a reflective name by a function that is written: a body calls by it, and a written one uses the function
+abbrev pub calls_by_name : Classes → List EmittedMethod → List Name → MethodName → Bool
+calls_by_name w all written p = is_called_by all p && list_any (uses_reflective w written p) all
+
 -- what the code can use, of a world with these facts, methods, live classes and helpers, where the pieces of these classes are written: their members, a call of a public one running
--- its target, and their constructors that have no value, their objects, each instance field of the world, their static fields that are needed, the helpers, and the tests of primitive
+-- its target, the methods that are called on their objects, where no hijacked class stands there or below or the function that tells primitive receivers apart is written, the reflective names of which the function is written, and their constructors that have no value, their objects, each instance field of the world, their static fields that are needed, the helpers, and the tests of primitive
 -- types and the casts to them that are among them, and those of these classes
 abbrev pub used_of : Classes → List Fact → List EmittedMethod → List Name → List Helper → List Name → Usable
 used_of w facts all live helpers written = record {
   linked = λ m. is_static m.namespace && (is_among written m.class && has_function all m);
   lookup = lookup_in w;
   received = λ m. is_received m.namespace && (is_among written m.class && has_function all m);
+  looked_up = λ c m. list_any (calls_on c m) facts && (not (has_hijacked_in w c) || tells_apart w facts all written m);
+  dispatched = tells_apart w facts all written;
+  reflected = calls_by_name w all written;
   built = λ m. is_constructor_without_value m && (is_among written m.class && has_function all m);
-  made = λ c. is_among written c && is_among live c;
+  made = λ c. is_among written c && list_any (makes c) facts;
+  live = λ c. is_among written c && is_among live c;
   field = λ c f t. has_field_in (class_of w c) f t;
   static_field = uses_static w facts written;
   static_setter = uses_static w facts written;

@@ -5,8 +5,9 @@ use Rattle.std.proofs.lemmas.Bool.{and_parts}
 use Rattle.running_modules.specs.Built.{Usable}
 use Rattle.helper_rules.specs.Helpers.{helper_name}
 use Rattle.js_tree.specs.declared.items.Binding.{Binding}
-use Rattle.sj_emit_expr.specs.Uses.{object_binding, function_binding, class_use, static_use, setter_use, test_uses, cast_uses}
-use Rattle.running_modules.specs.Settings.{Top, a_function, a_method, a_constructor, a_class, some_constants, a_static, a_setter, a_test, a_cast, a_helper, is_usable}
+use Rattle.sj_emit_expr.specs.Uses.{object_binding, function_binding, class_use, static_use, setter_use, test_uses, cast_uses, looked_up_uses, call_uses}
+use Rattle.sj_desugar.specs.CalleeVariants as callees
+use Rattle.running_modules.specs.Settings.{Top, a_function, a_method, a_constructor, a_dispatch, a_reflection, a_class, some_constants, a_static, a_setter, a_test, a_cast, a_helper, is_usable}
 use Rattle.module_uses.specs.Laws.{RestrictedIsAmong}
 use Rattle.module_uses.specs.Used.{restricted}
 use Rattle.std.specs.Prelude.{Bool}
@@ -14,9 +15,11 @@ use Rattle.std.specs.Prelude.{Bool}
 tops : (has : Usable) (uses : Binding → Bool) (t : Top) → is_usable (restricted has uses) t ≡ true → is_usable has t ≡ true
 tops has uses (a_function m) h = (and_parts (has.linked m) (uses (function_binding m)) h).0
 tops has uses (a_method m) h = (and_parts (has.received m) (uses (function_binding m)) h).0
+tops has uses (a_dispatch m) h = (and_parts (has.dispatched m) (list_all uses (looked_up_uses true m)) h).0
+tops has uses (a_reflection m) h = (and_parts (has.reflected m) (list_all uses (call_uses has.lookup (callees.Reflective m))) h).0
 tops has uses (a_constructor m) h = (and_parts (has.built m) (uses (function_binding m)) h).0
-tops has uses (a_class c) h = (and_parts (has.made c) (uses (class_use c)) h).0
-tops has uses (some_constants c) h = (and_parts (has.made c) (uses (class_use c)) h).0
+tops has uses (a_class c) h = (and_parts (has.live c) (uses (class_use c)) h).0
+tops has uses (some_constants c) h = (and_parts (has.live c) (uses (class_use c)) h).0
 tops has uses (a_static c f t) h = (and_parts (has.static_field c f t) (uses (static_use c f)) h).0
 tops has uses (a_setter c f t) h = (and_parts (has.static_setter c f t) (uses (setter_use c f)) h).0
 tops has uses (a_test t) h = (and_parts (has.tests t) (list_all uses (test_uses t)) h).0
@@ -24,4 +27,4 @@ tops has uses (a_cast t) h = (and_parts (has.casts t) (list_all uses (cast_uses 
 tops has uses (a_helper x) h = (and_parts (has.helper (helper_name x)) (uses (object_binding (helper_name x))) h).0
 
 pub among_all : RestrictedIsAmong
-among_all has uses = record { tops = tops has uses; fields = λ c f t h. h; targets = λ m. refl }
+among_all has uses = record { tops = tops has uses; made = λ c h. (and_parts (has.made c) (uses (class_use c)) h).0; fields = λ c f t h. h; targets = λ m. refl }

@@ -1,19 +1,20 @@
 -- A body that is built with what is there is built with what of it its code uses.
 use Rattle.std.proofs.Common.{◌≡◌, Bool, true, false, List, [], ◌∷◌, refl, codes, Contains, ℕ}
-use Rattle.std.specs.Prelude.{◌||◌}
+use Rattle.std.specs.Prelude.{◌||◌, not}
 use Rattle.std.proofs.lemmas.Bool.{and_parts, and_from}
 use Rattle.std.proofs.lemmas.List.Elements.{All-head, All-tail}
 use Rattle.std.specs.List.{All, list_all}
 use Rattle.running_modules.specs.Typing.{may_check, is_built_with}
 use Rattle.running_modules.proofs.Boxes.{box_used}
 use Rattle.running_modules.proofs.Given.{all_from, completed_uses, in_uses, may_make_those}
-use Rattle.running_modules.proofs.BodyUsesUses.{Gives, GivesReceived, tree}
-use Rattle.running_modules.specs.Built.{Usable, can_box, may_make, is_built, body_boxes}
+use Rattle.running_modules.proofs.BodyUsesUses.{Gives, GivesReceived, or_first, or_second, tree}
+use Rattle.running_modules.specs.Built.{Usable, can_box, can_look_up, may_make, is_built, body_boxes}
 use Rattle.running_modules.specs.BodyUsesLaws.{used_by}
 use Rattle.js_tree.specs.declared.items.Binding.{Binding}
 use Rattle.sj_desugar.specs.Desugar.{desugared_member, body_code, is_mutable_in, result_destination, member}
 use Rattle.sj_emit_expr.specs.Templates.{check_name}
-use Rattle.sj_emit_expr.specs.Uses.{object_binding, function_binding, class_use, static_use, setter_use, test_uses, cast_uses, uses_of_all}
+use Rattle.sj_emit_expr.specs.Uses.{object_binding, function_binding, class_use, static_use, setter_use, test_uses, cast_uses, looked_up_uses, call_uses, uses_of_all}
+use Rattle.sj_desugar.specs.CalleeVariants as callees
 use Rattle.sj_infos.specs.Trees.{trees}
 use Rattle.sj_names.specs.declared.method_names.MethodName.{MethodName}
 use Rattle.sj_names.specs.declared.method_names.Namespace.{Namespace}
@@ -42,10 +43,22 @@ module _ (has : Usable) (uses : Binding → Bool) where
   all_used [] h = refl
   all_used (b ∷ bs) h = and_from (uses b) (list_all uses bs) (All-head IsUsed b bs h) (all_used bs (All-tail IsUsed b bs h))
 
+  -- a method that can be looked up, where the function that tells primitive receivers apart is used if there may be some
+  looked_gives : (c : List ℕ) (m : MethodName) → can_look_up has c m ≡ true → All IsUsed (looked_up_uses (has.lookup.has_hijacked c) m) → can_look_up here c m ≡ true
+  looked_gives c m h u = let q = and_parts (has.looked_up c m) (has.dispatched m || not (has.lookup.has_hijacked c)) h in and_from (has.looked_up c m) (here.dispatched m || not (has.lookup.has_hijacked c)) q.0 (go (has.lookup.has_hijacked c) q.1 u)
+    where
+      first : (d : Bool) → (d || false) ≡ true → d ≡ true
+      first true e = refl
+      first false e = e
+
+      go : (b : Bool) → (has.dispatched m || not b) ≡ true → All IsUsed (looked_up_uses b m) → (here.dispatched m || not b) ≡ true
+      go true d u = or_first (here.dispatched m) false (and_from (has.dispatched m) (list_all uses (looked_up_uses true m)) (first (has.dispatched m) d) (all_used (looked_up_uses true m) u))
+      go false d u = or_second (here.dispatched m) true refl
+
   module _ (e : Term) (fit : DivisorsFit e) where
     gives : (t : Term) → Contains (trees e) t → Gives IsUsed has.lookup has here t
     gives (apply_static p c n m ts t) i = and_from (has.linked (member c n m)) (uses (function_binding (member c n m)))
-    gives (apply p d m ts t) i = λ c same. received_gives c Public m
+    gives (apply p d m ts t) i = (λ c same. received_gives c Public m, (λ c same. looked_gives c m, (λ h. h, λ n h u. and_from (has.reflected m) (list_all uses (call_uses has.lookup (callees.Reflective m))) h (all_used (call_uses has.lookup (callees.Reflective m)) u))))
     gives (apply_statically p d c n m ts t) i = received_gives c n m
     gives (new_object p c m ts) i = λ h k f u. (and_from (has.built (member c Constructor m)) (uses (function_binding (member c Constructor m))) k f, and_from (has.made c) (uses (class_use c)) h u)
     gives (select p d c f t) i = λ h. h

@@ -47,3 +47,10 @@ pub use Rattle.running_modules.proofs.One
 pub use Rattle.running_modules.proofs.There
 pub use Rattle.running_modules.proofs.Uses as ClosedPiecesUses
 pub use Rattle.running_modules.proofs.Whole as DeclaredFilesWhole
+pub use Rattle.running_modules.proofs.DeclaredPiecesLooked
+pub use Rattle.running_modules.proofs.DeclaredPiecesBelow
+pub use Rattle.running_modules.proofs.Facts
+pub use Rattle.running_modules.proofs.LinkedEntriesOne
+pub use Rattle.running_modules.proofs.ReflectedCases
+pub use Rattle.running_modules.proofs.Places
+pub use Rattle.running_modules.proofs.Each

@@ -25,3 +25,8 @@ pub use Rattle.running_modules.specs.Settings
 pub use Rattle.running_modules.specs.Edits
 pub use Rattle.running_modules.specs.Laws as RunningModulesLaws
 pub use Rattle.running_modules.specs.Link
+pub use Rattle.running_modules.specs.ClassTestsKinds
+pub use Rattle.running_modules.specs.Targets
+pub use Rattle.running_modules.specs.Looked
+pub use Rattle.running_modules.specs.Dispatch
+pub use Rattle.running_modules.specs.Reflected

@@ -1,11 +1,12 @@
 -- What the code of one file of a plan can use: of what is there, what the pieces of the file use.
-use Rattle.std.specs.Prelude.{Bool, ◌&&◌, List, ◌++◌, filter}
+use Rattle.std.specs.Prelude.{Bool, true, ◌&&◌, List, ◌++◌, filter}
 use Rattle.std.specs.List.{list_all, list_any, flat_map}
 use Rattle.running_modules.specs.Built.{Usable}
 use Rattle.js_tree.specs.Terms.{Piece}
 use Rattle.js_tree.specs.declared.items.Binding.{Binding}
 use Rattle.module_rules.specs.Modules.{file_with, is_owned_in, uses_of, called_in}
-use Rattle.sj_emit_expr.specs.Uses.{object_binding, function_binding, class_use, static_use, setter_use, test_uses, cast_uses, is_same_binding}
+use Rattle.sj_emit_expr.specs.Uses.{object_binding, function_binding, class_use, static_use, setter_use, test_uses, cast_uses, looked_up_uses, call_uses, is_same_binding}
+use Rattle.sj_desugar.specs.CalleeVariants as callees
 use Rattle.sj_split.specs.Orders.{Bytes}
 use Rattle.sj_split.specs.declared.plans.PlannedModule.{PlannedModule}
 
@@ -15,8 +16,12 @@ restricted has uses = record {
   linked = λ m. has.linked m && uses (function_binding m);
   lookup = has.lookup;
   received = λ m. has.received m && uses (function_binding m);
+  looked_up = has.looked_up;
+  dispatched = λ m. has.dispatched m && list_all uses (looked_up_uses true m);
+  reflected = λ m. has.reflected m && list_all uses (call_uses has.lookup (callees.Reflective m));
   built = λ m. has.built m && uses (function_binding m);
   made = λ c. has.made c && uses (class_use c);
+  live = λ c. has.live c && uses (class_use c);
   field = has.field;
   static_field = λ c f t. has.static_field c f t && uses (static_use c f);
   static_setter = λ c f t. has.static_setter c f t && uses (setter_use c f);

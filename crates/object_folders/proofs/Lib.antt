@@ -32,3 +32,6 @@ pub use Rattle.linked_entries.proofs.RulesGive
 pub use Rattle.linked_entries.proofs.BuiltFormsTargets as Targets
 pub use Rattle.linked_entries.proofs.Undenied
 pub use Rattle.linked_entries.proofs.One as LinkedEntriesOne
+pub use Rattle.linked_entries.proofs.Targets as EntryTargets
+pub use Rattle.linked_entries.proofs.Topped
+pub use Rattle.linked_entries.proofs.Facts

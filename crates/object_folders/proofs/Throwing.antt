@@ -13,7 +13,8 @@ use Rattle.helper_rules.specs.declared.kinds.Failure.TheVariants.{NullReceiver, 
 use Rattle.helper_rules.specs.declared.kinds.Helper.{Helper}
 use Rattle.helper_rules.specs.declared.kinds.Helper.TheVariants.{TestOf, CastTo, ConstantsOf, NotNull, IntQuotient, IntRemainder, LongQuotient, LongRemainder, Throws}
 use Rattle.ir_mean.specs.Meaning.{with_message}
-use Rattle.linked_entries.specs.Used.{used_of, is_among, uses_helper, is_cast as is_cast_to}
+use Rattle.linked_entries.proofs.Facts.{made_told}
+use Rattle.linked_entries.specs.Used.{used_of, is_among, makes, uses_helper, is_cast as is_cast_to}
 use Rattle.object_folders.specs.Running.{CanRun, CanBeThrown}
 use Rattle.sj_desugar.specs.Desugar.{member}
 use Rattle.sj_emit_expr.specs.Templates.{check_name}
@@ -96,6 +97,12 @@ is_cast_name Long k = refl
 is_cast_name String k = refl
 is_cast_name _ k = impossible k
 
+-- an exception of a class that is made and written can be made
+pub exception_made : (w : Classes) (facts : List Fact) (all : List EmittedMethod) (live : List Name) (helpers : List Helper) (written : List Name) (c : Name) → CanBeThrown facts all written c → ((used_of w facts all live helpers written).made c ≡ true) × ((used_of w facts all live helpers written).built (member c Constructor with_message) ≡ true)
+exception_made w facts all live helpers written c h =
+    let is_written : is_among written c ≡ true = (among written c).1 h.is_written in
+    (and_from (is_among written c) (list_any (makes c) facts) is_written (made_told facts c h.is_made), and_from (is_among written c) (has_function all (member c Constructor with_message)) is_written (has_function-from all (member c Constructor with_message) h.constructor))
+
 module _ (w : Classes) (entries : List EntryPoint) (facts : List Fact) (all : List EmittedMethod) (live : List Name) (helpers : List Helper) (written : List Name) (run : CanRun w entries facts all live helpers written) where
   abbrev has : Usable
   has = used_of w facts all live helpers written
@@ -104,17 +111,15 @@ module _ (w : Classes) (entries : List EntryPoint) (facts : List Fact) (all : Li
   abbrev Makes : Name → Type 0
   Makes c = (has.made c ≡ true) × (has.built (member c Constructor with_message) ≡ true)
 
-  makes : (c : Name) → CanBeThrown all live written c → Makes c
-  makes c h =
-      let is_written : is_among written c ≡ true = (among written c).1 h.is_written in
-      (and_from (is_among written c) (is_among live c) is_written ((among live c).1 h.is_live), and_from (is_among written c) (has_function all (member c Constructor with_message)) is_written (has_function-from all (member c Constructor with_message) h.constructor))
+  can_make : (c : Name) → CanBeThrown facts all written c → Makes c
+  can_make = exception_made w facts all live helpers written
 
   throwing : (f : Failure) (x : Name) → ((h : Helper) → helper_name h ≡ x → Contains (used_helpers h) (Throws f)) → has.helper x ≡ true → Makes (failure_class f)
   throwing f x uses h =
       let p = and_parts (is_among written object) (list_any (λ h. is_same_text x (helper_name h)) helpers) h in
       let found = Any-from_list_any (λ h. is_same_text x (helper_name h)) helpers p.1 in
       let listed : Contains helpers found.1 = (found.0, found.2, found.3) in
-      makes (failure_class f) (run.thrown f (run.closed found.1 (Throws f) listed (uses found.1 (sym (text-same x (helper_name found.1) found.4)))) ((among written object).0 p.0))
+      can_make (failure_class f) (run.thrown f (run.closed found.1 (Throws f) listed (uses found.1 (sym (text-same x (helper_name found.1) found.4)))) ((among written object).0 p.0))
 
   pub exceptions : has.helper check_name ≡ true → Makes null_pointer
   exceptions h = throwing NullReceiver check_name (λ g e. checks g (subst (λ (y : Name). is_check y ≡ true) (sym e) refl)) h
@@ -133,5 +138,5 @@ module _ (w : Classes) (entries : List EntryPoint) (facts : List Fact) (all : Li
   cast_to_kind t k h = throwing Cast (cast_name t) (λ g e. casts g (subst (λ (y : Name). is_cast y ≡ true) (sym e) (is_cast_name t k))) h
 
   pub cast_throws : (t : IrType) → has.casts t ≡ true → Makes class_cast
-  cast_throws (IrClass c) h = let q = and_parts (is_among written c) (is_cast_to all c) h in let k = run.casts c ((among written c).0 q.0) q.1 in makes class_cast (run.thrown Cast k.1 k.0)
+  cast_throws (IrClass c) h = let q = and_parts (is_among written c) (is_cast_to all c) h in let k = run.casts c ((among written c).0 q.0) q.1 in can_make class_cast (run.thrown Cast k.1 k.0)
   cast_throws t h = let q = and_parts (has_kind t) (uses_helper helpers written (cast_name t)) h in cast_to_kind t q.0 q.1

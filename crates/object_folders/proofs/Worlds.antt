@@ -15,7 +15,8 @@ use Rattle.linked_entries.specs.Built.{has_static, is_static}
 use Rattle.file_listings.specs.Listed.{AreBytes}
 use Rattle.helper_rules.specs.declared.kinds.Helper.{Helper}
 use Rattle.linked_entries.proofs.Statics.{static_is}
-use Rattle.linked_entries.specs.Used.{used_of, is_among, is_received, is_constructor_without_value, has_static_in, needs_static}
+use Rattle.linked_entries.proofs.Facts.{made_known}
+use Rattle.linked_entries.specs.Used.{used_of, is_among, makes, is_received, is_constructor_without_value, has_static_in, needs_static}
 use Rattle.object_folders.proofs.Fields.{field_there, type_there, static_there, static_type_there}
 use Rattle.object_folders.proofs.Made.{live_free}
 use Rattle.object_folders.proofs.Methods.{once, right_member}
@@ -24,7 +25,6 @@ use Rattle.object_folders.specs.Laws.{AcceptedFoldersCarryObjects, AcceptedFolde
 use Rattle.object_folders.specs.Running.{CanRun}
 use Rattle.linked_entries.specs.Refusals.{hijacked}
 use Rattle.sj_local.specs.Broken.{FirstBroken}
-use Rattle.sj_names.proofs.Same.{impossible}
 use Rattle.sj_names.specs.declared.entry_points.EntryPoint.{EntryPoint}
 use Rattle.sj_names.specs.declared.folders.SourceFile.{SourceFile}
 use Rattle.sj_names.specs.declared.method_names.Member.{Member}
@@ -34,6 +34,7 @@ use Rattle.linked_entries.specs.Linked.{has_function}
 use Rattle.sj_trees.specs.declared.classes.ClassDef.{ClassDef}
 use Rattle.sj_trees.specs.declared.types.IrType.{IrType}
 use Rattle.sj_world.proofs.OnCycles.{among}
+use Rattle.sj_world.specs.Paths.{stay}
 use Rattle.sj_world.specs.Known.{Name, Classes, class_of}
 use Rattle.sj_world.specs.declared.facts.Fact.{Fact}
 
@@ -55,9 +56,11 @@ carry entries files w facts all live helpers written bytes a bodies run = record
   acyclic = a.world.no_cycle;
   received = member_right entries files w facts all live helpers written bytes a bodies run (λ m. is_received m.namespace);
   targets = λ m h. targets_run w (topped w (plain_world w kept.superclass kept.hijacked)) m;
+  looked = run.looked;
+  reflected = run.reflected;
   built = member_right entries files w facts all live helpers written bytes a bodies run is_constructor_without_value;
   once = λ receivers. once entries files w bytes a;
-  made = λ c h. let p = and_parts (is_among written c) (is_among live c) h in live_free w entries a.resolved kept facts run.reached c (run.are_live c ((among live c).0 p.1));
+  made = λ c h. let p = and_parts (is_among written c) (list_any (makes c) facts) h in live_free w entries a.resolved kept facts run.reached c (record { made = c; is_made = made_known facts c p.1; on_chain = stay });
   primitives = λ h is. objects.write_interfaces entries files w a h (hijacked is);
   fields = field_there w unbroken;
   one_type = type_there w unbroken;

@@ -32,3 +32,7 @@ pub use Rattle.linked_entries.specs.Label
 pub use Rattle.linked_entries.specs.Nodes
 pub use Rattle.linked_entries.specs.Typing
 pub use Rattle.linked_entries.specs.Targets
+pub use Rattle.linked_entries.specs.Dispatch
+pub use Rattle.linked_entries.specs.Dispatched
+pub use Rattle.linked_entries.specs.ToldPieces
+pub use Rattle.linked_entries.specs.BodySoundnessLaws

@@ -59,6 +59,9 @@ use Rattle.object_helpers.proofs.Sures.{sure_tree, sure_kept}
 abbrev pub cast_exception : Info
 cast_exception = Throws (codes "java.lang.ClassCastException")
 
+abbrev pub method_exception : Info
+method_exception = Throws (codes "java.lang.NoSuchMethodException")
+
 -- each once
 pub once_in : (Q : Binding → Type 0) (seen bs : List Binding) → All Q bs → All Q (once_each seen bs)
 once_in Q seen [] h = All-nil Q
@@ -173,10 +176,10 @@ module _ (runs : Lookup) (c : ClassDef) (d : MethodDef) (e : Term) (body : d.bod
   callee_good (callees.LookedUp k m) = go (runs.has_hijacked k)
     where
       go : (b : Bool) → All Q (looked_up_uses b m)
-      go true = All-cons Q (object_binding (method_binding Dispatch m)) [] (λ h same. no_helper (object_binding (method_binding Dispatch m)) 9 refl refl h same) (All-nil Q)
+      go true = All-cons Q (object_binding (method_binding Dispatch m)) [] (λ h same. no_helper (object_binding (method_binding Dispatch m)) 11 refl refl h same) (All-nil Q)
       go false = All-nil Q
   callee_good (callees.OfArray m) = All-nil Q
-  callee_good (callees.Reflective m) = All-cons Q (object_binding (method_binding Reflective m)) [] (λ h same. no_helper (object_binding (method_binding Reflective m)) 9 refl refl h same) (All-nil Q)
+  callee_good (callees.Reflective m) = All-cons Q (object_binding (method_binding Reflective m)) [] (λ h same. no_helper (object_binding (method_binding Reflective m)) 12 refl refl h same) (All-nil Q)
 
   apply_asks : (r : Term) (m : MethodName) → Contains (of_receiver names r) (Throws (codes "java.lang.NullPointerException")) → Contains (of_apply names r m) (Throws (codes "java.lang.NullPointerException"))
   apply_asks r m i = go (is_none m.result)

@@ -41,3 +41,12 @@ pub use Rattle.proper_pieces.proofs.Modules
 pub use Rattle.body_uses.proofs.LinkedEntriesOne
 pub use Rattle.body_uses.proofs.Resolves
 pub use Rattle.body_uses.proofs.Boxes
+pub use Rattle.body_uses.proofs.EntryTargets
+pub use Rattle.body_uses.proofs.WorkedOut
+pub use Rattle.dispatch_laws.proofs.Running
+pub use Rattle.dispatch_laws.proofs.AncestorsFound
+pub use Rattle.body_uses.proofs.Topped
+pub use Rattle.body_uses.proofs.Facts
+pub use Rattle.proper_pieces.proofs.Apart
+pub use Rattle.body_uses.proofs.LinkedEntriesOne
+pub use Rattle.body_uses.proofs.Proxies

@@ -199,5 +199,18 @@ is_cast (helpers.Throws failures.Size) e = impossible e
 is_cast (helpers.Throws failures.Method) e = impossible e
 is_cast _ e = impossible e
 
+is_no_method : (h : Helper) → is_same_text (codes "$nme") (helper_name h) ≡ true → h ≡ helpers.Throws failures.Method
+is_no_method (helpers.Throws failures.Method) e = refl
+is_no_method (helpers.Throws failures.NullReceiver) e = impossible e
+is_no_method (helpers.Throws failures.Division) e = impossible e
+is_no_method (helpers.Throws failures.Cast) e = impossible e
+is_no_method (helpers.Throws failures.Index) e = impossible e
+is_no_method (helpers.Throws failures.Store) e = impossible e
+is_no_method (helpers.Throws failures.Size) e = impossible e
+is_no_method _ e = impossible e
+
+pub named_no_method : (h : Helper) → helper (codes "$nme") ≡ helper (helper_name h) → h ≡ helpers.Throws failures.Method
+named_no_method h same = is_no_method h (subst (λ (b : Binding). is_same_text (codes "$nme") b.name ≡ true) same refl)
+
 pub named_cast : (h : Helper) → helper (codes "$cce") ≡ helper (helper_name h) → h ≡ helpers.Throws failures.Cast
 named_cast h same = is_cast h (subst (λ (b : Binding). is_same_text (codes "$cce") b.name ≡ true) same refl)

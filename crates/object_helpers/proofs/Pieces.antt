@@ -3,7 +3,7 @@ use Rattle.dispatch_laws.specs.Targets.{lookup_in}
 use Rattle.std.proofs.Common.{◌≡◌, Bool, true, false, List, [], ◌∷◌, ◌++◌, ◌||◌, ◌⊎◌, inl, inr, ⊎_elim, Option, Some, None, refl, sym, subst, codes, map, Contains, if◌then◌else◌}
 use Rattle.std.specs.Prelude.{is_none}
 use Rattle.std.specs.List.{All, flat_map}
-use Rattle.std.proofs.lemmas.List.Elements.{All-nil, All-cons, All-contains, All-weaker, Contains-append_cases}
+use Rattle.std.proofs.lemmas.List.Elements.{All-nil, All-cons, All-contains, All-weaker, Contains-append_cases, Contains-append_right}
 use Rattle.std.proofs.lemmas.List.Sorted.{Contains-permutation, IsPermutation-sym}
 use Rattle.body_uses.proofs.Calls.{needed}
 use Rattle.body_uses.proofs.Members.{defined}
@@ -13,7 +13,7 @@ use Rattle.body_uses.proofs.Uses.{combine}
 use Rattle.body_uses.proofs.EachTyped.{in_all}
 use Rattle.body_uses.proofs.Undenied.{first_or_later}
 use Rattle.helper_rules.specs.Helpers.{helper_name, used_helpers, failure_class}
-use Rattle.helper_rules.specs.Words.{bound, helper, all_kinds, class_name}
+use Rattle.helper_rules.specs.Words.{bound, helper, all_kinds, class_name, public_function}
 use Rattle.helper_rules.specs.declared.kinds.Failure.{Failure}
 use Rattle.helper_rules.specs.declared.kinds.Failure.TheVariants as failures
 use Rattle.helper_rules.specs.declared.kinds.Helper.{Helper}
@@ -22,13 +22,20 @@ use Rattle.helper_rules.specs.declared.kinds.Kind.{Kind}
 use Rattle.helper_rules.specs.declared.kinds.Kind.TheVariants as kinds
 use Rattle.js_tree.specs.Terms.{Name, Piece}
 use Rattle.js_tree.specs.declared.items.Binding.{Binding}
+use Rattle.body_uses.specs.Dispatch.{Told, told_uses, Reflected, reflected_uses}
+use Rattle.body_uses.specs.Dispatched.{AreDispatchPieces}
+use Rattle.body_uses.specs.ToldPieces.{AreReflectivePieces, AreToldPieces}
+use Rattle.body_uses.specs.Entries.{IsReflective}
+use Rattle.sj_infos.specs.declared.forms.BodyForm.{BodyForm}
+use Rattle.sj_trees.specs.TypeOf.{type_of_term}
+use Rattle.sj_infos.specs.Receivers.{receiver_class}
 use Rattle.body_uses.specs.Pieces.{piece_of_member, Block, IsBlock, AreBlocks, pieces_of_block, IsUsed, by_piece, by_helper, AreLinkedPieces}
 use Rattle.body_uses.specs.Classes.{HasForm, AreParts, AreClassPieces, absent, present}
 use Rattle.body_uses.specs.PieceRulesPieces.{Parts, pieces, constants_piece, class_piece, class_uses, parent_uses, own_constants, uses_of_entries, entry_uses, box_uses, is_proxy, is_char, all_statics, variable_piece, setter_piece, when, cell_piece, cell_pieces, load_piece, store_piece, init, init_name, test_piece, test_uses, test_binding, cast_piece, kind_of_class, constants_of, class_of as class_pieces_of, module_of, tests_of}
 use Rattle.proper_pieces.proofs.Names.{function_rank}
 use Rattle.body_uses.proofs.Derivations.{closed}
 use Rattle.body_uses.specs.Reachable.{Reachable}
-use Rattle.body_uses.specs.Rules.{Reads, message_constructor, of_throw, asked_body, throw_made}
+use Rattle.body_uses.specs.Rules.{Reads, message_constructor, public_member, of_throw, asked_body, throw_made}
 use Rattle.sj_infos.specs.Forms.{form_of, of_base, of_test, of_cast, forms_by_body}
 use Rattle.sj_infos.specs.Forms as of_form
 use Rattle.sj_infos.specs.Infos as infos
@@ -37,7 +44,7 @@ use Rattle.sj_infos.specs.Sure.{sure_among}
 use Rattle.sj_infos.specs.Trees.{trees}
 use Rattle.sj_infos.specs.declared.forms.BodyForm.TheVariants as forms
 use Rattle.sj_infos.specs.declared.infos.Info.{Info}
-use Rattle.sj_infos.specs.declared.infos.Info.TheVariants.{Class, Throws}
+use Rattle.sj_infos.specs.declared.infos.Info.TheVariants.{Class, Throws, Reflective}
 use Rattle.body_uses.proofs.Found.{owner_of, here, there}
 use Rattle.body_uses.proofs.Classes.{class-keeps}
 use Rattle.sj_mangling.specs.Bindings.{class_binding, field_binding}
@@ -62,8 +69,8 @@ use Rattle.sj_world.specs.declared.linked.MethodEntry.{MethodEntry}
 use Rattle.worklist.proofs.Inserted.{nothing_in, only_one}
 use Rattle.object_helpers.specs.Helpers.{is_division, is_object_helper, UsesIt, a_check, a_division, a_char, a_test, a_cast, an_identity}
 use Rattle.object_helpers.specs.Laws.{HelpersAreOfObjects, ThrownClassesAreReached}
-use Rattle.object_helpers.proofs.Bodies.{cast_exception, Only, only_function, once_in, all_used}
-use Rattle.object_helpers.proofs.Named.{no_helper, named_box, named_test, named_cast}
+use Rattle.object_helpers.proofs.Bodies.{cast_exception, method_exception, Only, only_function, once_in, all_used}
+use Rattle.object_helpers.proofs.Named.{no_helper, named_box, named_test, named_cast, named_no_method}
 
 -- what a list that is made of lists has is in one of them
 pub record InOne {X Y : Type 0} (f : X → List Y) (xs : List X) (y : Y) : Type 0 where
@@ -82,15 +89,29 @@ in_one {X} {Y} f (x ∷ xs) y h = go (Contains-append_cases (f x) (flat_map f xs
     go (inl i) k = record { item = x; among = here x xs; within = i }
     go (inr i) k = later (k i)
 
--- a cast to a class asks for the exception that it throws
+-- a base of an array, a test and a cast are no other form
+module _ (f : BodyForm) where
+  other_base : {A : Type 0} → ((d : Name) → forms.Base d ≡ f → ⊥) → (b : BaseRef) → Contains (of_base b) f → A
+  other_base never_base (BaseRef.Class d) h = absurd (never_base d (only_one (forms.Base d) f h))
+  other_base never_base _ h = nothing_in f h
+
+  other_test : {A : Type 0} → ((d : Name) → forms.Base d ≡ f → ⊥) → ((d : Name) → forms.Test d ≡ f → ⊥) → (t : IrType) → Contains (of_test t) f → A
+  other_test never_base never (IrType.Class d) h = absurd (never d (only_one (forms.Test d) f h))
+  other_test never_base never (IrType.Array r) h = other_base never_base r.base h
+  other_test never_base never _ h = nothing_in f h
+
+  other_cast : {A : Type 0} → ((d : Name) → forms.Base d ≡ f → ⊥) → ((d : Name) → forms.Cast d ≡ f → ⊥) → (t : IrType) → Contains (of_cast t) f → A
+  other_cast never_base never (IrType.Class d) h = absurd (never d (only_one (forms.Cast d) f h))
+  other_cast never_base never (IrType.Array r) h = other_base never_base r.base h
+  other_cast never_base never _ h = nothing_in f h
+
 not_base : {A : Type 0} (c : Name) (b : BaseRef) → Contains (of_base b) (forms.Cast c) → A
-not_base c (BaseRef.Class d) h = let e : forms.Base d ≡ forms.Cast c = only_one (forms.Base d) (forms.Cast c) h in absurd cc
-not_base c _ h = nothing_in (forms.Cast c) h
+not_base c = other_base (forms.Cast c) (λ d e. absurd cc)
 
 not_test : {A : Type 0} (c : Name) (t : IrType) → Contains (of_test t) (forms.Cast c) → A
-not_test c (IrType.Class d) h = let e : forms.Test d ≡ forms.Cast c = only_one (forms.Test d) (forms.Cast c) h in absurd cc
-not_test c (IrType.Array r) h = not_base c r.base h
-not_test c _ h = nothing_in (forms.Cast c) h
+not_test c = other_test (forms.Cast c) (λ d e. absurd cc) (λ d e. absurd cc)
+
+-- a cast to a class asks for the exception that it throws
 
 not_call : {A : Type 0} (c : Name) (m : MethodName) → Contains (of_form.of_call m) (forms.Cast c) → A
 not_call {A} c m h = go (is_none m.result) h
@@ -118,6 +139,44 @@ body_asks : (c : Name) (body : Option Term) → Contains (forms_by_body body) (f
 body_asks c None h = nothing_in (forms.Cast c) h
 body_asks c (Some e) h = let o = in_one form_of (trees e) (forms.Cast c) h in in_all (asks (sure_among [] (trees e))) (trees e) o.item cast_exception o.among (tree_asks (sure_among [] (trees e)) c o.item o.within)
 
+-- a call by a reflective name asks for the name and for the exception of a missing method
+abbrev asked_by_name : List Name → MethodName → Term → List Info
+asked_by_name names m e = Reflective m ∷ infos.of_receiver names e ++ infos.no_such_method
+
+module _ (p : MethodName) (o : Info) (asked : (names : List Name) (m : MethodName) (e : Term) → m ≡ p → Contains (asked_by_name names m e) o) (names : List Name) where
+  is_base : {A : Type 0} (b : BaseRef) → Contains (of_base b) (forms.Reflective p) → A
+  is_base = other_base (forms.Reflective p) (λ d e. absurd cc)
+
+  one_name : (m : MethodName) → forms.Reflective m ≡ forms.Reflective p → m ≡ p
+  one_name m e = cc
+
+  named_asks : (m : MethodName) (e : Term) → Contains (of_form.of_call m) (forms.Reflective p) → Contains (infos.of_apply names e m) o
+  named_asks m e h = go (is_none m.result) h
+    where
+      go : (b : Bool) → Contains (if b then forms.Reflective m ∷ [] else []) (forms.Reflective p) → Contains (if b then asked_by_name names m e else infos.of_call m (receiver_class (type_of_term e)) ++ infos.of_receiver names e) o
+      go true h = asked names m e (one_name m (only_one (forms.Reflective m) (forms.Reflective p) h))
+      go false h = nothing_in (forms.Reflective p) h
+
+  call_asks : (t : Term) → Contains (form_of t) (forms.Reflective p) → Contains (asks names t) o
+  call_asks (apply q e m ts t) h = named_asks m e h
+  call_asks (as_instance_of q e t) h = other_cast (forms.Reflective p) (λ d e. absurd cc) (λ d e. absurd cc) t h
+  call_asks (load_module q d) h = let e : forms.Load d ≡ forms.Reflective p = only_one (forms.Load d) (forms.Reflective p) h in absurd cc
+  call_asks (store_module q d e) h = let e : forms.Store d ≡ forms.Reflective p = only_one (forms.Store d) (forms.Reflective p) h in absurd cc
+  call_asks (new_array q r e) h = is_base r.base h
+  call_asks (array_value q r ts) h = is_base r.base h
+  call_asks (is_instance_of q e t) h = other_test (forms.Reflective p) (λ d e. absurd cc) (λ d e. absurd cc) t h
+  call_asks _ h = nothing_in (forms.Reflective p) h
+
+calls_ask : (p : MethodName) (o : Info) → ((names : List Name) (m : MethodName) (e : Term) → m ≡ p → Contains (asked_by_name names m e) o) → (body : Option Term) → Contains (forms_by_body body) (forms.Reflective p) → Contains (asked_by_body body) o
+calls_ask p o asked None h = nothing_in (forms.Reflective p) h
+calls_ask p o asked (Some e) h = let k = in_one form_of (trees e) (forms.Reflective p) h in in_all (asks (sure_among [] (trees e))) (trees e) k.item o k.among (call_asks p o asked (sure_among [] (trees e)) k.item k.within)
+
+exception_asked : (p : MethodName) (body : Option Term) → Contains (forms_by_body body) (forms.Reflective p) → Contains (asked_by_body body) method_exception
+exception_asked p = calls_ask p method_exception (λ names m e same. there (Reflective m) (infos.of_receiver names e ++ infos.no_such_method) method_exception (Contains-append_right (infos.of_receiver names e) infos.no_such_method method_exception (here method_exception [])))
+
+pub name_asked : (p : MethodName) (body : Option Term) → Contains (forms_by_body body) (forms.Reflective p) → Contains (asked_by_body body) (Reflective p)
+name_asked p = calls_ask p (Reflective p) (λ names m e same. subst (λ (x : MethodName). Contains (asked_by_name names m e) (Reflective x)) same (here (Reflective m) (infos.of_receiver names e ++ infos.no_such_method)))
+
 module _ (entries : List EntryPoint) (files : List SourceFile) (l : Linked) (all : List EmittedMethod) (accepted : IsAccepted entries files l.world) (bodies : AreBodies l.world entries all) (reached : (f : Fact) → Contains l.facts f → Reachable l.world entries f) where
   abbrev Asked : Name → Type 0
   Asked c = Reads l.world entries (Reachable l.world entries) (Throws c)
@@ -137,6 +196,7 @@ module _ (entries : List EntryPoint) (files : List SourceFile) (l : Linked) (all
   Good (helpers.Throws failures.NullReceiver) = Asked (codes "java.lang.NullPointerException")
   Good (helpers.Throws failures.Division) = Asked (codes "java.lang.ArithmeticException")
   Good (helpers.Throws failures.Cast) = Asked (codes "java.lang.ClassCastException")
+  Good (helpers.Throws failures.Method) = Asked (codes "java.lang.NoSuchMethodException")
   Good _ = ⊥
 
   good_helper : (h : Helper) → Good h → is_object_helper h ≡ true
@@ -153,6 +213,7 @@ module _ (entries : List EntryPoint) (files : List SourceFile) (l : Linked) (all
   good_helper (helpers.Throws failures.NullReceiver) g = refl
   good_helper (helpers.Throws failures.Division) g = refl
   good_helper (helpers.Throws failures.Cast) g = refl
+  good_helper (helpers.Throws failures.Method) g = refl
   good_helper _ g = absurd g
 
   good_division : (h : Helper) → is_division h ≡ true → Asked (codes "java.lang.ArithmeticException") → Good h
@@ -321,12 +382,38 @@ module _ (entries : List EntryPoint) (files : List SourceFile) (l : Linked) (all
   blocks_good (c ∷ cs) [] h = absurd h
   blocks_good (c ∷ cs) (b ∷ bs) h = joined (pieces_of_block l.world b) (flat_map (pieces_of_block l.world) bs) (block_good c b h.0) (blocks_good cs bs h.1)
 
+  -- the functions that tell receivers apart
+  cases_good : (m : MethodName) (ts : List Told) → All Q (flat_map (told_uses m) ts)
+  cases_good m [] = none
+  cases_good m (t ∷ ts) = combine Q (told_uses m t) (flat_map (told_uses m) ts) (All-cons Q (test_binding t.kind) (bound t.owner (public_function t.owner m) ∷ []) (kind_good t.kind) (one (bound t.owner (public_function t.owner m)) (only_function Good (public_member t.owner m)))) (cases_good m ts)
+
+  reflected_good : (ts : List Reflected) → All Q (flat_map reflected_uses ts)
+  reflected_good [] = none
+  reflected_good (t ∷ ts) = combine Q (reflected_uses t) (flat_map reflected_uses ts) (All-cons Q (test_binding t.kind) (box_uses t.method ++ bound t.owner (public_function t.owner t.method) ∷ []) (kind_good t.kind) (combine Q (box_uses t.method) (bound t.owner (public_function t.owner t.method) ∷ []) (box_good (is_char t.method.result)) (one (bound t.owner (public_function t.owner t.method)) (only_function Good (public_member t.owner t.method))))) (reflected_good ts)
+
+  call_read : (p : MethodName) → IsReflective l.world l.facts p → Asked (codes "java.lang.NoSuchMethodException")
+  call_read p h = record { member = h.member; needed = reached (Body h.member) h.needed; definition = h.definition; defined = h.defined; asked = exception_asked p h.definition.body h.calls }
+
+  names_good : (ps told : List Piece) → AreReflectivePieces l ps told → EachGood told
+  names_good ps told h p i =
+      let d = h.made p i in
+      let own : List Binding = flat_map reflected_uses d.is_piece.cases in
+      subst (λ (q : Piece). All Q q.uses) (sym d.is_piece.piece_is) (once_in Q [] (own ++ helper (codes "$nme") ∷ []) (combine Q own (helper (codes "$nme") ∷ []) (reflected_good d.is_piece.cases) (one (helper (codes "$nme")) (λ g same. subst Good (sym (named_no_method g same)) (call_read d.method d.reflected.called)))))
+
+  methods_told : (ps told : List Piece) → AreDispatchPieces l ps told → EachGood told
+  methods_told ps told h p i = let d = h.made p i in subst (λ (q : Piece). All Q q.uses) (sym d.is_piece.piece_is) (once_in Q [] (flat_map (told_uses d.method) d.is_piece.cases) (cases_good d.method d.is_piece.cases))
+
+  told_good : (ps told : List Piece) → AreToldPieces l ps told → EachGood told
+  told_good ps told h = subst EachGood (sym h.told_are) (joined h.methods h.names (methods_told ps h.methods h.are_methods) (names_good ps h.names h.are_names))
+
   used_good : (ps : List Piece) → EachGood ps → (h : Helper) → IsUsed ps h → Good h
   used_good ps each _ (by_piece p h i u) = All-contains Q p.uses (helper (helper_name h)) (each p i) u h refl
   used_good ps each _ (by_helper g h k u) = of_helper g h (used_good ps each g k) u
 
   pub linked_good : (ps : List Piece) (p : AreLinkedPieces l all ps) (h : Helper) → Contains p.helpers h → Good h
-  linked_good ps p h i = used_good (flat_map (pieces_of_block l.world) p.blocks) (blocks_good p.classes p.blocks p.are_blocks) h ((p.are_helpers.exact h).0 i)
+  linked_good ps p h i =
+      let own = flat_map (pieces_of_block l.world) p.blocks in
+      used_good (own ++ p.told) (joined own p.told (blocks_good p.classes p.blocks p.are_blocks) (told_good own p.told p.are_told)) h ((p.are_helpers.exact h).0 i)
 
   of_thrown : (c : Name) → Asked c → Reachable l.world entries (Made c) × Reachable l.world entries (Body (message_constructor c))
   of_thrown c r = (closed l.world entries (Made c) (throw_made c r), closed l.world entries (Body (message_constructor c)) (asked_body (message_constructor c) (of_throw c r)))
@@ -338,7 +425,7 @@ module _ (entries : List EntryPoint) (files : List SourceFile) (l : Linked) (all
   thrown failures.Index r = absurd r
   thrown failures.Store r = absurd r
   thrown failures.Size r = absurd r
-  thrown failures.Method r = absurd r
+  thrown failures.Method r = of_thrown (codes "java.lang.NoSuchMethodException") r
 
 pub of_objects : HelpersAreOfObjects
 of_objects entries files l all ps accepted bodies reached objects p h i = good_helper entries files l all accepted bodies reached h (linked_good entries files l all accepted bodies reached ps p h i)

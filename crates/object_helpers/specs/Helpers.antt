@@ -15,7 +15,7 @@ is_division helpers.LongQuotient = true
 is_division helpers.LongRemainder = true
 is_division _ = false
 
--- the check of null, the divisions, boxed chars with their constants, identity, tests and casts, and what a check, a division or a cast throws
+-- the check of null, the divisions, boxed chars with their constants, identity, tests and casts, and what a check, a division, a cast or a reflective call throws
 abbrev pub is_object_helper : Helper → Bool
 is_object_helper helpers.NotNull = true
 is_object_helper helpers.IntQuotient = true
@@ -30,6 +30,7 @@ is_object_helper helpers.Equal = true
 is_object_helper (helpers.TestOf k) = true
 is_object_helper (helpers.CastTo k) = true
 is_object_helper (helpers.Throws failures.Cast) = true
+is_object_helper (helpers.Throws failures.Method) = true
 is_object_helper _ = false
 
 -- a body that asks for these may use the helper itself: a check, a division or a cast where it asks for the exception that this throws, and boxed chars, tests and identity

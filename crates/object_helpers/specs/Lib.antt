@@ -23,9 +23,14 @@ pub use Rattle.body_uses.specs.Standing
 pub use Rattle.body_uses.specs.Typed
 pub use Rattle.body_uses.specs.TypingRulesRules
 pub use Rattle.body_uses.specs.Used
+pub use Rattle.body_uses.specs.Dispatch
+pub use Rattle.body_uses.specs.Dispatched
+pub use Rattle.body_uses.specs.ToldPieces
 pub use Rattle.body_uses.specs.Verdicts
 pub use Rattle.body_uses.specs.Worlds
 pub use Rattle.proper_pieces.specs.Laws as ProperPiecesLaws
 pub use Rattle.proper_pieces.specs.Modules
 pub use Rattle.body_uses.specs.Given
 pub use Rattle.body_uses.specs.Laws as BodyUsesLaws
+pub use Rattle.body_uses.specs.BodySoundnessLaws
+pub use Rattle.body_uses.specs.Targets

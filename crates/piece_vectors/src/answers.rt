@@ -7,7 +7,7 @@ use crate::helpers::helper_line;
 use crate::texts::line_of;
 use anyhow::Result;
 use class_needs::needs_of;
-use class_pieces::class_pieces;
+use class_pieces::{class_pieces, entries_by_class};
 use entries_file::entries_of;
 use js_tree::JsPiece;
 use sj_baselink::base_link;
@@ -44,10 +44,11 @@ fn lines_of(
     wanted: &[String],
 ) -> Result<Vec<String>> {
     let needs = needs_of(alloc, linked)?;
+    let entries = entries_by_class(alloc, linked)?;
     let mut lines = Vec::new(alloc);
     for owner in owners {
         if let Some(class) = linked.world().class_named(owner.as_str()) {
-            let pieces = class_pieces(alloc, linked, &needs, &class.name)?;
+            let pieces = class_pieces(alloc, linked, &needs, &entries, &class.name)?;
             put_pieces(alloc, &pieces, &mut lines)?;
         }
         if owner.as_str() == "java.lang.Object" {

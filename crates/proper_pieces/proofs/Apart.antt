@@ -1,5 +1,5 @@
 -- Names of which no two are one, and the parameters of entries among them.
-use Rattle.std.proofs.Common.{◌≡◌, ◌<◌, ◌⊎◌, ◌++◌, ◌||◌, ◌&&◌, not, ℕ, zero, suc, Bool, true, false, List, [], ◌∷◌, inl, inr, refl, sym, ◌∙◌, Contains, arith}
+use Rattle.std.proofs.Common.{◌≡◌, ◌<◌, ◌⊎◌, ◌++◌, ◌||◌, ◌&&◌, not, ℕ, zero, suc, Bool, true, false, List, [], ◌∷◌, inl, inr, refl, sym, ◌∙◌, ap, codes, Contains, get_or, arith}
 use Rattle.sj_mangling.proofs.Numerals.{numerals_differ}
 use Rattle.sj_mangling.specs.Numerals.{number_text}
 use Rattle.std.proofs.lemmas.List.Elements.{Contains-append_cases}
@@ -83,3 +83,10 @@ parameters_apart (suc n) = order_joined Differ (first_parameters n) (parameter n
 
 pub parameters_distinct : (n : ℕ) → are_distinct (first_parameters n) ≡ true
 parameters_distinct n = told_apart (first_parameters n) (parameters_apart n)
+
+-- a receiver in front of them
+pub behind_receiver : (n : ℕ) → are_distinct (codes "x" ∷ first_parameters n) ≡ true
+behind_receiver n = told_apart (codes "x" ∷ first_parameters n) ((λ y i. first_differs y (numbered n y i)), parameters_apart n)
+  where
+    first_differs : (y : Name) → Numbered n y → codes "x" ≡ y → ⊥
+    first_differs y q e = let same : ◌≡◌ {A = ℕ} 120 97 = ap (λ (l : Name). get_or l 0 0) (e ∙ q.name) in omega (arith, same)

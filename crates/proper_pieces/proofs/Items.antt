@@ -1,25 +1,28 @@
 -- Each piece has no early error by itself.
-use Rattle.std.proofs.Common.{◌≡◌, ◌⊎◌, ◌++◌, ◌&&◌, ◌||◌, not, Bool, true, false, List, [], ◌∷◌, Option, Some, None, inl, inr, refl, sym, ap, subst, map, length, Contains, append-nil}
+use Rattle.std.proofs.Common.{◌≡◌, ◌⊎◌, ◌++◌, ◌&&◌, ◌||◌, not, Bool, true, false, ℕ, List, [], ◌∷◌, Option, Some, None, inl, inr, refl, sym, ap, subst, map, length, codes, Contains, append-nil}
 use Rattle.std.specs.List.{list_all, list_any}
 use Rattle.std.proofs.lemmas.List.Elements.{Contains-append_cases}
 use Rattle.helper_rules.specs.Helpers.{Above, helper_piece}
-use Rattle.helper_rules.specs.Words.{parameters_of, all_kinds}
+use Rattle.helper_rules.specs.Words.{parameters_of, all_kinds, units_of}
 use Rattle.helper_rules.specs.declared.kinds.Helper.{Helper}
 use Rattle.helper_rules.specs.declared.kinds.Helper.TheVariants as helpers
 use Rattle.helper_rules.specs.declared.kinds.Failure.{Failure}
 use Rattle.helper_rules.specs.declared.kinds.Failure.TheVariants as failures
 use Rattle.js_mean.specs.Proper.{Place, are_distinct, declared, are_proper, is_proper_member, is_proper_item, is_constructor}
-use Rattle.js_tree.specs.Terms.{Name, Piece}
+use Rattle.js_tree.specs.Terms.{Name, Piece, Statements}
 use Rattle.js_tree.specs.Views.{statements_of}
+use Rattle.linked_pieces.specs.Dispatch.{Told, dispatch_body, dispatch_piece, Reflected, reflected_body, reflective_piece}
+use Rattle.sj_names.specs.MethodNames.{spelled_method}
 use Rattle.linked_pieces.specs.PieceRulesPieces.{Parts, pieces, when, constants_piece, class_piece, entry_member, field_start, all_statics, variable_piece, setter_piece, cell_piece, load_piece, store_piece, cell_pieces, test_piece, kind_of_class, cast_piece, constants_of, class_of, module_of, tests_of}
 use Rattle.proper_pieces.specs.Laws.{PiecesAreProper}
 use Rattle.linked_pieces.proofs.Modules.{member_proper}
 use Rattle.linked_pieces.specs.Targets.{lookup_in}
+use Rattle.sj_names.specs.declared.method_names.MethodName.{MethodName}
 use Rattle.sj_split.proofs.Members.{cons_cases}
 use Rattle.sj_trees.specs.declared.classes.FieldDef.{FieldDef}
 use Rattle.sj_world.specs.declared.linked.MethodEntry.{MethodEntry}
 use Rattle.worklist.proofs.Inserted.{nothing_in}
-use Rattle.proper_pieces.proofs.Apart.{both, not_is, parameters_distinct}
+use Rattle.proper_pieces.proofs.Apart.{both, not_is, parameters_distinct, behind_receiver}
 
 abbrev AreProper : List Piece → Type 0
 AreProper ps = (q : Piece) → Contains ps q → is_proper_item q.item ≡ true
@@ -132,5 +135,47 @@ helper_proper above helpers.TestOfArray = refl
 helper_proper above helpers.CastToArray = refl
 helper_proper above (helpers.Throws f) = failure_proper above f
 
+-- the cases of a function that tells receivers apart
+cases_declare : (m : MethodName) (ts : List Told) → declared (dispatch_body m ts) ≡ []
+cases_declare m [] = refl
+cases_declare m (t ∷ ts) = cases_declare m ts
+
+cases_proper : (at : Place) (m : MethodName) (ts : List Told) → are_proper at (dispatch_body m ts) ≡ true
+cases_proper at m [] = refl
+cases_proper at m (t ∷ ts) = cases_proper at m ts
+
+dispatch_proper : (m : MethodName) (ts : List Told) → is_proper_item (dispatch_piece m ts).item ≡ true
+dispatch_proper m ts = both (are_distinct (names ++ declared (dispatch_body m ts))) (are_proper at (dispatch_body m ts)) (subst (λ (xs : List Name). are_distinct (names ++ xs) ≡ true) (sym (cases_declare m ts)) (subst (λ (xs : List Name). are_distinct xs ≡ true) (sym (append-nil names)) (behind_receiver (length m.params)))) (cases_proper at m ts)
+  where
+    names : List Name
+    names = codes "x" ∷ parameters_of m
+
+    at : Place
+    at = record { labels = []; breakable = false; super_allowed = false }
+
+-- and those of one of a reflective name, a char boxed or not
+reflected_declare : (p : MethodName) (message : List ℕ) (ts : List Reflected) → declared (reflected_body p message ts) ≡ []
+reflected_declare p message [] = refl
+reflected_declare p message (t ∷ ts) = reflected_declare p message ts
+
+reflected_proper : (at : Place) (p : MethodName) (message : List ℕ) (ts : List Reflected) → are_proper at (reflected_body p message ts) ≡ true
+reflected_proper at p message [] = refl
+reflected_proper at p message (t ∷ ts) = reflected_proper at p message ts
+
+reflective_proper : (m : MethodName) (ts : List Reflected) → is_proper_item (reflective_piece m ts).item ≡ true
+reflective_proper m ts = both (are_distinct (names ++ declared body)) (are_proper at body) (subst (λ (xs : List Name). are_distinct (names ++ xs) ≡ true) (sym (reflected_declare m message ts)) (subst (λ (xs : List Name). are_distinct xs ≡ true) (sym (append-nil names)) (behind_receiver (length m.params)))) (reflected_proper at m message ts)
+  where
+    names : List Name
+    names = codes "x" ∷ parameters_of m
+
+    message : List ℕ
+    message = units_of (spelled_method m)
+
+    body : Statements
+    body = reflected_body m message ts
+
+    at : Place
+    at = record { labels = []; breakable = false; super_allowed = false }
+
 pub pieces_are_proper : PiecesAreProper
-pieces_are_proper = record { of_classes = class_pieces_proper; of_helpers = helper_proper; of_methods = λ w e h. member_proper (lookup_in w) e h }
+pieces_are_proper = record { of_classes = class_pieces_proper; of_helpers = helper_proper; of_dispatch = dispatch_proper; of_reflective = reflective_proper; of_methods = λ w e h. member_proper (lookup_in w) e h }

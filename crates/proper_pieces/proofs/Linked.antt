@@ -10,6 +10,8 @@ use Rattle.helper_rules.specs.declared.kinds.Helper.{Helper}
 use Rattle.helper_rules.specs.declared.kinds.Helper.TheVariants as helpers
 use Rattle.js_mean.specs.Proper.{are_distinct, item_names}
 use Rattle.js_tree.specs.Terms.{Name, Piece}
+use Rattle.linked_pieces.specs.Dispatched.{OfDispatched, HasLesserPiece, AreDispatchPieces}
+use Rattle.linked_pieces.specs.Reflected.{OfReflected, AreReflectivePieces, AreToldPieces}
 use Rattle.linked_pieces.specs.Order.{AreInOrder, StandsBefore, AreMethodsOf, HasLesserName}
 use Rattle.linked_pieces.specs.Pieces.{piece_of_member, Block, IsBlock, AreBlocks, HasLesserWord, pieces_of_block, with_helpers, AreLinkedPieces}
 use Rattle.linked_pieces.proofs.Fields.{is_same_field, fields_apart, from_key, moved}
@@ -33,7 +35,7 @@ use Rattle.sj_world.specs.Known.{Classes, class_of}
 use Rattle.sj_world.specs.Linked.{Linked}
 use Rattle.worklist.proofs.Inserted.{nothing_in}
 use Rattle.proper_pieces.proofs.Apart.{Differ, AreApart, order_joined, told_apart}
-use Rattle.proper_pieces.proofs.Names.{rank, Owns, owns_function, owns_helper, one_owner, function_rank, helper_rank}
+use Rattle.proper_pieces.proofs.Names.{rank, Owns, owns_function, owns_helper, owns_dispatch, owns_reflective, one_owner, function_rank, helper_rank, dispatch_rank, reflective_rank}
 use Rattle.proper_pieces.proofs.Parts.{HaveOwnNames, DeclaresItself, Segment, no_pieces, joined, NamesDiffer, own_segment}
 
 pub order_mapped : {A B : Type 0} (R : A → A → Type 0) (S : B → B → Type 0) (f : A → B) (xs : List A) → ((x y : A) → R x y → S (f x) (f y)) → AreInOrder R xs → AreInOrder S (map f xs)
@@ -93,7 +95,37 @@ helpers_segment above c hs o h = record {
   declares = each_mapped DeclaresItself (helper_piece above) hs (λ g i. helper_declares above g);
 }
 
-wider : (c : Name) (ps : List Piece) → Segment c 0 10 ps → Segment c 0 11 ps
+-- the functions that tell receivers apart
+dispatched_rank : (l : Linked) (ps : List Piece) (p : Piece) → OfDispatched l ps p → rank p.name ≡ 11
+dispatched_rank l ps p o = ap (λ (q : Piece). rank q.name) o.is_piece.piece_is ∙ dispatch_rank o.method
+
+dispatch_segment : (l : Linked) (ps told : List Piece) (c : Name) → is_object c ≡ true → AreDispatchPieces l ps told → Segment c 11 12 told
+dispatch_segment l ps told c o h = record {
+  onward = omega arith;
+  differ = weaker HasLesserPiece HaveOwnNames told (λ p q i j k. not_before p.name q.name k) h.in_order;
+  from = λ p i. (let r = dispatched_rank l ps p (h.made p i) in omega (arith, r));
+  below = λ p i. (let r = dispatched_rank l ps p (h.made p i) in omega (arith, r));
+  owns = λ p i. (let d = h.made p i in subst (λ (q : Piece). Owns c q.name) (sym d.is_piece.piece_is) (owns_dispatch c d.method o));
+  declares = λ p i. subst DeclaresItself (sym (h.made p i).is_piece.piece_is) (λ is. refl);
+}
+
+reflected_rank : (l : Linked) (ps : List Piece) (p : Piece) → OfReflected l ps p → rank p.name ≡ 12
+reflected_rank l ps p o = ap (λ (q : Piece). rank q.name) o.is_piece.piece_is ∙ reflective_rank o.method
+
+reflective_segment : (l : Linked) (ps told : List Piece) (c : Name) → is_object c ≡ true → AreReflectivePieces l ps told → Segment c 12 13 told
+reflective_segment l ps told c o h = record {
+  onward = omega arith;
+  differ = weaker HasLesserPiece HaveOwnNames told (λ p q i j k. not_before p.name q.name k) h.in_order;
+  from = λ p i. (let r = reflected_rank l ps p (h.made p i) in omega (arith, r));
+  below = λ p i. (let r = reflected_rank l ps p (h.made p i) in omega (arith, r));
+  owns = λ p i. (let d = h.made p i in subst (λ (q : Piece). Owns c q.name) (sym d.is_piece.piece_is) (owns_reflective c d.method o));
+  declares = λ p i. subst DeclaresItself (sym (h.made p i).is_piece.piece_is) (λ is. refl);
+}
+
+told_segment : (l : Linked) (ps told : List Piece) (c : Name) → is_object c ≡ true → AreToldPieces l ps told → Segment c 11 13 told
+told_segment l ps told c o h = subst (Segment c 11 13) (sym h.told_are) (joined c 11 12 13 h.methods h.names (dispatch_segment l ps h.methods c o h.are_methods) (reflective_segment l ps h.names c o h.are_names))
+
+wider : (c : Name) (ps : List Piece) → Segment c 0 10 ps → Segment c 0 13 ps
 wider c ps h = record { onward = omega arith; differ = h.differ; from = h.from; below = λ p i. (let b = h.below p i in omega (arith, b)); owns = h.owns; declares = h.declares }
 
 -- pieces of these classes, whose names differ
@@ -136,7 +168,7 @@ module _ (l : Linked) (all : List EmittedMethod) (named : AreNamed l.world) wher
   block_segment c b h = joined c 0 9 10 b.own (map (piece_of_member l.world) b.methods) (own_of c b.own h.own) (methods_segment l.world all c b.methods h.methods)
 
   -- the pieces of a class in front of those of others
-  known_more : (c : Name) (cs : List Name) (here later : List Piece) → ((d : Name) → Contains cs d → StandsBefore l.world c d) → IsTrue (is_class_name c) → ((d : Name) → Contains cs d → IsTrue (is_class_name d)) → Segment c 0 11 here → Known cs later → Known (c ∷ cs) (here ++ later)
+  known_more : (c : Name) (cs : List Name) (here later : List Piece) → ((d : Name) → Contains cs d → StandsBefore l.world c d) → IsTrue (is_class_name c) → ((d : Name) → Contains cs d → IsTrue (is_class_name d)) → Segment c 0 13 here → Known cs later → Known (c ∷ cs) (here ++ later)
   known_more c cs here later before its_name names s rest = record {
     differ = order_joined HaveOwnNames here later s.differ rest.differ (λ p q i j e. apart p q (s.owns p i) (rest.owner q j) e);
     owner = λ p i. owned p (Contains-append_cases here later p i);
@@ -157,26 +189,25 @@ module _ (l : Linked) (all : List EmittedMethod) (named : AreNamed l.world) wher
       declared p (inl i) = s.declares p i
       declared p (inr i) = rest.declares p i
 
-  module _ (above : Above) (hs : List Helper) (in_order : AreInOrder HasLesserWord hs) where
-    abbrev its_helpers : List Piece
-    its_helpers = map (helper_piece above) hs
-
-    whole_segment : (c : Name) (b : Block) → IsBlock l all c b → Segment c 0 11 (with_helpers l.world its_helpers b)
+  module _ (behind : List Piece) (stand : (c : Name) → is_object c ≡ true → Segment c 10 13 behind) where
+    whole_segment : (c : Name) (b : Block) → IsBlock l all c b → Segment c 0 13 (with_helpers l.world behind b)
     whole_segment c b h = go (is_object b.class) refl
       where
-        go : (t : Bool) → is_object b.class ≡ t → Segment c 0 11 (if t then pieces_of_block l.world b ++ its_helpers else pieces_of_block l.world b)
-        go true e = joined c 0 10 11 (pieces_of_block l.world b) its_helpers (block_segment c b h) (helpers_segment above c hs (subst (λ (n : Name). is_object n ≡ true) h.class_is e) in_order)
+        go : (t : Bool) → is_object b.class ≡ t → Segment c 0 13 (if t then pieces_of_block l.world b ++ behind else pieces_of_block l.world b)
+        go true e = joined c 0 10 13 (pieces_of_block l.world b) behind (block_segment c b h) (stand c (subst (λ (n : Name). is_object n ≡ true) h.class_is e))
         go false e = wider c (pieces_of_block l.world b) (block_segment c b h)
 
-    known_blocks : (cs : List Name) (bs : List Block) → AreBlocks l all cs bs → AreInOrder (StandsBefore l.world) cs → ((c : Name) → Contains cs c → IsTrue (is_class_name c)) → Known cs (flat_map (with_helpers l.world its_helpers) bs)
+    known_blocks : (cs : List Name) (bs : List Block) → AreBlocks l all cs bs → AreInOrder (StandsBefore l.world) cs → ((c : Name) → Contains cs c → IsTrue (is_class_name c)) → Known cs (flat_map (with_helpers l.world behind) bs)
     known_blocks [] [] h o n = record { differ = tt; owner = λ p i. nothing_in p i; declares = λ p i. nothing_in p i }
     known_blocks [] (b ∷ bs) h o n = absurd h
     known_blocks (c ∷ cs) [] h o n = absurd h
-    known_blocks (c ∷ cs) (b ∷ bs) h o n = known_more c cs (with_helpers l.world its_helpers b) (flat_map (with_helpers l.world its_helpers) bs) o.0 (n c (at_first c cs)) (λ d i. n d (further c d cs i)) (whole_segment c b h.0) (known_blocks cs bs h.1 o.1 (λ d i. n d (further c d cs i)))
+    known_blocks (c ∷ cs) (b ∷ bs) h o n = known_more c cs (with_helpers l.world behind b) (flat_map (with_helpers l.world behind) bs) o.0 (n c (at_first c cs)) (λ d i. n d (further c d cs i)) (whole_segment c b h.0) (known_blocks cs bs h.1 o.1 (λ d i. n d (further c d cs i)))
 
   pub linked_differ : (ps : List Piece) → AreLinkedPieces l all ps → AreInOrder HaveOwnNames ps × ((p : Piece) → Contains ps p → DeclaresItself p)
   linked_differ ps h =
-      let k = known_blocks h.above h.helpers h.are_helpers.in_order h.classes h.blocks h.are_blocks h.are_classes.in_order (λ c i. class_is_named c ((h.are_classes.exact c).0 i)) in
+      let helpers = map (helper_piece h.above) h.helpers in
+      let stand : (c : Name) → is_object c ≡ true → Segment c 10 13 (helpers ++ h.told) = λ c o. joined c 10 11 13 helpers h.told (helpers_segment h.above c h.helpers o h.are_helpers.in_order) (told_segment l (flat_map (pieces_of_block l.world) h.blocks) h.told c o h.are_told) in
+      let k = known_blocks (helpers ++ h.told) stand h.classes h.blocks h.are_blocks h.are_classes.in_order (λ c i. class_is_named c ((h.are_classes.exact c).0 i)) in
       subst (λ (qs : List Piece). AreInOrder HaveOwnNames qs × ((p : Piece) → Contains qs p → DeclaresItself p)) (sym h.pieces_are) (k.differ, k.declares)
 
 pub names_distinct : (ps : List Piece) → AreInOrder HaveOwnNames ps → AreApart (map (λ (p : Piece). p.name) ps)

@@ -6,6 +6,8 @@ use Rattle.helper_rules.specs.Helpers.{Above, helper_piece}
 use Rattle.helper_rules.specs.declared.kinds.Helper.{Helper}
 use Rattle.js_mean.specs.Proper.{are_distinct, is_proper_item, item_names}
 use Rattle.js_tree.specs.Terms.{Name, Piece}
+use Rattle.linked_pieces.specs.Dispatched.{AreDispatchPieces}
+use Rattle.linked_pieces.specs.Reflected.{AreReflectivePieces, AreToldPieces}
 use Rattle.linked_pieces.specs.Order.{AreInOrder}
 use Rattle.linked_pieces.specs.Pieces.{piece_of_member, Block, IsBlock, AreBlocks, pieces_of_block, with_helpers, AreLinkedPieces}
 use Rattle.linked_pieces.specs.Classes.{AreClassPieces, absent, present}
@@ -68,21 +70,33 @@ module _ (l : Linked) (all : List EmittedMethod) (once : (e : EmittedMethod) →
   helpers_proper : (above : Above) (hs : List Helper) → EachProper (map (helper_piece above) hs)
   helpers_proper above hs p i = let m = from_map (helper_piece above) hs p i in subst (λ (q : Piece). is_proper_item q.item ≡ true) m.is (pieces_are_proper.of_helpers above m.item)
 
-  whole_proper : (above : Above) (hs : List Helper) (c : Name) (b : Block) → IsBlock l all c b → EachProper (with_helpers l.world (map (helper_piece above) hs) b)
-  whole_proper above hs c b h = go (is_object b.class)
-    where
-      go : (t : Bool) → EachProper (if t then pieces_of_block l.world b ++ map (helper_piece above) hs else pieces_of_block l.world b)
-      go true = joined_proper (pieces_of_block l.world b) (map (helper_piece above) hs) (block_proper c b h) (helpers_proper above hs)
-      go false = block_proper c b h
+  dispatch_proper : (qs told : List Piece) → AreDispatchPieces l qs told → EachProper told
+  dispatch_proper qs told h p i = let d = h.made p i in subst (λ (q : Piece). is_proper_item q.item ≡ true) (sym d.is_piece.piece_is) (pieces_are_proper.of_dispatch d.method d.is_piece.cases)
 
-  blocks_proper : (above : Above) (hs : List Helper) (cs : List Name) (bs : List Block) → AreBlocks l all cs bs → EachProper (flat_map (with_helpers l.world (map (helper_piece above) hs)) bs)
-  blocks_proper above hs [] [] h = λ p i. nothing_in p i
-  blocks_proper above hs [] (b ∷ bs) h = absurd h
-  blocks_proper above hs (c ∷ cs) [] h = absurd h
-  blocks_proper above hs (c ∷ cs) (b ∷ bs) h = joined_proper (with_helpers l.world (map (helper_piece above) hs) b) (flat_map (with_helpers l.world (map (helper_piece above) hs)) bs) (whole_proper above hs c b h.0) (blocks_proper above hs cs bs h.1)
+  reflective_proper : (qs told : List Piece) → AreReflectivePieces l qs told → EachProper told
+  reflective_proper qs told h p i = let d = h.made p i in subst (λ (q : Piece). is_proper_item q.item ≡ true) (sym d.is_piece.piece_is) (pieces_are_proper.of_reflective d.method d.is_piece.cases)
+
+  told_proper : (qs told : List Piece) → AreToldPieces l qs told → EachProper told
+  told_proper qs told h = subst EachProper (sym h.told_are) (joined_proper h.methods h.names (dispatch_proper qs h.methods h.are_methods) (reflective_proper qs h.names h.are_names))
+
+  module _ (behind : List Piece) (proper : EachProper behind) where
+    whole_proper : (c : Name) (b : Block) → IsBlock l all c b → EachProper (with_helpers l.world behind b)
+    whole_proper c b h = go (is_object b.class)
+      where
+        go : (t : Bool) → EachProper (if t then pieces_of_block l.world b ++ behind else pieces_of_block l.world b)
+        go true = joined_proper (pieces_of_block l.world b) behind (block_proper c b h) proper
+        go false = block_proper c b h
+
+    blocks_proper : (cs : List Name) (bs : List Block) → AreBlocks l all cs bs → EachProper (flat_map (with_helpers l.world behind) bs)
+    blocks_proper [] [] h = λ p i. nothing_in p i
+    blocks_proper [] (b ∷ bs) h = absurd h
+    blocks_proper (c ∷ cs) [] h = absurd h
+    blocks_proper (c ∷ cs) (b ∷ bs) h = joined_proper (with_helpers l.world behind b) (flat_map (with_helpers l.world behind) bs) (whole_proper c b h.0) (blocks_proper cs bs h.1)
 
   linked_proper : (ps : List Piece) → AreLinkedPieces l all ps → EachProper ps
-  linked_proper ps h = subst EachProper (sym h.pieces_are) (blocks_proper h.above h.helpers h.classes h.blocks h.are_blocks)
+  linked_proper ps h =
+      let helpers = map (helper_piece h.above) h.helpers in
+      subst EachProper (sym h.pieces_are) (blocks_proper (helpers ++ h.told) (joined_proper helpers h.told (helpers_proper h.above h.helpers) (told_proper (flat_map (pieces_of_block l.world) h.blocks) h.told h.are_told)) h.classes h.blocks h.are_blocks)
 
 pub modules_of_pieces_are_proper : ModulesOfPiecesAreProper
 modules_of_pieces_are_proper l all ps written es named once h = both (names && true && true) (list_all is_proper_item (map item_of owned ++ map call_item_of es)) (ap (λ b. b && true && true) distinct) (items_proper owned es (λ p i. linked_proper l all once ps h p (from_filter (is_owned written) ps p i).among))

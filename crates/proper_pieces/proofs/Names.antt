@@ -8,6 +8,7 @@ use Rattle.helper_rules.specs.declared.kinds.Helper.TheVariants as helpers
 use Rattle.helper_rules.specs.declared.kinds.Failure.{Failure}
 use Rattle.helper_rules.specs.declared.kinds.Failure.TheVariants as failures
 use Rattle.js_tree.specs.Terms.{Name}
+use Rattle.linked_pieces.specs.Dispatch.{dispatch_name, reflective_name}
 use Rattle.sj_mangling.specs.Bindings.{field_binding, function_name}
 use Rattle.sj_mangling.specs.Mangling.{mangled}
 use Rattle.sj_mangling.specs.declared.bindings.FieldBinding.TheVariants.{Variable, Setter}
@@ -31,7 +32,7 @@ abbrev pub behind : Name → Name
 behind [] = []
 behind (b ∷ bs) = if b == 95 then bs else behind bs
 
--- functions and helpers have the last two numbers
+-- functions, helpers and the functions that tell receivers apart, of methods and of reflective names, have the last four numbers
 abbrev number_of : Name → ℕ
 number_of f =
     if is_same_text f (codes "k") then 0 else
@@ -43,6 +44,8 @@ number_of f =
     if is_same_text f (codes "q") then 6 else
     if is_same_text f (codes "is") then 7 else
     if is_same_text f (codes "as") then 8 else
+    if is_same_text f (codes "d") then 11 else
+    if is_same_text f (codes "r") then 12 else
     9
 
 abbrev begins_as_helper : Name → Bool
@@ -52,9 +55,9 @@ begins_as_helper (b ∷ bs) = b == 36
 abbrev pub rank : Name → ℕ
 rank n = if begins_as_helper n then 10 else number_of (front n)
 
--- 0 where the class stands alone, 1 where more stands behind it, 2 for a helper
+-- 0 where the class stands alone, 1 where more stands behind it, 2 for a helper and a function that tells receivers apart
 abbrev shape : ℕ → ℕ
-shape r = if r == 10 then 2 else if r == 9 then 1 else if r == 2 then 1 else if r == 3 then 1 else 0
+shape r = if r == 12 then 2 else if r == 11 then 2 else if r == 10 then 2 else if r == 9 then 1 else if r == 2 then 1 else if r == 3 then 1 else 0
 
 pub function_rank : (s : Namespace) (c : Name) (m : MethodName) → rank (function_name s c m) ≡ 9
 function_rank Public c m = refl
@@ -99,6 +102,12 @@ helper_rank helpers.TestOfArray = refl
 helper_rank helpers.CastToArray = refl
 helper_rank (helpers.Throws f) = failure_rank f
 
+pub dispatch_rank : (m : MethodName) → rank (dispatch_name m) ≡ 11
+dispatch_rank m = refl
+
+pub reflective_rank : (m : MethodName) → rank (reflective_name m) ≡ 12
+reflective_rank m = refl
+
 -- the name of a piece that this class owns
 pub data Owns (c n : Name) : Type 0 where
   alone : shape (rank n) ≡ 0 → behind n ≡ mangled c → Owns c n
@@ -129,6 +138,12 @@ owns_setter c f = with_more (mangled f) refl (behind_setter c f)
 
 pub owns_helper : (c : Name) (h : Helper) → is_object c ≡ true → Owns c (helper_name h)
 owns_helper c h o = a_helper (ap shape (helper_rank h)) o
+
+pub owns_dispatch : (c : Name) (m : MethodName) → is_object c ≡ true → Owns c (dispatch_name m)
+owns_dispatch c m o = a_helper (ap shape (dispatch_rank m)) o
+
+pub owns_reflective : (c : Name) (m : MethodName) → is_object c ≡ true → Owns c (reflective_name m)
+owns_reflective c m o = a_helper (ap shape (reflective_rank m)) o
 
 -- the same class is read with the same rest behind it
 pub same_class : (c d more others : Name) → IsTrue (is_class_name c) → IsTrue (is_class_name d) → mangled c ++ (95 ∷ 95 ∷ more) ≡ mangled d ++ (95 ∷ 95 ∷ others) → (c ≡ d) × (more ≡ others)

@@ -5,7 +5,7 @@
 
 ghost use Rattle.proper_pieces.specs.Laws.{PiecesAreProper, NamesOfPiecesDiffer, ModulesOfPiecesAreProper};
 
-/// Each piece of a class, each helper, and the piece of each method whose locals are defined once has no early error.
+/// Each piece of a class, each helper, each function that tells primitive receivers apart, and the piece of each method whose locals are defined once has no early error.
 pub fn pieces_are_proper()
     ensures { PiecesAreProper }
 {}

@@ -4,3 +4,5 @@ pub mod Defaults
 pub mod Declared
 pub mod Resolves
 pub use Rattle.dispatch_laws.proofs.WorkedOut
+pub use Rattle.dispatch_laws.proofs.SameNames
+pub use Rattle.dispatch_laws.proofs.Proxies

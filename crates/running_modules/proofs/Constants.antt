@@ -1,6 +1,6 @@
 -- A piece of a linked world whose item declares an object is the constants of a class.
 use Rattle.std.proofs.Common.{◌≡◌, List, Option, Some, None, refl, sym, subst, Contains}
-use Rattle.closed_pieces.proofs.Places.{Stands, own, method, helps, stands}
+use Rattle.closed_pieces.proofs.Places.{Stands, own, method, helps, tells, names, stands}
 use Rattle.declared_files.specs.Declared.{AreConstants}
 use Rattle.helper_rules.specs.Helpers.{helper_item, constants}
 use Rattle.helper_rules.specs.Words.{kind_class}
@@ -51,3 +51,5 @@ module _ (l : Linked) (all : List EmittedMethod) (ps : List Piece) (p : AreLinke
       go (own c parts are there j) = own_right c parts are q j
       go (method e j k same) = subst Right same (λ x qs e. absurd (cc))
       go (helps h j same) = subst Right same (helper_right h)
+      go (tells j o) = subst Right (sym o.is_piece.piece_is) (λ x qs e. absurd (cc))
+      go (names j o) = subst Right (sym o.is_piece.piece_is) (λ x qs e. absurd (cc))

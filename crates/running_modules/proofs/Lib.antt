@@ -51,3 +51,8 @@ pub use Rattle.module_files.proofs.Reached
 pub use Rattle.module_files.proofs.Read
 pub use Rattle.module_files.proofs.Running
 pub use Rattle.module_files.proofs.Whole as ModuleFilesWhole
+pub use Rattle.closed_pieces.proofs.DeclaredPiecesLooked
+pub use Rattle.closed_pieces.proofs.DeclaredPiecesBelow
+pub use Rattle.closed_pieces.proofs.Facts
+pub use Rattle.closed_pieces.proofs.LinkedEntriesOne
+pub use Rattle.closed_pieces.proofs.ReflectedCases

@@ -1,6 +1,6 @@
 -- A piece of a linked world whose class extends another uses the name of that one.
-use Rattle.std.proofs.Common.{◌≡◌, true, List, Option, Some, None, refl, subst, Contains}
-use Rattle.closed_pieces.proofs.Places.{Stands, own, method, helps, stands}
+use Rattle.std.proofs.Common.{◌≡◌, true, List, Option, Some, None, refl, sym, subst, Contains}
+use Rattle.closed_pieces.proofs.Places.{Stands, own, method, helps, tells, names, stands}
 use Rattle.closed_pieces.proofs.Parts.{uses_superclass}
 use Rattle.declared_files.specs.FileDeclarationsDeclared.{is_covered}
 use Rattle.helper_rules.specs.Helpers.{Above, helper_piece}
@@ -48,3 +48,5 @@ superclasses_used l all ps p covered q i = go (stands l all ps p q i)
     go (own c parts are there j) = own_right parts q j
     go (method e j k same) = subst Right same tt
     go (helps h j same) = subst Right same (helper_right p.above h (covered h j))
+    go (tells j o) = subst Right (sym o.is_piece.piece_is) tt
+    go (names j o) = subst Right (sym o.is_piece.piece_is) tt

@@ -26,3 +26,8 @@ pub use Rattle.closed_pieces.specs.Running
 pub use Rattle.closed_pieces.specs.Used
 pub use Rattle.closed_pieces.specs.Verdicts
 pub use Rattle.module_files.specs.Files
+pub use Rattle.closed_pieces.specs.ClassTestsKinds
+pub use Rattle.closed_pieces.specs.Targets
+pub use Rattle.closed_pieces.specs.Looked
+pub use Rattle.closed_pieces.specs.Dispatch
+pub use Rattle.closed_pieces.specs.Reflected

@@ -14,3 +14,4 @@ mod reflective;
 mod superclasses;
 
 pub use linking::base_link;
+pub use reflective::reflective_names;

@@ -19,7 +19,7 @@ use Rattle.sj_trees.specs.declared.positions.Position.{Position}
 use Rattle.sj_trees.specs.declared.types.IrType.{IrType}
 use Rattle.sj_proper.specs.Locals.{Scope, with_local}
 use Rattle.sj_trees.specs.declared.types.IrType.TheVariants.{NoType}
-use Rattle.sj_plain.specs.Settings.{Receiving, Setting, shown, run, SameState, Inside, Valued, valued, Lawful, Holding, holding, Sees, usable}
+use Rattle.sj_plain.specs.Settings.{Receiving, Setting, shown, run, SameState, Valued, valued, Lawful, Holding, holding, Sees, usable}
 use Rattle.sj_plain.proofs.Boxes.{StandsFor, stood, stood-fits, operand_stood, operand_coerced}
 use Rattle.sj_bodies.proofs.Blocks.{Outside, Undeclared, block_alike}
 use Rattle.sj_bodies.proofs.Contexts.{Context, Writes, Sound, Ahead, IsOpen, Ready, ready-lift, Keeps, Goes, Less, keeps-less, less-trans, keeps-fewer, keeps-refl, keeps-trans, Arrives, let_go, stored, Came, gave, left, threw, stopped, started-here, started-other, started-inside, started-ready, started-keeps}

@@ -11,6 +11,8 @@ pub mod Statements
 pub mod Trees
 pub mod Turns
 pub mod ObjectTrees
+pub mod ArrayTrees
+pub mod LookedTrees
 pub use Rattle.sj_proper.proofs.Equal
 pub use Rattle.sj_proper.proofs.Fitting
 pub use Rattle.sj_proper.proofs.InWorld
@@ -19,6 +21,7 @@ pub use Rattle.sj_proper.proofs.Mutable
 pub use Rattle.sj_proper.proofs.RulesGive
 pub use Rattle.sj_proper.proofs.BuiltFormsStatics as Statics
 pub use Rattle.sj_plain.proofs.Boxes
+pub use Rattle.sj_plain.proofs.Classes
 pub use Rattle.sj_plain.proofs.Divisions
 pub use Rattle.sj_plain.proofs.Heaps
 pub use Rattle.sj_plain.proofs.Objects
@@ -31,3 +34,4 @@ pub use Rattle.sj_plain.proofs.Tests
 pub use Rattle.sj_plain.proofs.Worlds
 pub use Rattle.sj_proper.proofs.Declared
 pub use Rattle.sj_proper.proofs.Names
+pub use Rattle.sj_plain.proofs.Looked

@@ -1,6 +1,7 @@
 -- The theorem on trees: one induction, both directions.
+use Rattle.sj_proper.specs.Standing.{call_type, types_referred, MayStand}
 use Rattle.std.specs.Prelude.{ℤ, pos, ◌&&◌, ◌||◌, not}
-use Rattle.std.proofs.Common.{◌≡◌, ℕ, Bool, true, false, List, [], ◌∷◌, Some, refl, sym, ap, ◌∙◌, subst, ◌⊎◌, inl, inr, ⊎_elim}
+use Rattle.std.proofs.Common.{Option, ◌≡◌, ℕ, Bool, true, false, List, [], ◌∷◌, Some, refl, sym, ap, ◌∙◌, subst, ◌⊎◌, inl, inr, ⊎_elim}
 use mathlib.Core.Path.{fun_ext}
 use Rattle.outcomes.specs.Outcome.{done}
 use Rattle.outcomes.specs.Agreement.{Sim}
@@ -9,9 +10,11 @@ use Rattle.sj_plain.specs.Meaning as ir_meaning
 use Rattle.sj_plain.specs.States as ir
 use Rattle.js_mean.specs.States as js
 use Rattle.sj_core.specs.Terms as core
+use Rattle.sj_core.specs.declared.callees.Callee.{Callee}
+use Rattle.sj_core.specs.declared.callees.Callee.TheVariants as callees
 use Rattle.sj_core.specs.Views.{expressions_of}
 use Rattle.sj_proper.specs.Coercions.{is_char, coerced, coerced_arguments, coerced_receiver}
-use Rattle.sj_proper.specs.Desugar.{target_of, member, types_of, into, block, receiver, operands, first_of, second_of, rest_of, finish, branches, cases, switch_code}
+use Rattle.sj_proper.specs.Desugar.{target_of, member, types_of, into, block, receiver, operands, first_of, second_of, rest_of, finish, branches, cases, switch_code, callee_of}
 use Rattle.sj_proper.specs.Spill.{Destination, discard, to_variable, to_result, Code, one, spill, then_use}
 use Rattle.sj_trees.specs.Term.{Term, Terms, no_terms, more_terms, Cases, no_cases, more_cases, var_def, skip, block_of, labeled, assign, return_to, if_then, while_loop, do_while, throw, match_on, new_object, select, select_static, apply, apply_statically, this_ref, apply_static, unary_op, binary_op, is_instance_of, as_instance_of, undefined_literal, null_literal, boolean_literal, char_literal, byte_literal, short_literal, int_literal, long_literal, string_literal, var_ref, log_line}
 use Rattle.sj_trees.specs.TypeOf.{type_of_term, type_of_last, unary_result, binary_result}
@@ -27,7 +30,7 @@ use Rattle.sj_plain.specs.Settings.{Setting, run, SameState, Lawful, usable}
 use Rattle.sj_bodies.proofs.Blocks.{Outside, undeclared}
 use Rattle.sj_bodies.proofs.Contexts.{around, Context, Writes, Sound, Ahead, Ready, Keeps, keeps-refl, Came}
 use Rattle.sj_bodies.specs.Fine.{IsDiscard, is_discard, FitsIn, FineOperand, Amid, Asks}
-use Rattle.sj_plain.proofs.Boxes.{StandsFor, stood, stood-fits, operand_stood, stands-for, stand-for-all}
+use Rattle.sj_plain.proofs.Boxes.{StandsFor, stood, stood-fits, operand_stood, stands-for, stand-for-all, StandForAll}
 use Rattle.sj_plain.proofs.Tests.{test_alike, cast_alike}
 use Rattle.sj_plain.proofs.Received.{may_be_checked, value_or_nothing, Received, received, Constructed, constructed}
 use Rattle.sj_proper.proofs.BuiltFormsStatics.{read_static, set_static}
@@ -40,8 +43,14 @@ use Rattle.sj_names.specs.declared.method_names.MethodName.{MethodName}
 use Rattle.sj_names.specs.declared.method_names.Namespace.{Namespace}
 use Rattle.sj_names.specs.declared.method_names.Namespace.TheVariants.{Public, Private, Constructor}
 use Rattle.sj_proper.specs.Typing.{Scene, in_label, Typed, TypedBlock, TypedAll, TypedCases, may_check}
-use Rattle.sj_proper.proofs.Direct.{Direct, direct}
-use Rattle.sj_plain.proofs.HijackedCalls.{hijacked_call}
+use Rattle.sj_proper.proofs.Direct.{Direct, ByLookup, OnArray, ByName, Applied, directly, by_lookup, on_array, by_name, applied}
+use Rattle.sj_proper.proofs.BuiltFormsDirect.{array_valued, IsLookedUp}
+use Rattle.sj_plain.proofs.HijackedCalls.{hijacked_call, takes_any}
+use Rattle.sj_plain.proofs.LookedUpCalls.{calls_instance, takes_instances}
+use Rattle.sj_plain.proofs.Received.{looked_stand}
+use Rattle.sj_bodies.proofs.ArrayTrees.{array_called}
+use Rattle.sj_bodies.proofs.LookedTrees.{looked_up}
+use Rattle.sj_plain.proofs.Looked.{as_instances}
 use Rattle.sj_proper.proofs.Mutable.{of_first, of_second, of_definition, front, front_cases}
 use Rattle.sj_plain.specs.Conditions.{IsNoConstruction, Plain}
 use Rattle.sj_proper.specs.Plain.{is_plain, mutable_in, mutable_in_all, mutable_in_cases}
@@ -52,17 +61,18 @@ use Rattle.sj_proper.proofs.RulesGive.{Takes, FitsType, ArgumentsFit, class_has_
 use Rattle.sj_names.specs.declared.references.TypeRef.{TypeRef}
 use Rattle.sj_trees.specs.Types.{class_type, reference_type}
 use Rattle.sj_trees.specs.declared.types.IrType.TheVariants.{Any, NoType, Undefined, Null, Boolean, Char, Byte, Short, Int, Long, String}
-use Rattle.sj_plain.specs.Subtypes.{IsSub}
+use Rattle.sj_plain.specs.Known.{object}
+use Rattle.sj_plain.specs.Subtypes.{IsSub, to_any}
 use Rattle.sj_bodies.proofs.Forms.{of_operands, one_final, two_final, silent, assign_final, log_final, if_final, came-narrow, rebased, ahead-later, OneFinal, TwoFinal}
 use Rattle.sj_bodies.proofs.Jumps.{labelling, sound-labelling, labeled_alike, return_alike}
 use Rattle.sj_bodies.proofs.Matches.{settled, sound-settled, ahead-settled, outside-settled, undeclared-settled, undeclared-case, CasesAlike, no_case, without_keys, with_keys, match_final}
 use Rattle.sj_proper.specs.Once.{Once, OnceAll, OnceCases}
-use Rattle.sj_bodies.proofs.Trees.{written, written_cases, LowAlike, outside-part, behind, go_on-given, FineHere, TreeDoes, piece, operand_does, define_does, quiet, value_of, local_at, finish_one, list_of, call_does, division_does}
+use Rattle.sj_bodies.proofs.Trees.{written, written_cases, LowAlike, outside-part, behind, go_on-given, FineHere, TreeDoes, piece, operand_does, define_does, quiet, value_of, local_at, finish_one, list_of, call_does, division_does, operands-list, runs-list}
 use Rattle.sj_names.proofs.Same.{impossible}
 use Rattle.sj_plain.proofs.Plain.{unary_alike, binary_alike}
 use Rattle.sj_plain.proofs.Objects.{static_alike}
-use Rattle.sj_bodies.proofs.ObjectTrees.{receiver_piece, receiver_does, select_does, set_static_final, set_does, set_spilled, new_does, this_does, throw_does, receive_does, construct_does}
-use Rattle.sj_bodies.proofs.Spills.{Does, OperandDoes, OperandsDo, numbered-named}
+use Rattle.sj_bodies.proofs.ObjectTrees.{reflect_does, receiver_piece, receiver_does, select_does, set_static_final, set_does, set_spilled, new_does, this_does, throw_does, receive_does, construct_does}
+use Rattle.sj_bodies.proofs.Spills.{Does, OperandDoes, OperandsDo, numbered-named, operands_in}
 use Rattle.sj_bodies.proofs.Statements.{run-followed, came_then, finish_alike, Ends}
 use Rattle.sj_bodies.proofs.Turns.{while_does, do_does}
 use Rattle.sj_plain.proofs.Worlds.{World, Grows, grows-refl}
@@ -370,20 +380,125 @@ module _ (z : Setting) (lawful : Lawful z) (low : LowAlike z) where
   statically_does p e d n m ts t does_e do_all c k j sound ahead out wr fine = impossible fine.typed.0.built
 
   -- a call that is looked up, on a receiver of a hijacked class: a call of the member that this class runs
-  applied_does : (p : Position) (e : Term) (m : MethodName) (ts : Terms) (t : IrType) → TreeDoes z lawful low e → OperandsFine ts → TreeDoes z lawful low (apply p e m ts t)
-  applied_does p e m ts t does_e do_all c k j sound ahead out wr fine w env s sc u r same = subst (λ o. Ends z lawful c c.scope k w sc o (into z.is_mutable z.code.sure c.targets k j (apply p e m ts t)).statements sc u) (λ i. ir_meaning.in_order (ir_meaning.receiving z.place.classes (is_sure env.sure e) z.low (ir_meaning.step z.place.classes z.low e) ∷ ir_meaning.operands z.place.classes z.low ts) (sym runs i) env s) (subst (λ (a : Code). Ends z lawful c c.scope k w sc (ir_meaning.step z.place.classes z.low (apply_statically p e d.is.direct.class Public m ts t) env s) a.statements sc u) (sym same_code) (statically_does p e d.is.direct.class Public m ts t does_e do_all c k j sound ahead out wr its w env s sc u r same))
+  directly_does : (p : Position) (e : Term) (m : MethodName) (ts : Terms) (t : IrType) → TreeDoes z lawful low e → OperandsFine ts → (c : Context) (k : Destination) (j : ℕ) → Sound z.is_mutable c → Ahead c j → Outside c (Own (apply p e m ts t)) → Writes c.writable k → (fine : FineHere z lawful low c k (apply p e m ts t)) → Direct z.place.classes (usable z) fine.scene p e m ts t → Does z lawful c k j (apply p e m ts t)
+  directly_does p e m ts t does_e do_all c k j sound ahead out wr fine d w env s sc u r same = subst (λ o. Ends z lawful c c.scope k w sc o (into z.is_mutable z.code.sure c.targets k j (apply p e m ts t)).statements sc u) ((λ i. ir_meaning.in_order (received ∷ ir_meaning.operands z.place.classes z.low ts) (sym runs i) env s) ∙ (λ i. ir_meaning.in_order (sym takes i ∷ ir_meaning.operands z.place.classes z.low ts) (ir_meaning.call_method z.place.classes z.low (type_of_term e) m m.result) env s)) (subst (λ (a : Code). Ends z lawful c c.scope k w sc (ir_meaning.step z.place.classes z.low (apply_statically p e d.is.direct.class Public m ts t) env s) a.statements sc u) (sym same_code) (statically_does p e d.is.direct.class Public m ts t does_e do_all c k j sound ahead out wr its w env s sc u r same))
     where
-      d : Direct z.place.classes (usable z) fine.scene p e m ts t
-      d = direct z.place.classes (usable z) fine.scene p e m ts t fine.typed.0
-
       its : FineHere z lawful low c k (apply_statically p e d.is.direct.class Public m ts t)
       its = record { scene = fine.scene; amid = fine.amid; around = fine.around; once = fine.once; written = fine.written; asks = fine.asks; typed = (d.here, fine.typed.1, fine.typed.2); boxed = fine.boxed }
+
+      received : ir.Run
+      received = ir_meaning.receiving z.place.classes (is_sure env.sure e) z.low (ir_meaning.step z.place.classes z.low e)
 
       runs : ir_meaning.call_method z.place.classes z.low (type_of_term e) m m.result ≡ ir_meaning.call_on z.place.classes z.low (ir_meaning.static_target z.place.classes d.is.direct.class Public m)
       runs = hijacked_call z.place.classes z.low (type_of_term e) m d.is.direct.class d.is.direct.receiver d.is.direct.hijacked d.is.result d.is.named
 
+      takes : ir_meaning.taking z.place.classes (ir_meaning.class_looked_up (type_of_term e) m.result) received ≡ received
+      takes = takes_any z.place.classes z.low (type_of_term e) m d.is.direct.class d.is.direct.receiver d.is.direct.hijacked received
+
       same_code : into z.is_mutable z.code.sure c.targets k j (apply p e m ts t) ≡ into z.is_mutable z.code.sure c.targets k j (apply_statically p e d.is.direct.class Public m ts t)
       same_code = ap (λ q. then_use (spill (receiver z.is_mutable z.code.sure e (λ k j. into z.is_mutable z.code.sure c.targets k j e) ∷ operands z.is_mutable z.code.sure c.targets ts) j) (λ es. finish k p t false (core.receiver_call q (coerced_receiver (type_of_term e) (first_of es)) (expressions_of (coerced_arguments m.params (types_of ts) (rest_of es)))))) d.is.callee
+
+  -- one of a method that is looked up
+  looked_does : (p : Position) (e : Term) (m : MethodName) (ts : Terms) (t : IrType) → TreeDoes z lawful low e → OperandsFine ts → (c : Context) (k : Destination) (j : ℕ) → Sound z.is_mutable c → Ahead c j → Outside c (Own (apply p e m ts t)) → Writes c.writable k → (fine : FineHere z lawful low c k (apply p e m ts t)) → ByLookup z.place.classes (usable z) fine.scene e m → Does z lawful c k j (apply p e m ts t)
+  looked_does p e m ts t does_e do_all c k j sound ahead out wr fine d w env s sc u r same = subst (λ i. Goal received_run called_so (text_by (callee_of (type_of_term e) m)) i) (sym fine.typed.0.meets.1) (subst (λ q. Goal received_run called_so (text_by q) (call_type m.result)) (sym d.is.callee) (subst (λ run. Goal run called_so (text_by (callees.LookedUp l.class m)) (call_type m.result)) (sym (takes_instances z.place.classes (type_of_term e) m l.class l.receiver l.free d.is.result d.is.named (received env.sure))) (subst (λ a. Goal (taken env.sure) a (text_by (callees.LookedUp l.class m)) (call_type m.result)) (sym (calls_instance z.place.classes (type_of_term e) m l.class l.receiver l.free d.is.result d.is.named z.low)) (subst (λ q. Goal (taken q) act (text_by (callees.LookedUp l.class m)) (call_type m.result)) (sym r.sees.sure) (subst (λ os. Ends z lawful c c.scope k w sc (ir_meaning.in_order (taken z.code.sure ∷ ir_meaning.operands z.place.classes z.low ts) act env s) (then_use (spill ((receiver_piece z lawful low c.targets e).here ∷ os) j) (λ es. finish k p (call_type m.result) false (text_by (callees.LookedUp l.class m) es))).statements sc u) (sym (operands-list z lawful low c.targets ts)) (subst (λ rs. Ends z lawful c c.scope k w sc (ir_meaning.in_order (taken z.code.sure ∷ rs) act env s) (then_use (spill (operands_in z lawful (receiver_piece z lawful low c.targets e ∷ list_of z lawful low c.targets ts)) j) (λ es. finish k p (call_type m.result) false (text_by (callees.LookedUp l.class m) es))).statements sc u) (sym (runs-list z lawful low c.targets ts)) (looked_up z lawful low l.class m l.free l.there e ts on fit c k p sound wr (subst (FitsIn (usable z) k) fine.typed.0.meets.1 (fits z.place.classes lawful.base.ordered (usable z) k t fine.asks (result_is m.result t fine.typed.0.meets.1) makes.0)) j ahead ds w env s sc u r same)))))))
+    where
+      l : IsLookedUp (usable z) (type_of_term e) m
+      l = d.is.lookup
+
+      act : List ir.Value → ir.Run
+      act = ir_meaning.call_instance z.place.classes z.low l.class m
+
+      called_so : List ir.Value → ir.Run
+      called_so = ir_meaning.call_method z.place.classes z.low (type_of_term e) m m.result
+
+      received : (List ℕ → Bool) → ir.Run
+      received q = ir_meaning.receiving z.place.classes (is_sure q e) z.low (ir_meaning.step z.place.classes z.low e)
+
+      received_run : ir.Run
+      received_run = ir_meaning.taking z.place.classes (ir_meaning.class_looked_up (type_of_term e) m.result) (received env.sure)
+
+      taken : (List ℕ → Bool) → ir.Run
+      taken q = λ env' s'. ir.go_on (received q env' s') (ir_meaning.only_instance z.place.classes l.class)
+
+      text_by : Callee → List core.Expression → core.Expression
+      text_by q es = core.receiver_call q (coerced_receiver (type_of_term e) (first_of es)) (expressions_of (coerced_arguments m.params (types_of ts) (rest_of es)))
+
+      Goal : ir.Run → (List ir.Value → ir.Run) → (List core.Expression → core.Expression) → IrType → Type 0
+      Goal run a text i = Ends z lawful c c.scope k w sc (ir_meaning.in_order (run ∷ ir_meaning.operands z.place.classes z.low ts) a env s) (then_use (spill (receiver z.is_mutable z.code.sure e (λ k j. into z.is_mutable z.code.sure c.targets k j e) ∷ operands z.is_mutable z.code.sure c.targets ts) j) (λ es. finish k p i false (text es))).statements sc u
+
+      makes : Makes (is_boxed_at (goal_of k) t) × Makes (is_boxed Any e || any_is_boxed m.params ts) × Makes (operand_boxes (goals_of c.targets) e) × Makes (operands_box (goals_of c.targets) ts)
+      makes = called e m ts t c k fine.boxed
+
+      may : MayStand (usable z) (class_type l.class) (type_of_term e) × ArgumentsFit z.place.classes (usable z) ts m.params
+      may = looked_stand z.place.classes (usable z) e l.class m ts makes.1 fine.typed.0.finds fine.typed.0.meets.2
+
+      on : StandsFor z (class_type l.class) (type_of_term e)
+      on = stands-for z lawful (class_type l.class) (type_of_term e) (l.below z.place.classes) may.0
+
+      fit : StandForAll z (types_referred m.params) (types_of ts)
+      fit = stand-for-all z lawful ts m.params may.1
+
+      ds : OperandsDo z lawful c j (receiver_piece z lawful low c.targets e ∷ list_of z lawful low c.targets ts)
+      ds = (receiver_of c j e l.class (Own (apply p e m ts t)) (λ x o. inl o) does_e out fine.scene fine.amid (of_first z.is_mutable (mutable_in e) (mutable_in_all ts) (front e) fine.written) (l.below z.place.classes) d.checked fine.typed.1 makes.2 fine.around fine.once.0, do_all c j (outside-part c (Own (apply p e m ts t)) (OwnAll ts) (λ x o. inr o) out) fine.scene fine.amid (of_second z.is_mutable (mutable_in e) (mutable_in_all ts) (front e) fine.written) m.params may.1 fine.typed.2 makes.3 fine.around fine.once.1)
+
+  -- one of a method of an array
+  array_does : (p : Position) (e : Term) (m : MethodName) (ts : Terms) (t : IrType) → TreeDoes z lawful low e → OperandsFine ts → (c : Context) (k : Destination) (j : ℕ) → Sound z.is_mutable c → Ahead c j → Outside c (Own (apply p e m ts t)) → Writes c.writable k → (fine : FineHere z lawful low c k (apply p e m ts t)) → OnArray z.place.classes (usable z) fine.scene e m → Does z lawful c k j (apply p e m ts t)
+  array_does p e m ts t does_e do_all c k j sound ahead out wr fine d w env s sc u r same = subst (λ q. Goal received_run (text_by q)) (sym d.is.callee) (subst (λ run. Goal run (text_by (callees.OfArray m))) (sym (takes_instances z.place.classes (type_of_term e) m object d.array.receiver refl d.is.result d.is.named (received env.sure))) (subst (λ q. Goal (as_instances z object (received q)) (text_by (callees.OfArray m))) (sym r.sees.sure) (subst (λ os. Ends z lawful c c.scope k w sc (ir_meaning.in_order (as_instances z object (received z.code.sure) ∷ ir_meaning.operands z.place.classes z.low ts) act env s) (then_use (spill ((receiver_piece z lawful low c.targets e).here ∷ os) j) (λ es. finish k p t false (text_by (callees.OfArray m) es))).statements sc u) (sym (operands-list z lawful low c.targets ts)) (subst (λ rs. Ends z lawful c c.scope k w sc (ir_meaning.in_order (as_instances z object (received z.code.sure) ∷ rs) act env s) (then_use (spill (operands_in z lawful (receiver_piece z lawful low c.targets e ∷ list_of z lawful low c.targets ts)) j) (λ es. finish k p t false (text_by (callees.OfArray m) es))).statements sc u) (sym (runs-list z lawful low c.targets ts)) (array_called z lawful low d.array.reference m e d.array.is ts t act c k p sound wr (fits z.place.classes lawful.base.ordered (usable z) k t fine.asks (result_is m.result t fine.typed.0.meets.1) makes.0) j ahead ds w env s sc u r same)))))
+    where
+      act : List ir.Value → ir.Run
+      act = ir_meaning.call_method z.place.classes z.low (type_of_term e) m m.result
+
+      received : (List ℕ → Bool) → ir.Run
+      received q = ir_meaning.receiving z.place.classes (is_sure q e) z.low (ir_meaning.step z.place.classes z.low e)
+
+      received_run : ir.Run
+      received_run = ir_meaning.taking z.place.classes (ir_meaning.class_looked_up (type_of_term e) m.result) (received env.sure)
+
+      text_by : Callee → List core.Expression → core.Expression
+      text_by q es = core.receiver_call q (coerced_receiver (type_of_term e) (first_of es)) (expressions_of (coerced_arguments m.params (types_of ts) (rest_of es)))
+
+      Goal : ir.Run → (List core.Expression → core.Expression) → Type 0
+      Goal run text = Ends z lawful c c.scope k w sc (ir_meaning.in_order (run ∷ ir_meaning.operands z.place.classes z.low ts) act env s) (then_use (spill (receiver z.is_mutable z.code.sure e (λ k j. into z.is_mutable z.code.sure c.targets k j e) ∷ operands z.is_mutable z.code.sure c.targets ts) j) (λ es. finish k p t false (text es))).statements sc u
+
+      makes : Makes (is_boxed_at (goal_of k) t) × Makes (is_boxed Any e || any_is_boxed m.params ts) × Makes (operand_boxes (goals_of c.targets) e) × Makes (operands_box (goals_of c.targets) ts)
+      makes = called e m ts t c k fine.boxed
+
+      arguments : ArgumentsFit z.place.classes (usable z) ts m.params
+      arguments = (looked_stand z.place.classes (usable z) e object m ts makes.1 fine.typed.0.finds fine.typed.0.meets.2).1
+
+      ds : OperandsDo z lawful c j (receiver_piece z lawful low c.targets e ∷ list_of z lawful low c.targets ts)
+      ds = (receiver_of c j e object (Own (apply p e m ts t)) (λ x o. inl o) does_e out fine.scene fine.amid (of_first z.is_mutable (mutable_in e) (mutable_in_all ts) (front e) fine.written) (to_any refl (array_valued (type_of_term e) d.array)) d.checked fine.typed.1 makes.2 fine.around fine.once.0, do_all c j (outside-part c (Own (apply p e m ts t)) (OwnAll ts) (λ x o. inr o) out) fine.scene fine.amid (of_second z.is_mutable (mutable_in e) (mutable_in_all ts) (front e) fine.written) m.params arguments fine.typed.2 makes.3 fine.around fine.once.1)
+
+  -- one by a reflective name
+  named_does : (p : Position) (e : Term) (m : MethodName) (ts : Terms) (t : IrType) → TreeDoes z lawful low e → OperandsFine ts → (c : Context) (k : Destination) (j : ℕ) → Sound z.is_mutable c → Ahead c j → Outside c (Own (apply p e m ts t)) → Writes c.writable k → (fine : FineHere z lawful low c k (apply p e m ts t)) → ByName z.place.classes (usable z) fine.scene e m → Does z lawful c k j (apply p e m ts t)
+  named_does p e m ts t does_e do_all c k j sound ahead out wr fine d w env s sc u r same = subst (λ (q : Callee). Goal q m.result) (sym d.is.callee) (subst (λ (o : Option TypeRef). Goal (callees.Reflective m) o) (sym d.is.named) (reflect_does z lawful low p c k j e m ts t sound ahead wr (fits z.place.classes lawful.base.ordered (usable z) k t fine.asks (result_is m.result t fine.typed.0.meets.1) makes.0) d.is.there (fine.typed.0.meets.1 ∙ ap call_type d.is.named) on fit ds w env s sc u r same))
+    where
+      Goal : Callee → Option TypeRef → Type 0
+      Goal q o = Ends z lawful c c.scope k w sc (ir_meaning.in_order (ir_meaning.taking z.place.classes (ir_meaning.class_looked_up (type_of_term e) o) (ir_meaning.receiving z.place.classes (is_sure env.sure e) z.low (ir_meaning.step z.place.classes z.low e)) ∷ ir_meaning.operands z.place.classes z.low ts) (ir_meaning.call_method z.place.classes z.low (type_of_term e) m o) env s) (then_use (spill (receiver z.is_mutable z.code.sure e (λ k j. into z.is_mutable z.code.sure c.targets k j e) ∷ operands z.is_mutable z.code.sure c.targets ts) j) (λ es. finish k p t false (core.receiver_call q (coerced_receiver (type_of_term e) (first_of es)) (expressions_of (coerced_arguments m.params (types_of ts) (rest_of es)))))).statements sc u
+
+      makes : Makes (is_boxed_at (goal_of k) t) × Makes (is_boxed Any e || any_is_boxed m.params ts) × Makes (operand_boxes (goals_of c.targets) e) × Makes (operands_box (goals_of c.targets) ts)
+      makes = called e m ts t c k fine.boxed
+
+      may : MayStand (usable z) (class_type object) (type_of_term e) × ArgumentsFit z.place.classes (usable z) ts m.params
+      may = looked_stand z.place.classes (usable z) e object m ts makes.1 fine.typed.0.finds fine.typed.0.meets.2
+
+      on : StandsFor z (class_type object) (type_of_term e)
+      on = stands-for z lawful (class_type object) (type_of_term e) (to_any refl d.value) may.0
+
+      fit : StandForAll z (types_referred m.params) (types_of ts)
+      fit = stand-for-all z lawful ts m.params may.1
+
+      ds : OperandsDo z lawful c j (receiver_piece z lawful low c.targets e ∷ list_of z lawful low c.targets ts)
+      ds = (receiver_of c j e object (Own (apply p e m ts t)) (λ x o. inl o) does_e out fine.scene fine.amid (of_first z.is_mutable (mutable_in e) (mutable_in_all ts) (front e) fine.written) (to_any refl d.value) d.checked fine.typed.1 makes.2 fine.around fine.once.0, do_all c j (outside-part c (Own (apply p e m ts t)) (OwnAll ts) (λ x o. inr o) out) fine.scene fine.amid (of_second z.is_mutable (mutable_in e) (mutable_in_all ts) (front e) fine.written) m.params may.1 fine.typed.2 makes.3 fine.around fine.once.1)
+
+  applied_does : (p : Position) (e : Term) (m : MethodName) (ts : Terms) (t : IrType) → TreeDoes z lawful low e → OperandsFine ts → TreeDoes z lawful low (apply p e m ts t)
+  applied_does p e m ts t does_e do_all c k j sound ahead out wr fine = by (applied z.place.classes (usable z) fine.scene p e m ts t fine.typed.0)
+    where
+      by : Applied z.place.classes (usable z) fine.scene p e m ts t → Does z lawful c k j (apply p e m ts t)
+      by (directly d) = directly_does p e m ts t does_e do_all c k j sound ahead out wr fine d
+      by (by_name d) = named_does p e m ts t does_e do_all c k j sound ahead out wr fine d
+      by (on_array d) = array_does p e m ts t does_e do_all c k j sound ahead out wr fine d
+      by (by_lookup d) = looked_does p e m ts t does_e do_all c k j sound ahead out wr fine d
 
   mutual
     pub does : (t : Term) → TreeDoes z lawful low t

@@ -15,7 +15,7 @@ use Rattle.sj_core.specs.declared.callees.Callee.TheVariants as callees
 use Rattle.sj_core.specs.Terms as core
 use Rattle.sj_core.specs.Views.{expressions_of}
 use Rattle.sj_proper.specs.Coercions.{coerced, coerced_arguments, coerced_receiver, is_char}
-use Rattle.sj_proper.specs.Desugar.{Targets, into, operand, receiver, received, expression_of, first_of, second_of, rest_of, finish, member, types_of, position_of, has_no_value}
+use Rattle.sj_proper.specs.Desugar.{Targets, into, operand, operands, receiver, received, expression_of, first_of, second_of, rest_of, finish, member, types_of, position_of, has_no_value}
 use Rattle.sj_proper.specs.Plain.{is_plain}
 use Rattle.sj_proper.specs.Spill.{Destination, discard, to_variable, Code, one, Operand, spill, spill_case, then_use}
 use Rattle.sj_proper.specs.Templates.{called_member, check_name, property_name}
@@ -23,7 +23,7 @@ use Rattle.sj_names.proofs.Same.{impossible}
 use Rattle.sj_names.specs.declared.method_names.MethodName.{MethodName}
 use Rattle.sj_names.specs.declared.method_names.Namespace.{Namespace}
 use Rattle.sj_names.specs.declared.method_names.Namespace.TheVariants.{Constructor}
-use Rattle.sj_plain.specs.Known.{is_hijacked}
+use Rattle.sj_plain.specs.Known.{is_hijacked, object}
 use Rattle.sj_trees.specs.Term.{Term, Terms, assign, apply_statically, new_object, select, throw, this_ref}
 use Rattle.sj_trees.specs.TypeOf.{type_of_term}
 use Rattle.sj_trees.specs.Types.{class_type}
@@ -34,6 +34,7 @@ use Rattle.sure_receivers.specs.Sure.{is_sure}
 use Rattle.sj_proper.specs.Standing.{Fits, types_referred, call_type}
 use Rattle.sj_plain.specs.Settings.{Setting, shown, SameState, Valued, Lawful, Inside, Receiving, no_receiver, on_receiver, Sees, usable}
 use Rattle.sj_plain.proofs.Objects.{null_act, select_alike, setter_text, static_set_alike, field_written, new_alike, received_call_alike, checked_alike}
+use Rattle.sj_plain.proofs.Reflected.{reflected_call_alike}
 use Rattle.sj_plain.proofs.Told.{tells}
 use Rattle.sj_plain.proofs.Orders.{OperandAlike, OperandsAlike, text_of, no_operands, more_operands}
 use Rattle.sj_proper.proofs.Fitting.{stands-same}
@@ -55,7 +56,7 @@ use Rattle.sj_bodies.proofs.Statements.{finish_alike, valued_then, valued_done, 
 use Rattle.sj_bodies.proofs.Trees.{written, LowAlike, TreeDoes, FineHere, piece, operand_does, list_of, operands-list, runs-list, types-list}
 
 -- a receiver is of its type, checked or not
-received-type : (b : Bool) (o : Operand) → (received b o).tpe ≡ o.tpe
+pub received-type : (b : Bool) (o : Operand) → (received b o).tpe ≡ o.tpe
 received-type true o = refl
 received-type false o = refl
 
@@ -239,7 +240,7 @@ module _ (z : Setting) (lawful : Lawful z) (low : LowAlike z) where
       code_is = ap (λ a. (then_use (spill_case a object.here.fixed object.here.plain object.here (value.here ∷ []) (spill (value.here ∷ [])) j) both).statements) (not_all object.here.plain value.here.plain not_plain) ∙ first-is z lawful object.here.fixed object.here.plain object.here (value.here ∷ []) j both
 
       on : Onwards z lawful c discard w sc c.kept j sc w object.here.tpe (λ v. act (v ∷ [])) rest
-      on k i v x y env s sc2 u more sub so ah l h ready kb kp states told lasting = goes v lasting
+      on k i v x y env s sc2 u more sub so ah l h ready kb kp states told held alike lasting = goes v lasting
         where
           final : (n : ℕ) → Lasting z lawful k y sc2 object.here.tpe (ir.reference n) x → Final z lawful c discard w sc k i sc2 y (type_of_term e ∷ []) (λ vs. ir_meaning.assign_field d f (ir.reference n ∷ vs)) (λ es. both (x ∷ es))
           final n last b m _ _ at env2 s2 sc3 u2 more2 so2 ah2 l2 h2 ready2 kb2 ks2 states2 (more_operands _ a g _ _ _ told2 alike no_operands) = set_alike c p object.here.tpe d f t (stood t (type_of_term e) fits.0) has (stood-fits t (type_of_term e) fits.0) w sc at env2 s2 sc3 u2 (grows-trans w y at h h2) ready2 kb2 states2 (ir.given (ir.reference n)) a x (coerced t (type_of_term e) g) (more_operands object.here.tpe (ir.given (ir.reference n)) x [] [] [] told (last at env2 sc3 h2 ks2) no_operands) (stood_told z lawful.base at env2 sc3 ready2.sees.inside t (type_of_term e) fits.0 g told2) (stood_alike z lawful.base at env2 sc3 ready2.sees.inside t (type_of_term e) fits.0 fits.1 a g alike)
@@ -249,7 +250,7 @@ module _ (z : Setting) (lawful : Lawful z) (low : LowAlike z) where
           goes _ last = sim_wrong z.direction (Came z.place z.code c c.scope discard w sc) _
 
   -- a receiver and arguments as they are coerced
-  called_with : (c : Context) (e : Term) (d : List ℕ) (m : MethodName) (ts : Terms) (on : StandsFor z (class_type d) (type_of_term e)) (fit : StandForAll z (types_referred m.params) (types_of ts)) (w : World) (env : ir.Env) (sc : js.Scope) → Inside z.place z.code sc → (q : ir.Run) (qs : List ir.Run) (g : core.Expression) (gs : List core.Expression) → tells (receiver_piece c.targets e).here.tpe (text_of z g) ≡ true → OperandAlike z w env sc (receiver_piece c.targets e).here.tpe q (shown z g) → OperandsAlike z w env sc (types z lawful (list_of z lawful low c.targets ts)) qs gs → OperandsAlike z w env sc (stood (class_type d) (type_of_term e) on.0 ∷ all_stood (types_referred m.params) (types_of ts) fit.0) (q ∷ qs) (coerced (class_type d) (type_of_term e) g ∷ coerced_arguments m.params (types_of ts) gs)
+  pub called_with : (c : Context) (e : Term) (d : List ℕ) (m : MethodName) (ts : Terms) (on : StandsFor z (class_type d) (type_of_term e)) (fit : StandForAll z (types_referred m.params) (types_of ts)) (w : World) (env : ir.Env) (sc : js.Scope) → Inside z.place z.code sc → (q : ir.Run) (qs : List ir.Run) (g : core.Expression) (gs : List core.Expression) → tells (receiver_piece c.targets e).here.tpe (text_of z g) ≡ true → OperandAlike z w env sc (receiver_piece c.targets e).here.tpe q (shown z g) → OperandsAlike z w env sc (types z lawful (list_of z lawful low c.targets ts)) qs gs → OperandsAlike z w env sc (stood (class_type d) (type_of_term e) on.0 ∷ all_stood (types_referred m.params) (types_of ts) fit.0) (q ∷ qs) (coerced (class_type d) (type_of_term e) g ∷ coerced_arguments m.params (types_of ts) gs)
   called_with c e d m ts on fit w env sc inside q qs g gs told one others = more_operands (stood (class_type d) (type_of_term e) on.0) q (coerced (class_type d) (type_of_term e) g) (all_stood (types_referred m.params) (types_of ts) fit.0) qs (coerced_arguments m.params (types_of ts) gs) (stood_told z lawful.base w env sc inside (class_type d) (type_of_term e) on.0 g (subst (λ k. tells k (text_of z g) ≡ true) own told)) (stood_alike z lawful.base w env sc inside (class_type d) (type_of_term e) on.0 on.1 q g (subst (λ k. OperandAlike z w env sc k q (shown z g)) own one)) (operands_coerced z lawful.base w env sc inside m.params (types_of ts) qs gs fit.0 fit.1 (subst (λ is. OperandsAlike z w env sc is qs gs) (sym (types-list z lawful low c.targets ts)) others))
     where
       own : (receiver_piece c.targets e).here.tpe ≡ type_of_term e
@@ -270,6 +271,22 @@ module _ (z : Setting) (lawful : Lawful z) (low : LowAlike z) where
 
       given : (rs : List ir.Run) (es : List core.Expression) (w : World) (env : ir.Env) (s : ir.State) (sc : js.Scope) (u : js.State) → Inside z.place z.code sc → OperandsAlike z w env sc ((receiver_piece c.targets e).here.tpe ∷ types z lawful (list_of z lawful low c.targets ts)) rs es → SameState z.place w s u → Sim z.direction (Valued z.place w env t) (ir_meaning.in_order rs act env s) (shown z (text es) sc u)
       given _ _ w env s sc u inside (more_operands own q g _ qs gs told one others) same = subst (λ o. Sim z.direction (Valued z.place w env t) (ir_meaning.in_order (q ∷ qs) act env s) (shown z o sc u)) (sym (text_is g gs)) (subst (λ i. Sim z.direction (Valued z.place w env i) (ir_meaning.in_order (q ∷ qs) act env s) (shown z (core.receiver_call (callees.Member (member d n m)) (coerced (class_type d) (type_of_term e) g) (expressions_of (coerced_arguments m.params (types_of ts) gs))) sc u)) (sym is) (received_call_alike z lawful.base (member d n m) (stood (class_type d) (type_of_term e) on.0) (all_stood (types_referred m.params) (types_of ts) fit.0) q qs (coerced (class_type d) (type_of_term e) g) (coerced_arguments m.params (types_of ts) gs) there (stood-fits (class_type d) (type_of_term e) on.0) (all-stood-fit (types_referred m.params) (types_of ts) fit.0) w env s sc u inside (called_with c e d m ts on fit w env sc inside q qs g gs told one others) same))
+
+  -- a call by a reflective name
+  pub reflect_does : (p : Position) (c : Context) (k : Destination) (j : ℕ) (e : Term) (m : MethodName) (ts : Terms) (t : IrType) → Sound z.is_mutable c → Ahead c j → Writes c.writable k → FitsIn (usable z) k t → (usable z).reflected m ≡ true → t ≡ Any → StandsFor z (class_type object) (type_of_term e) → StandForAll z (types_referred m.params) (types_of ts) → OperandsDo z lawful c j (receiver_piece c.targets e ∷ list_of z lawful low c.targets ts) → (w : World) (env : ir.Env) (s : ir.State) (sc : js.Scope) (u : js.State) → Ready z.place z.code c.scope c.writable w env sc → SameState z.place w s u → Ends z lawful c c.scope k w sc (ir_meaning.in_order (ir_meaning.receiving z.place.classes (is_sure env.sure e) z.low (ir_meaning.step z.place.classes z.low e) ∷ ir_meaning.operands z.place.classes z.low ts) (ir_meaning.call_reflective z.place.classes z.low m) env s) (then_use (spill (receiver z.is_mutable z.code.sure e (λ k j. into z.is_mutable z.code.sure c.targets k j e) ∷ operands z.is_mutable z.code.sure c.targets ts) j) (λ es. finish k p t false (core.receiver_call (callees.Reflective m) (coerced_receiver (type_of_term e) (first_of es)) (expressions_of (coerced_arguments m.params (types_of ts) (rest_of es)))))).statements sc u
+  reflect_does p c k j e m ts t sound ahead wr fits there is on fit ds w env s sc u r same = subst (λ o. Ends z lawful c c.scope k w sc o (then_use (spill ((receiver_piece c.targets e).here ∷ operands z.is_mutable z.code.sure c.targets ts) j) (λ es. finish k p t false (text es))).statements sc u) (sym (sure_run e act (ir_meaning.operands z.place.classes z.low ts) w env s sc c.scope r.sees)) (subst (λ os. Ends z lawful c c.scope k w sc (ir_meaning.in_order ((receiver_piece c.targets e).run ∷ ir_meaning.operands z.place.classes z.low ts) act env s) (then_use (spill ((receiver_piece c.targets e).here ∷ os) j) (λ es. finish k p t false (text es))).statements sc u) (sym (operands-list z lawful low c.targets ts)) (subst (λ rs. Ends z lawful c c.scope k w sc (ir_meaning.in_order ((receiver_piece c.targets e).run ∷ rs) act env s) (then_use (spill (operands_in z lawful (receiver_piece c.targets e ∷ list_of z lawful low c.targets ts)) j) (λ es. finish k p t false (text es))).statements sc u) (sym (runs-list z lawful low c.targets ts)) (expression_does c k j (receiver_piece c.targets e ∷ list_of z lawful low c.targets ts) t p act text sound ahead wr fits ds given w env s sc u r same)))
+    where
+      act : List ir.Value → ir.Run
+      act = ir_meaning.call_reflective z.place.classes z.low m
+
+      text : List core.Expression → core.Expression
+      text es = core.receiver_call (callees.Reflective m) (coerced_receiver (type_of_term e) (first_of es)) (expressions_of (coerced_arguments m.params (types_of ts) (rest_of es)))
+
+      text_is : (g : core.Expression) (gs : List core.Expression) → text (g ∷ gs) ≡ core.receiver_call (callees.Reflective m) (coerced Any (type_of_term e) g) (expressions_of (coerced_arguments m.params (types_of ts) gs))
+      text_is g gs = ap (λ x. core.receiver_call (callees.Reflective m) x (expressions_of (coerced_arguments m.params (types_of ts) gs))) (receiver-coerced object (type_of_term e) g)
+
+      given : (rs : List ir.Run) (es : List core.Expression) (w : World) (env : ir.Env) (s : ir.State) (sc : js.Scope) (u : js.State) → Inside z.place z.code sc → OperandsAlike z w env sc ((receiver_piece c.targets e).here.tpe ∷ types z lawful (list_of z lawful low c.targets ts)) rs es → SameState z.place w s u → Sim z.direction (Valued z.place w env t) (ir_meaning.in_order rs act env s) (shown z (text es) sc u)
+      given _ _ w env s sc u inside (more_operands own q g _ qs gs told one others) same = subst (λ o. Sim z.direction (Valued z.place w env t) (ir_meaning.in_order (q ∷ qs) act env s) (shown z o sc u)) (sym (text_is g gs)) (subst (λ i. Sim z.direction (Valued z.place w env i) (ir_meaning.in_order (q ∷ qs) act env s) (shown z (core.receiver_call (callees.Reflective m) (coerced Any (type_of_term e) g) (expressions_of (coerced_arguments m.params (types_of ts) gs))) sc u)) (sym is) (reflected_call_alike z lawful m there (stood Any (type_of_term e) on.0) (all_stood (types_referred m.params) (types_of ts) fit.0) q qs (coerced Any (type_of_term e) g) (coerced_arguments m.params (types_of ts) gs) (stood-fits Any (type_of_term e) on.0) (all-stood-fit (types_referred m.params) (types_of ts) fit.0) w env s sc u inside (called_with c e object m ts on fit w env sc inside q qs g gs told one others) same))
 
   -- a call of a constructor on a receiver, which is given up: it gives nothing by the IR, and the object by its function
   pub construct_does : (p : Position) (c : Context) (j : ℕ) (e : Term) (d : List ℕ) (m : MethodName) (ts : Terms) (t : IrType) → Sound z.is_mutable c → Ahead c j → (usable z).built (member d Constructor m) ≡ true → StandsFor z (class_type d) (type_of_term e) → StandForAll z (types_referred m.params) (types_of ts) → OperandsDo z lawful c j (receiver_piece c.targets e ∷ list_of z lawful low c.targets ts) → Does z lawful c discard j (apply_statically p e d Constructor m ts t)

@@ -14,7 +14,7 @@ use Rattle.js_mean.specs.States as js
 use Rattle.sj_core.specs.Terms as core
 use Rattle.sj_core.specs.Terms.{followed}
 use Rattle.sj_proper.specs.Coercions.{is_char}
-use Rattle.sj_proper.specs.Desugar.{into, operands, expression_of, target_of}
+use Rattle.sj_proper.specs.Desugar.{into, expression_of, target_of}
 use Rattle.sj_proper.specs.Plain.{is_fixed}
 use Rattle.sj_proper.specs.Spill.{Destination, to_variable, Code, Operand, all_plain, texts, spill, spill_case, then_use}
 use Rattle.sj_trees.specs.Term.{Term, undefined_literal, null_literal, boolean_literal, char_literal, byte_literal, short_literal, int_literal, long_literal, string_literal, var_ref, this_ref}
@@ -177,7 +177,7 @@ module _ (z : Setting) (lawful : Lawful z) where
   both_true true b h = (refl, h)
   both_true false b h = impossible h
 
-  all_plain_alike : (c : Context) (j : ℕ) (ts : List Piece) → all_plain (operands_in ts) ≡ true → OperandsDo c j ts → (w : World) (env : ir.Env) (sc : js.Scope) → Sees z.place z.code c.scope w env sc → OperandsAlike z w env sc (types ts) (runs ts) (texts (operands_in ts))
+  pub all_plain_alike : (c : Context) (j : ℕ) (ts : List Piece) → all_plain (operands_in ts) ≡ true → OperandsDo c j ts → (w : World) (env : ir.Env) (sc : js.Scope) → Sees z.place z.code c.scope w env sc → OperandsAlike z w env sc (types ts) (runs ts) (texts (operands_in ts))
   all_plain_alike c j [] e d w env sc sees = no_operands
   all_plain_alike c j (t ∷ ts) e d w env sc sees = let h = both_true (t.here.plain) (all_plain (operands_in ts)) e in more_operands t.here.tpe t.run t.here.text (types ts) (runs ts) (texts (operands_in ts)) ((plain_operand c j t h.0 d.0).told) ((plain_operand c j t h.0 d.0).alike w env sc sees) (all_plain_alike c j ts h.1 d.1 w env sc sees)
 
@@ -230,7 +230,7 @@ module _ (z : Setting) (lawful : Lawful z) where
 
   -- what is done behind a first operand: the IR goes on with its value, and the statements with an expression for it
   abbrev pub Onwards : Context → Destination → World → js.Scope → (core.Variable → Type 0) → ℕ → js.Scope → World → IrType → (ir.Value → ir.Run) → (core.Expression → ℕ → core.Statements) → Type 1
-  Onwards c k from before p j start at own f rest = (q : core.Variable → Type 0) (i : ℕ) (v : ir.Value) (e : core.Expression) (y : World) (env : ir.Env) (s : ir.State) (sc : js.Scope) (u : js.State) → ((a : core.Variable) → p a → q a) → Extends c q → Sound z.is_mutable (keeping c q) → Ahead (keeping c q) i → j ≤ i → Grows at y → Ready z.place z.code c.scope c.writable y env sc → Keeps z.place c.kept before sc → Keeps z.place p start sc → SameState z.place y s u → tells own (text_of z e) ≡ true → Lasting q y sc own v e → Ends z lawful c c.scope k from before (f v env s) (rest e i) sc u
+  Onwards c k from before p j start at own f rest = (q : core.Variable → Type 0) (i : ℕ) (v : ir.Value) (e : core.Expression) (y : World) (env : ir.Env) (s : ir.State) (sc : js.Scope) (u : js.State) → ((a : core.Variable) → p a → q a) → Extends c q → Sound z.is_mutable (keeping c q) → Ahead (keeping c q) i → j ≤ i → Grows at y → Ready z.place z.code c.scope c.writable y env sc → Keeps z.place c.kept before sc → Keeps z.place p start sc → SameState z.place y s u → tells own (text_of z e) ≡ true → (x : js.Value) → SameValue y own v x → Lasting q y sc own v e → Ends z lawful c c.scope k from before (f v env s) (rest e i) sc u
 
   -- a fixed operand in front of one that isn't plain
   spill_fixed : (c : Context) (k : Destination) (from : World) (before : js.Scope) (t : Piece) (f : ir.Value → ir.Run) (rest : core.Expression → ℕ → core.Statements) → t.here.fixed ≡ true → Plainly c t → (p : core.Variable → Type 0) (j : ℕ) (w : World) (env : ir.Env) (s : ir.State) (sc : js.Scope) (u : js.State) → Extends c p → Sound z.is_mutable (keeping c p) → Ahead (keeping c p) j → Onwards c k from before p j sc w t.here.tpe f rest → Ready z.place z.code c.scope c.writable w env sc → Keeps z.place c.kept before sc → SameState z.place w s u → Ends z lawful c c.scope k from before (ir.go_on (t.run env s) f) (rest t.here.text j) sc u
@@ -238,7 +238,7 @@ module _ (z : Setting) (lawful : Lawful z) where
     where
       known : FixedOrWrong p w env sc t.here.tpe t.run t.here.text → Ends z lawful c c.scope k from before (ir.go_on (t.run env s) f) (rest t.here.text j) sc u
       known (inr g) = subst (λ o. Ends z lawful c c.scope k from before (ir.go_on o f) (rest t.here.text j) sc u) (sym (g s)) (sim_wrong z.direction (Came z.place z.code c c.scope k from before) _)
-      known (inl g) = subst (λ o. Ends z lawful c c.scope k from before (ir.go_on o f) (rest t.here.text j) sc u) (sym (g.gives s)) (on p j g.value t.here.text w env s sc u (λ a h. h) sub sound ahead (omega arith) (grows-refl w) r ks (keeps-refl z p sc) same plain.told (λ y env' sc' h kp. fixed_alike p w y env env' sc sc' t.here.tpe t.run t.here.text g h kp))
+      known (inl g) = subst (λ o. Ends z lawful c c.scope k from before (ir.go_on o f) (rest t.here.text j) sc u) (sym (g.gives s)) (on p j g.value t.here.text w env s sc u (λ a h. h) sub sound ahead (omega arith) (grows-refl w) r ks (keeps-refl z p sc) same plain.told g.js_value g.alike (λ y env' sc' h kp. fixed_alike p w y env env' sc sc' t.here.tpe t.run t.here.text g h kp))
 
   numbered_open : (c : Context) (p : core.Variable → Type 0) (j : ℕ) → Ahead (keeping c p) j → (x : core.Variable) → c.writable x → x ≡ core.numbered j → ⊥
   numbered_open c p j ahead x h e = ahead.writable j (omega arith) (subst c.writable e h)
@@ -248,7 +248,7 @@ module _ (z : Setting) (lawful : Lawful z) where
   spill_constant c k from before t f rest plain p j w env s sc u sub sound ahead on g r ks same = valued_seq (Came z.place z.code c c.scope k from before) w env t.here.tpe sc u (t.run env s) (t.here.text) f (λ v u. done (js.ends js.normally (js_meaning.start true (z.place.name (core.numbered j)) v sc) u)) (run z (rest (core.variable_use (core.numbered j)) (suc j))) (plain.alike w env sc r.sees w s u (grows-refl w) same) (throws-on z lawful c c.scope k from w before env sc g ks r) goes
     where
       goes : (y : World) (v : ir.Value) (x : js.Value) (s : ir.State) (u : js.State) → Grows w y → SameValue y t.here.tpe v x → SameState z.place y s u → Ends z lawful c c.scope k from before (f v env s) (rest (core.variable_use (core.numbered j)) (suc j)) (js_meaning.start true (z.place.name (core.numbered j)) x sc) u
-      goes y v x s u h alike same = on (λ a. (a ≡ core.numbered j) ⊎ p a) (suc j) v (core.variable_use (core.numbered j)) y env s (js_meaning.start true (z.place.name (core.numbered j)) x sc) u (λ a b. inr b) (extends-more c p j sub) (sound-kept c p j sound ahead) (ahead-kept c p j (suc j) (omega arith) ahead) (omega arith) h (ready-lift z c.scope c.writable w y env (js_meaning.start true (z.place.name (core.numbered j)) x sc) h (started-ready z lawful c.scope c.writable true (core.numbered j) x w env sc (λ a t b. numbered-named a j) (numbered_open c p j ahead) (λ e. absurd (cc)) r)) (keeps-trans z c.kept before sc (js_meaning.start true (z.place.name (core.numbered j)) x sc) ks (started-keeps z lawful c.kept true (core.numbered j) x sc (λ b. ahead.kept j (omega arith) (sub.more (core.numbered j) b)))) (started-keeps z lawful p true (core.numbered j) x sc (ahead.kept j (omega arith))) same refl (λ w' env' sc2 m kp. variable_alike y w' env' sc2 t.here.tpe (core.numbered j) true v x m alike (kp.same (core.numbered j) (inl refl) ∙ started-here z lawful true (core.numbered j) x sc))
+      goes y v x s u h alike same = on (λ a. (a ≡ core.numbered j) ⊎ p a) (suc j) v (core.variable_use (core.numbered j)) y env s (js_meaning.start true (z.place.name (core.numbered j)) x sc) u (λ a b. inr b) (extends-more c p j sub) (sound-kept c p j sound ahead) (ahead-kept c p j (suc j) (omega arith) ahead) (omega arith) h (ready-lift z c.scope c.writable w y env (js_meaning.start true (z.place.name (core.numbered j)) x sc) h (started-ready z lawful c.scope c.writable true (core.numbered j) x w env sc (λ a t b. numbered-named a j) (numbered_open c p j ahead) (λ e. absurd (cc)) r)) (keeps-trans z c.kept before sc (js_meaning.start true (z.place.name (core.numbered j)) x sc) ks (started-keeps z lawful c.kept true (core.numbered j) x sc (λ b. ahead.kept j (omega arith) (sub.more (core.numbered j) b)))) (started-keeps z lawful p true (core.numbered j) x sc (ahead.kept j (omega arith))) same refl x alike (λ w' env' sc2 m kp. variable_alike y w' env' sc2 t.here.tpe (core.numbered j) true v x m alike (kp.same (core.numbered j) (inl refl) ∙ started-here z lawful true (core.numbered j) x sc))
 
   -- an operand that isn't plain: a variable, and the statements that bring its value there
   spill_code_does : (c : Context) (k : Destination) (from : World) (before : js.Scope) (t : Piece) (f : ir.Value → ir.Run) (rest_of : core.Expression → ℕ → core.Statements) → Onward t → (p : core.Variable → Type 0) (j : ℕ) → PieceDoes (writing (keeping c p) (core.numbered j)) (to_variable (core.numbered j) (t.here.tpe)) (suc j) t → (w : World) (env : ir.Env) (s : ir.State) (sc : js.Scope) (u : js.State) → Extends c p → Sound z.is_mutable (keeping c p) → Ahead (keeping c p) j → Onwards c k from before p j sc w t.here.tpe f rest_of → Grows from w → Ready z.place z.code c.scope c.writable w env sc → Keeps z.place c.kept before sc → SameState z.place w s u → Ends z lawful c c.scope k from before (ir.go_on (t.run env s) f) (core.statement (core.declare_of (Some (t.here.at)) (core.numbered j)) (followed (t.here.code (to_variable (core.numbered j) (t.here.tpe)) (suc j)).statements (rest_of (core.variable_use (core.numbered j)) (t.here.code (to_variable (core.numbered j) (t.here.tpe)) (suc j)).next))) sc u
@@ -280,7 +280,7 @@ module _ (z : Setting) (lawful : Lawful z) where
       all_kept sc2 k2 = keeps-fewer z (Less p (to_variable x (t.here.tpe))) p started sc2 (λ b h. (h, λ e. kept_here (subst p (sym e) h))) k2
 
       each : (a : ir.Ended) (b : js.StatementEnd) → Came z.place z.code (writing (keeping c p) x) c.scope (to_variable x (t.here.tpe)) w started a b → Sim z.direction (Came z.place z.code c c.scope k from before) (ir.onward f a) (js.next_statement (run z rest) b)
-      each _ _ (gave y v env' s' sc2 u' _ h (stored _ _ q a e) r2 k2 states) = on (λ b. (b ≡ x) ⊎ p b) code.next v (core.variable_use x) y env' s' sc2 u' (λ a b. inr b) (extends-more c p j sub) (sound-kept c p j sound ahead) (ahead-kept c p j code.next (onward (to_variable x (t.here.tpe)) (suc j)) ahead) (omega (arith, onward (to_variable x (t.here.tpe)) (suc j))) h (record { sees = r2.sees; «open» = λ a b. r2.«open» a (inr b) }) (keeps-trans z c.kept before sc sc2 ks (keeps-trans z c.kept sc started sc2 (started-keeps z lawful c.kept false x js.undefined sc (λ b. kept_here (sub.more x b))) (keeps-fewer z p c.kept started sc2 sub.more (all_kept sc2 k2)))) (keeps-trans z p sc started sc2 (started-keeps z lawful p false x js.undefined sc kept_here) (all_kept sc2 k2)) states refl (λ w' env2 sc3 m kp. variable_alike y w' env2 sc3 t.here.tpe x false v q m a (kp.same x (inl refl) ∙ e))
+      each _ _ (gave y v env' s' sc2 u' _ h (stored _ _ q a e) r2 k2 states) = on (λ b. (b ≡ x) ⊎ p b) code.next v (core.variable_use x) y env' s' sc2 u' (λ a b. inr b) (extends-more c p j sub) (sound-kept c p j sound ahead) (ahead-kept c p j code.next (onward (to_variable x (t.here.tpe)) (suc j)) ahead) (omega (arith, onward (to_variable x (t.here.tpe)) (suc j))) h (record { sees = r2.sees; «open» = λ a b. r2.«open» a (inr b) }) (keeps-trans z c.kept before sc sc2 ks (keeps-trans z c.kept sc started sc2 (started-keeps z lawful c.kept false x js.undefined sc (λ b. kept_here (sub.more x b))) (keeps-fewer z p c.kept started sc2 sub.more (all_kept sc2 k2)))) (keeps-trans z p sc started sc2 (started-keeps z lawful p false x js.undefined sc kept_here) (all_kept sc2 k2)) states refl q a (λ w' env2 sc3 m kp. variable_alike y w' env2 sc3 t.here.tpe x false v q m a (kp.same x (inl refl) ∙ e))
       each _ _ (left y l v env' s' sc2 u' e reach h a r2 k2 states) = leaves_on z lawful c c.scope k from before (run z rest) y l v env' s' sc2 u' e (target_of c.targets l) refl reach (grows-trans from w y g h) a (record { sees = r2.sees; «open» = λ a b. r2.«open» a (inr b) }) (less-trans z c.kept (target_of c.targets l) before sc sc2 ks (less-trans z c.kept (target_of c.targets l) sc started sc2 (started-keeps z lawful c.kept false x js.undefined sc (λ b. kept_here (sub.more x b))) (keeps-fewer z (Less p (target_of c.targets l)) (Less c.kept (target_of c.targets l)) started sc2 (λ y i. (sub.more y i.0, i.1)) k2))) states
       each _ _ (threw y v q env' s' sc2 u' h a r2 k2 states) = sim_done z.direction (Came z.place z.code c c.scope k from before) (ir.ends (ir.throws v) env' s') (js.ends (js.thrown_with q) sc2 u') (threw y v q env' s' sc2 u' (grows-trans from w y g h) a (record { sees = r2.sees; «open» = λ a b. r2.«open» a (inr b) }) (keeps-trans z c.kept before sc sc2 ks (keeps-trans z c.kept sc started sc2 (started-keeps z lawful c.kept false x js.undefined sc (λ b. kept_here (sub.more x b))) (keeps-fewer z p c.kept started sc2 sub.more k2))) states)
       each _ _ (stopped y env' s' sc2 u' t h r2 k2 states) = sim_done z.direction (Came z.place z.code c c.scope k from before) (ir.ends ir.stops env' s') (js.ends js.breaks_nearest sc2 u') (stopped y env' s' sc2 u' t (grows-trans from w y g h) (record { sees = r2.sees; «open» = λ a b. r2.«open» a (inr b) }) (keeps-trans z c.kept before sc sc2 ks (keeps-trans z c.kept sc started sc2 (started-keeps z lawful c.kept false x js.undefined sc (λ b. kept_here (sub.more x b))) (keeps-fewer z p c.kept started sc2 sub.more k2))) states)
@@ -309,7 +309,7 @@ module _ (z : Setting) (lawful : Lawful z) where
 
   -- behind a first operand come the others
   then_others : (c : Context) (k : Destination) (from : World) (before : js.Scope) (t : Piece) (ts : List Piece) → SpillDoes c k from before ts → (p : core.Variable → Type 0) (j : ℕ) (act : List ir.Value → ir.Run) (made : List core.Expression → ℕ → Code) (w : World) (sc : js.Scope) → OperandsDo c j ts → Final c k from before p j sc w (types (t ∷ ts)) act made → Grows from w → Onwards c k from before p j sc w t.here.tpe (λ v. ir_meaning.in_order (runs ts) (λ vs. act (v ∷ vs))) (λ e i. (then_use (spill (operands_in ts) i) (λ es. made (e ∷ es))).statements)
-  then_others c k from before t ts others p j act made w sc ds final g q i v e y env s sc' u more sub so ah l h r kb kp same told lasting = others q i (λ vs. act (v ∷ vs)) (λ es. made (e ∷ es)) y env s sc' u (operands-later c j i ts l ds) sub so ah (λ q' o rs es w' env2 s2 sc2 u2 more2 so2 ah2 m h2 r2 kb2 ks2 same2 operands. final q' o (ir.given v ∷ rs) (e ∷ es) w' env2 s2 sc2 u2 (λ a b. more2 a (more a b)) so2 ah2 (omega (arith, l, m)) (grows-trans w y w' h h2) r2 kb2 (record { same = λ a b. ks2.same a (more a b) ∙ kp.same a b }) same2 (more_operands t.here.tpe (ir.given v) e (types ts) rs es told (lasting w' env2 sc2 h2 ks2) operands)) (grows-trans from w y g h) r kb same
+  then_others c k from before t ts others p j act made w sc ds final g q i v e y env s sc' u more sub so ah l h r kb kp same told x alike lasting = others q i (λ vs. act (v ∷ vs)) (λ es. made (e ∷ es)) y env s sc' u (operands-later c j i ts l ds) sub so ah (λ q' o rs es w' env2 s2 sc2 u2 more2 so2 ah2 m h2 r2 kb2 ks2 same2 operands. final q' o (ir.given v ∷ rs) (e ∷ es) w' env2 s2 sc2 u2 (λ a b. more2 a (more a b)) so2 ah2 (omega (arith, l, m)) (grows-trans w y w' h h2) r2 kb2 (record { same = λ a b. ks2.same a (more a b) ∙ kp.same a b }) same2 (more_operands t.here.tpe (ir.given v) e (types ts) rs es told (lasting w' env2 sc2 h2 ks2) operands)) (grows-trans from w y g h) r kb same
 
   -- one operand, by whether it and all behind it are plain, whether it is fixed, and whether it is plain
   spill_one : (c : Context) (k : Destination) (from : World) (before : js.Scope) (t : Piece) (ts : List Piece) → SpillDoes c k from before ts → (a f b : Bool) → (t.here.plain && all_plain (operands_in ts)) ≡ a → t.here.fixed ≡ f → t.here.plain ≡ b → (p : core.Variable → Type 0) (j : ℕ) (act : List ir.Value → ir.Run) (made : List core.Expression → ℕ → Code) (w : World) (env : ir.Env) (s : ir.State) (sc : js.Scope) (u : js.State) → OperandsDo c j (t ∷ ts) → Extends c p → Sound z.is_mutable (keeping c p) → Ahead (keeping c p) j → Final c k from before p j sc w (types (t ∷ ts)) act made → Grows from w → Ready z.place z.code c.scope c.writable w env sc → Keeps z.place c.kept before sc → SameState z.place w s u → Ends z lawful c c.scope k from before (ir_meaning.in_order (runs (t ∷ ts)) act env s) (then_use (spill_case a f b t.here (operands_in ts) (spill (operands_in ts)) j) made).statements sc u

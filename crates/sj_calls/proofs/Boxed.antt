@@ -47,10 +47,10 @@ module _ (p : Place) where
     box_below c a b = ap (λ o. stored_below o boxes) (box_there c a b) ∙ ap (λ t. t || false) box_itself
 
     pub object_apart : (i a : ℕ) → w.place i ≡ Some a → stored_below (slice_get u.heap a) boxes ≡ false
-    object_apart i a e = by (slice_get s.heap i) (slice_get u.heap a) (same.heaps.objects i a e)
+    object_apart i a e = let h = same.heaps.objects i a e in by h.class (slice_get s.heap i) (slice_get u.heap a) h.alike
       where
-        by : (o : Option ir.Stored) (q : Option js.Stored) → SameStored p w o q → stored_below q boxes ≡ false
-        by _ _ (same_object c fields properties told fs) = links_apart (chain_of p.classes c)
+        by : (c : List ℕ) (o : Option ir.Stored) (q : Option js.Stored) → SameStored p w c o q → stored_below q boxes ≡ false
+        by _ _ _ (same_object c fields properties told bare fs) = links_apart (chain_of p.classes c)
 
     pub told_boxed : (v : ir.Value) (x : js.Value) → Stands w false v x → is_instance u x (js.class boxes) ≡ Some (is_unit v)
     told_boxed _ _ same_undefined = refl

@@ -79,6 +79,7 @@ module _ (p : Place) (stands : BoxStands p) where
         held = refl;
         constants_owned = owned-still p w s.heap u.heap same.heaps box held.address (js.plain [] held.constants) held.owned_there;
         marked = held.marked;
+        bare = λ m. refl;
       }
 
   -- by the forward half within a unit or more, by the backward half within any

@@ -14,6 +14,7 @@ use Rattle.class_casts.specs.Words.{class_name}
 use Rattle.class_casts.specs.FailureVariants.{Cast}
 use Rattle.class_casts.specs.HelperVariants.{CastTo, Throws}
 use Rattle.class_casts.specs.Kind.{Kind}
+use Rattle.sj_bodies.specs.Helper.{Helper}
 use Rattle.class_casts.specs.KindVariants as kinds
 use Rattle.dispatch_laws.specs.Meaning as ir_meaning
 use Rattle.dispatch_laws.specs.Operators.{answers}
@@ -22,7 +23,8 @@ use Rattle.dispatch_laws.specs.World as ir_world
 use Rattle.js_mean.specs.Files.{owner}
 use Rattle.js_mean.specs.Meaning as js_meaning
 use Rattle.js_mean.specs.States as js
-use Rattle.js_tree.specs.Terms.{Name, name_use, text_literal}
+use Rattle.js_tree.specs.Terms.{Name, name_use, text_literal, throw_of}
+use Rattle.js_tree.specs.Views.{statements_of}
 use Rattle.sj_bodies.specs.Coercions.{is_char}
 use Rattle.dispatch_laws.specs.Tests.{cast_name}
 use Rattle.sj_names.proofs.Same.{impossible}
@@ -55,16 +57,20 @@ word_named = each_kind (λ t k. ir_world.type_text t ≡ kind_word k) refl refl 
 has_values : (t : IrType) (k : Kind) → kind_of t ≡ Some k → t ≡ Nothing → ⊥
 has_values = each_kind (λ t k. t ≡ Nothing → ⊥) (λ e. cc) (λ e. cc) (λ e. cc) (λ e. cc) (λ e. cc) (λ e. cc) (λ e. cc) (λ e. cc)
 
--- the function that throws what a cast throws on a text throws it with that message
-module _ (p : Place) (us : List ℕ) where
+-- the function of a helper that throws an exception with its text as the message
+abbrev pub told_code : List ℕ → js_meaning.Code
+told_code e = record { parameters = codes "t" ∷ []; body = statements_of (throw_of (raise e (name_use (codes "t"))) ∷ []) }
+
+-- on a text it throws it with that message
+module _ (p : Place) (h : Helper) (e us : List ℕ) where
   abbrev home : Name
-  home = p.home (a_helper (Throws Cast))
+  home = p.home (a_helper h)
 
   abbrev told_scope : js.Scope
-  told_scope = js_meaning.function_scope home (helper_code (Throws Cast)) (js.text us ∷ [])
+  told_scope = js_meaning.function_scope home (told_code e) (js.text us ∷ [])
 
   abbrev own_scope : js.Scope
-  own_scope = js_meaning.function_scope home (failing_code cast_exception us) []
+  own_scope = js_meaning.function_scope home (failing_code e us) []
 
   module _ (low : js_meaning.Low) where
     -- calls and objects that are made do not depend on the scope
@@ -78,18 +84,21 @@ module _ (p : Place) (us : List ℕ) where
     made_anywhere sc sc' _ u = refl
 
     abbrev raised : (js.Value → js.State → Out js.ExpressionEnd) → (js.Value → List js.Value → js.State → Out js.ExpressionEnd) → js.State → Out js.ExpressionEnd
-    raised makes calls u = then_do (js_meaning.cell_value (js_meaning.top_cell (owner p.program home (init_name cast_exception)) (init_name cast_exception) u) u) (js.with_value (λ f s. then_do (then_do (js_meaning.cell_value (js_meaning.top_cell (owner p.program home (class_name cast_exception)) (class_name cast_exception) s) s) (js.with_value makes)) (js.with_value (λ v s. calls f (v ∷ js.text us ∷ []) s))))
+    raised makes calls u = then_do (js_meaning.cell_value (js_meaning.top_cell (owner p.program home (init_name e)) (init_name e) u) u) (js.with_value (λ f s. then_do (then_do (js_meaning.cell_value (js_meaning.top_cell (owner p.program home (class_name e)) (class_name e) s) s) (js.with_value makes)) (js.with_value (λ v s. calls f (v ∷ js.text us ∷ []) s))))
 
-    same_raised : js_meaning.evaluate p.program low (raise cast_exception (name_use (codes "t"))) told_scope ≡ js_meaning.evaluate p.program low (raise cast_exception (text_literal us)) own_scope
+    same_raised : js_meaning.evaluate p.program low (raise e (name_use (codes "t"))) told_scope ≡ js_meaning.evaluate p.program low (raise e (text_literal us)) own_scope
     same_raised = ap (λ makes. raised makes (λ f vs. js_meaning.call p.program low f vs told_scope)) (fun_ext (λ c. fun_ext (made_anywhere told_scope own_scope c))) ∙ ap (raised (λ c. js_meaning.construct_value p.program low c [] own_scope)) (fun_ext (λ f. fun_ext (λ vs. fun_ext (called_anywhere told_scope own_scope f vs))))
 
-  pub cast_fails_as : HelperStands p (Throws Cast) (helper_code (Throws Cast)) → FailsAs p (Throws Cast) (js.text us ∷ []) cast_exception us
-  cast_fails_as stands zero u = ap (λ o. js_meaning.code_call (js_meaning.below p.program 0) home o (js.text us ∷ []) u) stands
-  cast_fails_as stands (suc n) u =
+  pub told_fails_as : HelperStands p h (told_code e) → FailsAs p h (js.text us ∷ []) e us
+  told_fails_as stands zero u = ap (λ o. js_meaning.code_call (js_meaning.below p.program 0) home o (js.text us ∷ []) u) stands
+  told_fails_as stands (suc n) u =
       ap (λ o. js_meaning.code_call (js_meaning.below p.program (suc n)) home o (js.text us ∷ []) u) stands
-      ∙ throws_on told_scope (js_meaning.evaluate p.program (js_meaning.below p.program n) (raise cast_exception (name_use (codes "t"))) told_scope u)
+      ∙ throws_on told_scope (js_meaning.evaluate p.program (js_meaning.below p.program n) (raise e (name_use (codes "t"))) told_scope u)
       ∙ ap (λ (e : js.State → Out js.ExpressionEnd). then_do (e u) thrown_on) (same_raised (js_meaning.below p.program n))
-      ∙ sym (throws_on own_scope (js_meaning.evaluate p.program (js_meaning.below p.program n) (raise cast_exception (text_literal us)) own_scope u))
+      ∙ sym (throws_on own_scope (js_meaning.evaluate p.program (js_meaning.below p.program n) (raise e (text_literal us)) own_scope u))
+
+pub cast_fails_as : (p : Place) (us : List ℕ) → HelperStands p (Throws Cast) (helper_code (Throws Cast)) → FailsAs p (Throws Cast) (js.text us ∷ []) cast_exception us
+cast_fails_as p us stands = told_fails_as p (Throws Cast) cast_exception us stands
 
 -- a file that reaches what a cast throws finds it
 pub throwing_there : (p : Place) (w : World) (s : ir.State) (u : js.State) → SameState p w s u → (f : Name) → ThrowsCast p f → js_meaning.top_cell (owner p.program f (helper_name (Throws Cast))) (helper_name (Throws Cast)) u ≡ js.holds false (top_function p (a_helper (Throws Cast)))

@@ -1,7 +1,7 @@
 -- All levels: trees and calls are alike at bounds that stand to each other as the direction says, by induction on the IR's bound alone, for each
 -- bound of the emitted code that is enough for it.
-use Rattle.std.specs.Prelude.{◌+◌, ◌*◌, codes}
-use Rattle.std.proofs.Common.{◌≡◌, ℕ, zero, suc, Bool, true, List, arith, sym, ◌∙◌}
+use Rattle.std.specs.Prelude.{◌+◌, ◌*◌, codes, not}
+use Rattle.std.proofs.Common.{◌≡◌, ℕ, zero, suc, Bool, true, List, arith, sym, ◌∙◌, ◌||◌}
 use Rattle.sj_names.proofs.Same.{impossible}
 use Rattle.dispatch_laws.specs.Templates.{called_member, check_name, statement_templates}
 use Rattle.sure_receivers.specs.Sure.{sure_locals}
@@ -19,7 +19,7 @@ use Rattle.sj_bodies.proofs.Contexts.{Came}
 use Rattle.sj_bodies.proofs.Main.{does}
 use Rattle.sj_bodies.proofs.Trees.{LowAlike}
 use Rattle.sj_bodies.proofs.Worlds.{World, SameValues}
-use Rattle.std.proofs.lemmas.Bool.{or_from}
+use Rattle.std.proofs.lemmas.Bool.{or_from, and_parts}
 use Rattle.sj_bodies.specs.Standing.{types_referred, call_type}
 use Rattle.sj_calls.specs.Methods.{Linked, CallsAlone, CallsAgree, ir_call, js_call}
 use Rattle.sj_calls.proofs.Calls.{call_alike}
@@ -68,10 +68,11 @@ module _ (p : Place) (ordered : IsSubtyping (IsSub p.classes)) (names : NamesDif
     builds = λ m l. impossible (sym (alone.built f.file m) ∙ l);
     makes = λ c l. impossible (sym (alone.made f.file c) ∙ l);
     objects = λ c l. impossible (sym (alone.made f.file c) ∙ l);
+    lives = λ c l. impossible (sym (alone.made f.file c) ∙ l);
   }
 
   lawful : (d : Direction) (n k : ℕ) → Levels d n → Enough p.room p.room.each d n k → (f : Code) → Reaches p f.file → (is_mutable : List ℕ → Bool) → Lawful (within f d is_mutable n k)
-  lawful d n k levels h f reaches is_mutable = record { base = based d n k levels (fewer d p.room.each n k h) f reaches is_mutable; checks = λ i. impossible (sym (alone.helper f.file check_name) ∙ i); divisions = λ o i. no_division (p.has f.file) (alone.helper f.file) o i; boxes = λ i. impossible (sym (alone.helper f.file (codes "$C")) ∙ i); tests = λ t i. impossible (sym (alone.tests f.file t) ∙ i); casts = λ t i. impossible (sym (alone.casts f.file t) ∙ i); compares = λ i. impossible (sym (alone.helper f.file (codes "$eq")) ∙ i) }
+  lawful d n k levels h f reaches is_mutable = record { base = based d n k levels (fewer d p.room.each n k h) f reaches is_mutable; reflects = λ m i. impossible (sym (alone.reflected f.file m) ∙ i); looks = λ c m i. impossible (sym (alone.looked f.file c m) ∙ (and_parts ((p.has f.file).looked_up c m) ((p.has f.file).dispatched m || not ((p.has f.file).lookup.has_hijacked c)) i).0); checks = λ i. impossible (sym (alone.helper f.file check_name) ∙ i); divisions = λ o i. no_division (p.has f.file) (alone.helper f.file) o i; boxes = λ i. impossible (sym (alone.helper f.file (codes "$C")) ∙ i); tests = λ t i. impossible (sym (alone.tests f.file t) ∙ i); casts = λ t i. impossible (sym (alone.casts f.file t) ∙ i); compares = λ i. impossible (sym (alone.helper f.file (codes "$eq")) ∙ i) }
 
   next : (d : Direction) (n k : ℕ) → Levels d n → Enough p.room p.room.each d n k → Level d (suc n) (suc k)
   next d n k levels h f reaches is_mutable c q j t sound ahead out wr fine w env s sc u ready same = does (within f d is_mutable n k) (lawful d n k levels h f reaches is_mutable) (levels k (fewer d p.room.each n k h) f reaches is_mutable) t c q j sound ahead out wr fine w env s sc u ready same

@@ -27,3 +27,6 @@ pub use Rattle.sj_bodies.proofs.Lists
 pub use Rattle.sj_bodies.proofs.Names as SjProperNames
 pub use Rattle.class_casts.proofs.Markers
 pub use Rattle.class_casts.proofs.Reflective
+pub mod Looking
+pub mod Reflecting
+pub mod ReflectedCases

@@ -13,7 +13,8 @@ use Rattle.sj_core.specs.Terms.{Variable, named, numbered, receiver}
 use Rattle.dispatch_laws.specs.Names.{variable_name}
 use Rattle.dispatch_laws.specs.Templates.{member_name, static_name, setter_name}
 use Rattle.dispatch_laws.specs.Tests.{test_name, cast_name}
-use Rattle.sj_mangling.specs.Bindings.{function_name, class_binding}
+use Rattle.sj_mangling.specs.Bindings.{function_name, class_binding, method_binding}
+use Rattle.sj_mangling.specs.declared.bindings.MethodBinding.TheVariants.{Dispatch, Reflective}
 use Rattle.sj_mangling.specs.declared.bindings.ClassBinding.TheVariants.{Constants}
 use Rattle.sj_mangling.specs.declared.bindings.ClassBinding.TheVariants as class_bindings
 use Rattle.sj_mangling.specs.Mangling.{mangled}
@@ -23,7 +24,7 @@ use Rattle.sj_names.specs.declared.method_names.Member.{Member}
 use Rattle.sj_names.specs.declared.method_names.MethodName.{MethodName}
 use Rattle.sj_names.specs.declared.method_names.Namespace.{Namespace}
 use Rattle.sj_names.specs.declared.method_names.Namespace.TheVariants.{Public, PublicStatic, Private, PrivateStatic, Constructor}
-use Rattle.sj_bodies.specs.Settings.{Top, a_function, a_method, a_constructor, a_class, some_constants, a_static, a_setter, a_test, a_cast, a_helper, top_name, NamesDiffer}
+use Rattle.sj_bodies.specs.Settings.{Top, a_function, a_method, a_constructor, a_dispatch, a_reflection, a_class, some_constants, a_static, a_setter, a_test, a_cast, a_helper, top_name, NamesDiffer}
 use Rattle.sj_trees.specs.declared.types.IrType.{IrType}
 use Rattle.sj_trees.specs.declared.types.IrType.TheVariants.{Class}
 use Rattle.sj_bodies.proofs.Names.{first, heads, tails, low-numeral, variables-differ, labels-differ}
@@ -122,10 +123,24 @@ no_cast (Class c) receiver e = let h : ◌≡◌ {A = ℕ} 36 97 = ap first e in
 no_cast (Class c) (numbered n) e = let h : ◌≡◌ {A = ℕ} 36 97 = ap first e in absurd (omega arith)
 no_cast t x e = no_letter (cast_name t) (record { letter = 97; rest = _; is = refl; high = omega arith; other = λ e. omega arith }) x e
 
+-- the name of a function that tells receivers apart begins with `d`
+no_dispatch : (m : MethodName) (x : Variable) → variable_name x ≡ method_binding Dispatch m → ⊥
+no_dispatch m (named x) e = let h : ◌≡◌ {A = ℕ} 118 100 = ap first e in absurd (omega arith)
+no_dispatch m receiver e = let h : ◌≡◌ {A = ℕ} 36 100 = ap first e in absurd (omega arith)
+no_dispatch m (numbered n) e = let h : ◌≡◌ {A = ℕ} 36 100 = ap first e in absurd (omega arith)
+
+-- that of a function by which receivers are called under a reflective name begins with `r`
+no_reflection : (m : MethodName) (x : Variable) → variable_name x ≡ method_binding Reflective m → ⊥
+no_reflection m (named x) e = let h : ◌≡◌ {A = ℕ} 118 114 = ap first e in absurd (omega arith)
+no_reflection m receiver e = let h : ◌≡◌ {A = ℕ} 36 114 = ap first e in absurd (omega arith)
+no_reflection m (numbered n) e = let h : ◌≡◌ {A = ℕ} 36 114 = ap first e in absurd (omega arith)
+
 no_top : (t : Top) (x : Variable) → variable_name x ≡ top_name t → ⊥
 no_top (a_function m) = no_function m
 no_top (a_method m) = no_function m
 no_top (a_constructor m) = no_function m
+no_top (a_dispatch m) = no_dispatch m
+no_top (a_reflection m) = no_reflection m
 no_top (a_class c) = no_class c
 no_top (some_constants c) = no_constants c
 no_top (a_static c f t) = no_static c f
@@ -150,6 +165,8 @@ pub static_apart : (t : Top) (c f : List ℕ) → is_static_variable t ≡ false
 static_apart (a_function m) c f h e = no_member m c f e
 static_apart (a_method m) c f h e = no_member m c f e
 static_apart (a_constructor m) c f h e = no_member m c f e
+static_apart (a_dispatch m) c f h e = let k : ◌≡◌ {A = ℕ} 100 116 = ap first e in absurd (omega arith)
+static_apart (a_reflection m) c f h e = let k : ◌≡◌ {A = ℕ} 114 116 = ap first e in absurd (omega arith)
 static_apart (a_class d) c f h e = let k : ◌≡◌ {A = ℕ} 99 116 = ap first e in absurd (omega arith)
 static_apart (some_constants d) c f h e = let k : ◌≡◌ {A = ℕ} 107 116 = ap first e in absurd (omega arith)
 static_apart (a_static d g t) c f h e = impossible (sym h)

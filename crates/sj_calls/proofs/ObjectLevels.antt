@@ -1,16 +1,22 @@
 -- All levels, where code makes objects and uses them: trees and calls are alike at bounds that stand to each other as the direction says.
+use Rattle.sj_calls.proofs.Looking.{TargetsAlike, calls_on, calls_going, entries_alike, dispatches_alike, dispatches_going}
+use Rattle.sj_calls.specs.Looked.{DispatchStands, FindsTarget, KindsRun, no_kinds, some_kinds, LooksUpThere}
 use Rattle.std.specs.Prelude.{◌+◌, ◌*◌, ◌≤◌, ◌&&◌, not, codes}
-use Rattle.std.proofs.Common.{◌≡◌, ℕ, zero, suc, Bool, true, false, List, [], ◌∷◌, Some, length, refl, sym, ap, subst, arith}
+use Rattle.std.proofs.Common.{◌≡◌, ℕ, zero, suc, Bool, true, false, List, [], ◌∷◌, Some, length, refl, sym, ap, subst, arith, inl, inr}
 use Rattle.outcomes.specs.Agreement.{Direction, forward, backward, Enough, Sim}
 use Rattle.outcomes.proofs.Simulation.{sim_over, sim_going}
-use Rattle.class_casts.specs.FailureVariants.{NullReceiver, Division, Cast}
+use Rattle.sj_calls.proofs.Reflecting.{reflected_value, reflected_short, reflected_none_left}
+use Rattle.sj_calls.specs.Reflected.{ReflectionStands}
+use Rattle.sj_names.specs.MethodNames.{spelled_method}
+use Rattle.dispatch_laws.specs.Meaning.{no_such_method}
+use Rattle.class_casts.specs.FailureVariants.{NullReceiver, Division, Cast, Method}
 use Rattle.class_casts.specs.Helpers.{kind_word}
 use Rattle.class_casts.specs.Words.{units_of}
 use Rattle.sj_bodies.specs.Helper.{Helper}
 use Rattle.class_casts.specs.HelperVariants.{Equal, NotNull, Throws}
 use Rattle.dispatch_laws.proofs.OwnTargets.{called_target}
 use Rattle.dispatch_laws.specs.Targets.{IsTargetOf}
-use Rattle.dispatch_laws.specs.Dispatch.{chain_of}
+use Rattle.dispatch_laws.specs.Dispatch.{chain_of, is_ancestor}
 use Rattle.dispatch_laws.specs.Meaning as ir_meaning
 use Rattle.dispatch_laws.specs.States as ir
 use Rattle.dispatch_laws.specs.World.{member_of}
@@ -25,7 +31,7 @@ use Rattle.sj_bodies.specs.Coercions.{is_char}
 use Rattle.sj_bodies.proofs.Fitting.{fits-sub}
 use Rattle.sj_bodies.proofs.Boxes.{class-no-char}
 use Rattle.sure_receivers.specs.Sure.{sure_locals}
-use Rattle.sj_bodies.specs.Settings.{Place, Code, a_function, a_method, a_constructor, a_setter, a_helper, division_helper, Setting, SameState, Valued, Built, NamesDiffer, Reaches, Based, Lawful, BuildsAlike, ReceivesAlike, SetsAlike, ChecksAlike, DividesAlike, HasFunction, TestsAlike, CastsAlike, ComparesAlike, IsReceiver, a_test, a_cast, top_call}
+use Rattle.sj_bodies.specs.Settings.{Place, Code, a_function, a_method, a_constructor, a_setter, a_helper, division_helper, Setting, SameState, Valued, Built, NamesDiffer, Reaches, Based, Lawful, BuildsAlike, ReceivesAlike, SetsAlike, ChecksAlike, DividesAlike, HasFunction, TestsAlike, CastsAlike, ComparesAlike, IsReceiver, a_test, a_cast, top_call, DispatchesAlike, EntriesAlike, LooksUp, ReflectsAlike, MadeSomewhere}
 use Rattle.sj_bodies.specs.Standing.{Fits, types_referred, call_type}
 use Rattle.sj_bodies.proofs.Statics.{set_static}
 use Rattle.sj_bodies.specs.Built.{divides}
@@ -53,7 +59,7 @@ use Rattle.sj_calls.specs.Worlds.{IsMade, CanCheck, CanDivide, CanCast, CanCastC
 use Rattle.sj_calls.proofs.Boxing.{boxes_alike}
 use Rattle.sj_calls.proofs.Calls.{call_alike}
 use Rattle.sj_calls.proofs.Dividing.{divides_alike}
-use Rattle.sj_calls.proofs.Casting.{cast_fails_as, casts_alike, short_cast}
+use Rattle.sj_calls.proofs.Casting.{cast_fails_as, told_fails_as, casts_alike, short_cast}
 use Rattle.sj_calls.proofs.ClassCasting.{class_casts_alike}
 use Rattle.sj_calls.proofs.ClassTesting.{class_tests_alike}
 use Rattle.sj_calls.proofs.Helps.{FailsAs, FailsOn, fails_itself, fails_alike, checks_alike, in_helper}
@@ -84,6 +90,10 @@ module _ (p : Place) (plain : IsPlain p.classes) (ordered : IsSubtyping (IsSub p
   two_fewer forward n k h = let e = has.each in omega (arith, e, h)
   two_fewer backward n k h = omega (arith, h)
 
+  one_fewer : (d : Direction) (n k : ℕ) → Enough p.room p.room.each d n (suc k) → Enough p.room 0 d n k
+  one_fewer forward n k h = let e = has.each in omega (arith, e, h)
+  one_fewer backward n k h = omega (arith, h)
+
   times-suc : (a n : ℕ) → a * suc n ≡ a + a * n
   times-suc a n = grind arith
 
@@ -98,11 +108,36 @@ module _ (p : Place) (plain : IsPlain p.classes) (ordered : IsSubtyping (IsSub p
   taken_by : (w : World) (m o : Member) (v : ir.Value) (x : js.Value) → IsTargetOf p.classes m o → IsReceiver w m.class v x → IsReceiver w o.class v x
   taken_by w m o v x its this = record { stands = value-fits w (class_type o.class) (class_type m.class) v x (fits-sub p.classes ordered (class_type o.class) (class_type m.class) its.above (ap (λ b. b && not (is_char (class_type o.class))) (class-no-char m.class))) this.stands; there = this.there }
 
+  target_alike : (d : Direction) (n k : ℕ) → Level d n k → TargetsAlike p d (ir_meaning.below p.classes n) (js_meaning.below p.program k)
+  target_alike d n k level m o its l w v x vs xs env s u this values same = subst (λ (g : MethodName). Sim d (Valued p w env (call_type g.result)) (ir_meaning.call (ir_meaning.below p.classes n) (ir_meaning.static_target p.classes m.class m.namespace m.method) (Some v) vs env s) (top_call p (js_meaning.below p.program k) (a_method o) (x ∷ xs) u)) its.method (receive_alike p names d (ir_meaning.below p.classes n) (js_meaning.below p.program k) o l (ir_meaning.static_target p.classes m.class m.namespace m.method) (its.runs l.definition l.its_body l.has_body l.found) (level (record { file = p.home (a_method o); owner = o.class; sure = sure_locals l.its_body }) l.reaches (is_mutable_in l.definition l.its_body)) w v x vs xs env s u (taken_by w m o v x its this) (subst (λ (g : MethodName). SameValues w (types_referred g.params) vs xs) (sym its.method) values) same)
+
   method_alike : (f : Code) (is_mutable : List ℕ → Bool) (d : Direction) (n k : ℕ) → Level d n k → (m : Member) → IsTargetOf p.classes m (called_member (p.has f.file).lookup m.namespace m) → RunsOn p (called_member (p.has f.file).lookup m.namespace m) → ReceivesAlike (within f d is_mutable n k) m
-  method_alike f is_mutable d n k level m its l w v x vs xs env s u this values same = subst (λ (g : MethodName). Sim d (Valued p w env (call_type g.result)) (ir_meaning.call (ir_meaning.below p.classes n) (ir_meaning.static_target p.classes m.class m.namespace m.method) (Some v) vs env s) (top_call p (js_meaning.below p.program k) (a_method o) (x ∷ xs) u)) its.method (receive_alike p names d (ir_meaning.below p.classes n) (js_meaning.below p.program k) o l (ir_meaning.static_target p.classes m.class m.namespace m.method) (its.runs l.definition l.its_body l.has_body l.found) (level (record { file = p.home (a_method o); owner = o.class; sure = sure_locals l.its_body }) l.reaches (is_mutable_in l.definition l.its_body)) w v x vs xs env s u (taken_by w m o v x its this) (subst (λ (g : MethodName). SameValues w (types_referred g.params) vs xs) (sym its.method) values) same)
-    where
-      o : Member
-      o = called_member (p.has f.file).lookup m.namespace m
+  method_alike f is_mutable d n k level m its l = target_alike d n k level m (called_member (p.has f.file).lookup m.namespace m) its l
+
+  -- a method that is looked up takes a unit where an object is asked, and two where a function tells receivers apart
+  entries_at : (f : Code) (is_mutable : List ℕ → Bool) (c : List ℕ) (m : MethodName) → ((e : List ℕ) → MadeSomewhere p e → is_ancestor p.classes e c ≡ true → FindsTarget p e m) → ((h : List ℕ) → is_hijacked h ≡ true → is_ancestor p.classes h c ≡ false) → (d : Direction) (n k : ℕ) → Levels d n → Enough p.room p.room.each d n k → EntriesAlike (within f d is_mutable n k) c m
+  entries_at f is_mutable c m objects none d n (suc k) levels h = entries_alike (within f d is_mutable n (suc k)) c m (calls_on (within f d is_mutable n (suc k)) c m k refl (target_alike d n k (levels k (one_fewer d n k h)))) objects none
+  entries_at f is_mutable c m objects none forward n zero levels h = let e = has.beyond in absurd (omega (arith, e, h))
+  entries_at f is_mutable c m objects none backward n zero levels h = entries_alike (within f backward is_mutable n zero) c m (calls_going (within f backward is_mutable n zero) c m refl refl) objects none
+
+  dispatches_at : (f : Code) (is_mutable : List ℕ → Bool) (c : List ℕ) (m : MethodName) → ((e : List ℕ) → MadeSomewhere p e → is_ancestor p.classes e c ≡ true → FindsTarget p e m) → DispatchStands p c m → (d : Direction) (n k : ℕ) → Levels d n → Enough p.room p.room.each d n k → DispatchesAlike (within f d is_mutable n k) c m
+  dispatches_at f is_mutable c m objects st d n (suc (suc k)) levels h = dispatches_alike (within f d is_mutable n (suc (suc k))) c m k refl (target_alike d n (suc k) (levels (suc k) (one_fewer d n (suc k) h))) (target_alike d n k (levels k (two_fewer d n k h))) objects st
+  dispatches_at f is_mutable c m objects st forward n (suc zero) levels h = let e = has.each in absurd (omega (arith, e, h))
+  dispatches_at f is_mutable c m objects st forward n zero levels h = let e = has.beyond in absurd (omega (arith, e, h))
+  dispatches_at f is_mutable c m objects st backward n (suc zero) levels h = dispatches_going (within f backward is_mutable n 1) c m st refl (inr refl)
+  dispatches_at f is_mutable c m objects st backward n zero levels h = dispatches_going (within f backward is_mutable n 0) c m st refl (inl refl)
+
+  -- a call by a reflective name takes three units: for the function, the entry of the name and that of the method
+  three_fewer : (d : Direction) (n k : ℕ) → Enough p.room p.room.each d n (suc (suc (suc k))) → Enough p.room 0 d n k
+  three_fewer forward n k h = let e = has.each in omega (arith, e, h)
+  three_fewer backward n k h = omega (arith, h)
+
+  reflected_room : (d : Direction) (n k : ℕ) → Enough p.room p.room.each d n (suc (suc k)) → d ≡ forward → 1 ≤ k
+  reflected_room forward n k h e = let a = has.each in let b = has.beyond in omega (arith, a, b, h)
+  reflected_room backward n k h e = absurd (cc)
+
+  not_forward : backward ≡ forward → ⊥
+  not_forward e = cc
 
   constructor_alike : (f : Code) (is_mutable : List ℕ → Bool) (d : Direction) (n k : ℕ) → Enough p.room 0 d n k → Level d n k → (m : Member) → Constructs p m → BuildsAlike (within f d is_mutable n k) m
   constructor_alike f is_mutable d n (suc k) h level m l = build_alike p names d (ir_meaning.below p.classes n) k m l (level (record { file = p.home (a_constructor m); owner = m.class; sure = sure_locals l.its_body }) l.reaches (is_mutable_in l.definition l.its_body))
@@ -124,6 +159,7 @@ module _ (p : Place) (plain : IsPlain p.classes) (ordered : IsSubtyping (IsSub p
     names = names;
     reaches = reaches;
     objects = has.objects f.file;
+    lives = has.lives f.file;
     fields = has.field f.file;
     statics = λ c g t l. (has.statics f.file c g t l).field;
     sets = λ c g t l. set_alike f is_mutable d n k h c g t l;
@@ -195,8 +231,22 @@ module _ (p : Place) (plain : IsPlain p.classes) (ordered : IsSubtyping (IsSub p
   box_room forward n k h e = let b = has.beyond in omega (arith, b, h)
   box_room backward n k h e = absurd (cc)
 
+  looks_at : (f : Code) (is_mutable : List ℕ → Bool) (c : List ℕ) (m : MethodName) (b : Bool) → LooksUpThere p c m b → (d : Direction) (n k : ℕ) → Levels d n → Enough p.room p.room.each d n k → LooksUp b (within f d is_mutable n k) c m
+  looks_at f is_mutable c m b there = by b there.kinds
+    where
+      by : (b : Bool) → KindsRun p c m b → (d : Direction) (n k : ℕ) → Levels d n → Enough p.room p.room.each d n k → LooksUp b (within f d is_mutable n k) c m
+      by _ (no_kinds none) d n k levels h = entries_at f is_mutable c m there.objects none d n k levels h
+      by _ (some_kinds st) d n k levels h = dispatches_at f is_mutable c m there.objects st d n k levels h
+
+  reflects_at : (f : Code) (is_mutable : List ℕ → Bool) (m : MethodName) → ReflectionStands p m → (d : Direction) (n k : ℕ) → Levels d n → Enough p.room p.room.each d n k → ReflectsAlike (within f d is_mutable n k) m
+  reflects_at f is_mutable m st d n (suc (suc k)) levels h = λ w v x vs xs env s u a values same. reflected_value p d (ir_meaning.below p.classes n) has.boxes m st w s u same vs xs values env k (target_alike d n (suc k) (levels (suc k) (one_fewer d n (suc k) h))) (λ j e. target_alike d n j (levels j (three_fewer d n j (subst (λ (i : ℕ). Enough p.room p.room.each d n (suc (suc i))) (sym e) h)))) (reflected_room d n k h) (fails_at (Throws Method) (js.text (units_of (spelled_method m)) ∷ []) no_such_method (units_of (spelled_method m)) (told_fails_as p (Throws Method) no_such_method (units_of (spelled_method m)) st.throws.failure) st.throws.reaches st.throws.built st.throws.made refl refl d n (suc k) levels h) v x a.stands
+  reflects_at f is_mutable m st forward n (suc zero) levels h = let e = has.each in absurd (omega (arith, e, h))
+  reflects_at f is_mutable m st forward n zero levels h = let e = has.each in absurd (omega (arith, e, h))
+  reflects_at f is_mutable m st backward n (suc zero) levels h = λ w v x vs xs env s u a values same. reflected_short p backward (ir_meaning.below p.classes n) has.boxes m st w s u same vs xs values env not_forward v x a.stands
+  reflects_at f is_mutable m st backward n zero levels h = λ w v x vs xs env s u a values same. reflected_none_left p backward (ir_meaning.below p.classes n) has.boxes m st w s u same vs xs values env not_forward v x
+
   lawful : (d : Direction) (n k : ℕ) → Levels d n → Enough p.room p.room.each d n k → (f : Code) → Reaches p f.file → (is_mutable : List ℕ → Bool) → Lawful (within f d is_mutable n k)
-  lawful d n k levels h f reaches is_mutable = record { base = based d n k levels (fewer d p.room.each n k h) f reaches is_mutable; checks = λ i. checks_at (has.checked f.file i) f is_mutable d n k levels h; divisions = λ o i. divides_at f is_mutable o i (has.divided f.file o i) d n k levels h; boxes = λ i. boxes_alike (within f d is_mutable n k) k (has.boxes f.file i) refl (box_room d n k h); tests = λ t i. test_there f is_mutable t (has.tested f.file t i) d n k h; casts = λ t i. cast_there f is_mutable t (has.cast f.file t i) d n k levels h; compares = λ i. compares_at f is_mutable (has.compared f.file i) d n k h }
+  lawful d n k levels h f reaches is_mutable = record { base = based d n k levels (fewer d p.room.each n k h) f reaches is_mutable; reflects = λ m i. reflects_at f is_mutable m (has.reflected f.file m i) d n k levels h; looks = λ c m i. looks_at f is_mutable c m ((p.has f.file).lookup.has_hijacked c) (has.looked f.file c m i) d n k levels h; checks = λ i. checks_at (has.checked f.file i) f is_mutable d n k levels h; divisions = λ o i. divides_at f is_mutable o i (has.divided f.file o i) d n k levels h; boxes = λ i. boxes_alike (within f d is_mutable n k) k (has.boxes f.file i) refl (box_room d n k h); tests = λ t i. test_there f is_mutable t (has.tested f.file t i) d n k h; casts = λ t i. cast_there f is_mutable t (has.cast f.file t i) d n k levels h; compares = λ i. compares_at f is_mutable (has.compared f.file i) d n k h }
 
   next : (d : Direction) (n k : ℕ) → Levels d n → Enough p.room p.room.each d n k → Level d (suc n) (suc k)
   next d n k levels h f reaches is_mutable c q j t sound ahead out wr fine w env s sc u ready same = does (within f d is_mutable n k) (lawful d n k levels h f reaches is_mutable) (levels k (fewer d p.room.each n k h) f reaches is_mutable) t c q j sound ahead out wr fine w env s sc u ready same

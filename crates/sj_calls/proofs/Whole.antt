@@ -28,7 +28,7 @@ use Rattle.sj_bodies.specs.Desugar.{desugared}
 use Rattle.dispatch_laws.specs.Templates.{member_name, parameter_names}
 use Rattle.sj_names.specs.declared.entry_points.EntryPoint.{EntryPoint}
 use Rattle.sj_names.specs.declared.method_names.Member.{Member}
-use Rattle.sj_bodies.specs.Settings.{some_constants, a_static, a_setter, a_test, a_cast, links_of, box_link, SameStored, same_object, a_method, a_constructor, a_helper, Place, Top, a_function, a_class, top_name, is_usable, TopHolds, SameHeap, SameState, Valued, valued, thrown, NamesDiffer, Reaches}
+use Rattle.sj_bodies.specs.Settings.{some_constants, a_static, a_setter, a_test, a_cast, links_of, box_link, SameStored, same_object, a_method, a_constructor, a_dispatch, a_reflection, a_helper, Place, Top, a_function, a_class, top_name, is_usable, TopHolds, SameHeap, SameState, Valued, valued, thrown, NamesDiffer, Reaches}
 use Rattle.sj_bodies.specs.Worlds.{World, nothing_made, Stands, same_undefined, same_null, same_boolean, same_char, same_box, IsBox, same_number, same_long, same_text, same_reference, no_values}
 use Rattle.sj_bodies.specs.SjPlainStanding.{suits}
 use Rattle.sj_names.proofs.Same.{impossible}
@@ -74,8 +74,8 @@ long_shown (pos n) f = let h : n < 2 ^ 63 = f.sfits in grind arith
 long_shown (negsuc n) f = let h : n < 2 ^ 63 = f.sfits in grind arith
 
 -- what stands at an address, and what stands for it there, are shown alike: by the class of the object, which its marker tells
-stored_alike : (p : Place) (q : js.Program) (d : Direction) (w : World) (s : List ir.Stored) (u : js.State) → SameHeap p w s u.heap → (o : Option ir.Stored) (g : Option js.Stored) → SameStored p w o g → Sim d ◌≡◌ (ir_showing.uncaught_or_wrong (ir_showing.thrown_stored o)) (js_showing.uncaught_or_wrong (js_showing.object_shown (js_showing.class_shown (js_showing.marker_in q u (js_objects.stored_property q g (codes "k")))) (js_objects.stored_property q g (codes "c"))))
-stored_alike p q d w s u heaps _ _ (same_object c fields properties told fs) = subst (λ o. Sim d ◌≡◌ (done (uncaught (shown.object_of c))) (js_showing.uncaught_or_wrong o)) (sym is) (sim_done d ◌≡◌ (uncaught (shown.object_of c)) (uncaught (shown.object_of c)) refl)
+stored_alike : (p : Place) (q : js.Program) (d : Direction) (w : World) (s : List ir.Stored) (u : js.State) → SameHeap p w s u.heap → (c : List ℕ) (o : Option ir.Stored) (g : Option js.Stored) → SameStored p w c o g → Sim d ◌≡◌ (ir_showing.uncaught_or_wrong (ir_showing.thrown_stored o)) (js_showing.uncaught_or_wrong (js_showing.object_shown (js_showing.class_shown (js_showing.marker_in q u (js_objects.stored_property q g (codes "k")))) (js_objects.stored_property q g (codes "c"))))
+stored_alike p q d w s u heaps _ _ _ (same_object c fields properties told bare fs) = subst (λ o. Sim d ◌≡◌ (done (uncaught (shown.object_of c))) (js_showing.uncaught_or_wrong o)) (sym is) (sim_done d ◌≡◌ (uncaught (shown.object_of c)) (uncaught (shown.object_of c)) refl)
   where
     ls : List js.ClassLink
     ls = links_of p c
@@ -134,7 +134,7 @@ uncaught_alike place p d w _ _ s u same (same_box r n a f b) h = box_alike place
 uncaught_alike place p d w _ _ s u same (same_number n f) h = subst (λ (b : Bool). Sim d ◌≡◌ (done (uncaught (shown.number n))) (js_showing.uncaught_or_wrong (if b then Some (shown.number n) else None))) (sym (number_shown n f)) (sim_done d ◌≡◌ (uncaught (shown.number n)) (uncaught (shown.number n)) refl)
 uncaught_alike place p d w _ _ s u same (same_long n f) h = subst (λ (b : Bool). Sim d ◌≡◌ (done (uncaught (shown.long n))) (js_showing.uncaught_or_wrong (if b then Some (shown.long n) else None))) (sym (long_shown n f)) (sim_done d ◌≡◌ (uncaught (shown.long n)) (uncaught (shown.long n)) refl)
 uncaught_alike place p d w _ _ s u same (same_text us) h = sim_done d ◌≡◌ (uncaught (shown.text us)) (uncaught (shown.text us)) refl
-uncaught_alike place p d w _ _ s u same (same_reference i a e) h = stored_alike place p d w s.heap u same.heaps (slice_get s.heap i) (slice_get u.heap a) (same.heaps.objects i a e)
+uncaught_alike place p d w _ _ s u same (same_reference i a e) h = let o = same.heaps.objects i a e in stored_alike place p d w s.heap u same.heaps o.class (slice_get s.heap i) (slice_get u.heap a) o.alike
 
 -- calls of initializers in a file that reaches them by name
 module _ (p : Place) (f : Name) (reaches : Reaches p f) where
@@ -231,7 +231,8 @@ nothing_there o e = cc
 no_heaps : (p : Place) → SameHeap p (nothing_made (box_link p ∷ [])) [] []
 no_heaps p = record {
   objects = λ i a e. absurd (nothing_there a e);
-  free = λ i a e. absurd (nothing_there a e);
+  free = λ i c e. absurd (nothing_there c e);
+  made = λ i c e. absurd (nothing_there c e);
   differ = λ i j a e g. absurd (nothing_there a e);
   owned = λ a o e. absurd (nothing_there o e);
   marked = λ a constants e. absurd (nothing_there (js.plain [] constants) e);
@@ -292,6 +293,8 @@ module _ (w : ir_world.World) (id : List ℕ) (fs : List EmittedMethod) (es : Li
         top_there (a_function m) l = let h = functions m l in ap (λ o. js_meaning.module_cell file o (member_name m)) (module_there file (module_with fs es)) ∙ subst (λ x. js_meaning.items_cell file (map function_item_of fs ++ map call_item_of es) (member_name x) ≡ js.holds false (js.function file (member_name x))) h.is (cell_found file fs (map call_item_of es) h.method h.listed)
         top_there (a_method m) l = impossible l
         top_there (a_constructor m) l = impossible l
+        top_there (a_dispatch m) l = impossible l
+        top_there (a_reflection m) l = impossible l
         top_there (a_class c) l = impossible l
         top_there (some_constants c) l = impossible l
         top_there (a_static c g t) l = impossible l
@@ -301,7 +304,7 @@ module _ (w : ir_world.World) (id : List ℕ) (fs : List EmittedMethod) (es : Li
         top_there (a_helper h) l = impossible l
 
     no_objects : CallsAlone place
-    no_objects = record { received = λ f m. refl; built = λ f m. refl; made = λ f c. refl; field = λ f c g t. refl; static_field = λ f c g t. refl; static_setter = λ f c g t. refl; tests = λ f t. refl; casts = λ f t. refl; helper = λ f x. refl }
+    no_objects = record { received = λ f m. refl; looked = λ f c m. refl; reflected = λ f m. refl; built = λ f m. refl; made = λ f c. refl; field = λ f c g t. refl; static_field = λ f c g t. refl; static_setter = λ f c g t. refl; tests = λ f t. refl; casts = λ f t. refl; helper = λ f x. refl }
 
     names : NamesDiffer place
     names = emitted_names_differ w program (λ t. file) (λ f. has) no_room

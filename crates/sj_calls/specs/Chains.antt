@@ -15,13 +15,13 @@ use Rattle.sj_trees.specs.declared.types.IrType.{IrType}
 use Rattle.sj_trees.specs.declared.types.IrType.TheVariants.{Nothing}
 use Rattle.sj_calls.specs.Made.{Makers}
 
--- the class stands in its file, with the constructor of its fields; its file reaches its constants; and the code of some file can make its objects
+-- the class stands in its file, with the constructor of its fields; its file reaches its constants; and the code of some file has the class
 pub record ClassStands (p : Place) (c : Name) (superclass : Option Name) (fields : List FieldDef) : Type 0 where
   pub others : List Member
   pub members_are : members_of p.program (link_of p c) ≡ Some (constructor_of [] (statements_of (constructor_body c superclass fields)) ∷ others)
   pub reached : owner p.program (p.home (a_class c)) (constants_name c) ≡ Some (p.home (some_constants c))
   pub user : Name
-  pub usable : (p.has user).made c ≡ true
+  pub usable : (p.has user).live c ≡ true
 
 -- each class with the one that it extends
 pub data ChainStands (p : Place) : List Name → Type 0 where

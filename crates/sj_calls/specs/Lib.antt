@@ -13,3 +13,9 @@ pub use Rattle.class_casts.specs.PieceRulesClasses as Classes
 pub use Rattle.class_casts.specs.Pieces
 pub use Rattle.sj_bodies.specs.Settings
 pub use Rattle.sj_bodies.specs.Worlds as SjPlainWorlds
+pub mod Looked
+pub mod Reflected
+pub use Rattle.class_casts.specs.Bridges
+pub use Rattle.class_casts.specs.ClassTestsKinds
+pub use Rattle.class_casts.specs.Dispatch
+pub use Rattle.class_casts.specs.Reflecting

@@ -13,6 +13,7 @@ use Rattle.sj_core.specs.Terms.{named}
 use Rattle.sj_bodies.specs.Desugar.{desugared}
 use Rattle.dispatch_laws.specs.Templates.{member_name, statement_templates}
 use Rattle.sj_names.specs.declared.method_names.Member.{Member}
+use Rattle.sj_names.specs.declared.method_names.MethodName.{MethodName}
 use Rattle.sj_trees.specs.Term.{Term}
 use Rattle.sj_trees.specs.declared.classes.MethodDef.{MethodDef}
 pub use Rattle.sj_bodies.specs.Locals.{parameters_of}
@@ -58,9 +59,11 @@ pub record CallsAgree (p : Place) (m : Member) (w : World) (vs : List ir.Value) 
   pub there : (n k : ℕ) → Enough p.room 0 forward n k → Sim forward (Valued p w env (call_type m.method.result)) (ir_call p m vs env s n) (js_call p m xs u k)
   pub back : (n k : ℕ) → Enough p.room 0 backward n k → Sim backward (Valued p w env (call_type m.method.result)) (ir_call p m vs env s n) (js_call p m xs u k)
 
--- the code of no file makes an object, calls a member on one, reads a field, reads or sets a static field, tests or casts a value by a function, or uses a helper
+-- the code of no file makes an object, calls a member on one, looks one up or calls one by a reflective name, reads a field, reads or sets a static field, tests or casts a value by a function, or uses a helper
 pub record CallsAlone (p : Place) : Type 0 where
   pub received : (f : Name) (m : Member) → (p.has f).received m ≡ false
+  pub looked : (f : Name) (c : List ℕ) (m : MethodName) → (p.has f).looked_up c m ≡ false
+  pub reflected : (f : Name) (m : MethodName) → (p.has f).reflected m ≡ false
   pub built : (f : Name) (m : Member) → (p.has f).built m ≡ false
   pub made : (f : Name) (c : List ℕ) → (p.has f).made c ≡ false
   pub field : (f : Name) (c g : List ℕ) (t : IrType) → (p.has f).field c g t ≡ false

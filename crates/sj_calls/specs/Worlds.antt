@@ -1,7 +1,7 @@
 -- What the code of a program has of objects: members that run on receivers, constructors, classes, fields, static fields, the null check, divisions, objects that hold chars, tests,
 -- casts and identity, each where code can use it.
 use Rattle.std.specs.Prelude.{◌≡◌, ℕ, ◌≤◌, true, false, List, length, codes, Option, Some}
-use Rattle.sj_bodies.specs.Built.{has_static, can_box, divides, compares}
+use Rattle.sj_bodies.specs.Built.{has_static, can_box, can_look_up, divides, compares}
 use Rattle.class_casts.specs.Classes.{class_cast_code}
 use Rattle.dispatch_laws.specs.Targets.{IsTargetOf}
 use Rattle.class_casts.specs.Helpers.{helper_name}
@@ -22,6 +22,7 @@ use Rattle.class_casts.specs.Pieces.{setter}
 use Rattle.dispatch_laws.specs.Templates.{check_name, static_name, setter_name}
 use Rattle.dispatch_laws.specs.Tests.{test_name, cast_name}
 use Rattle.sj_names.specs.declared.method_names.Member.{Member}
+use Rattle.sj_names.specs.declared.method_names.MethodName.{MethodName}
 use Rattle.sj_names.specs.declared.method_names.Namespace.TheVariants.{Constructor}
 use Rattle.sj_trees.specs.declared.operators.BinaryOp.{BinaryOp}
 use Rattle.sj_trees.specs.declared.types.IrType.{IrType}
@@ -30,7 +31,9 @@ use Rattle.sj_bodies.specs.Worlds.{World}
 use Rattle.sj_trees.specs.declared.types.IrType.TheVariants.{Class}
 use Rattle.dispatch_laws.specs.Known.{is_hijacked}
 use Rattle.sj_calls.specs.Helpers.{HelperStands, BoxStands, ReachesTest, ClassTest, Tested, CanCompare, kind_of, code_of_item, helper_code, checking_code, division_code}
+use Rattle.sj_calls.specs.Looked.{LooksUpThere}
 use Rattle.sj_calls.specs.Made.{Makers}
+use Rattle.sj_calls.specs.Reflected.{ReflectionStands}
 use Rattle.sj_calls.specs.Methods.{Linked}
 use Rattle.sj_calls.specs.Objects.{RunsOn, Constructs}
 
@@ -38,7 +41,7 @@ use Rattle.sj_calls.specs.Objects.{RunsOn, Constructs}
 pub record Stands (p : Place) (c : List ℕ) (w : World) (u : js.State) : Type 0 where
   pub own : Name → Option js.Value
   pub makers : Makers p.program (link_of p) u (chain_of p.classes c) own
-  pub shape : SameStored p w (Some (zeroed p c)) (Some (js.plain (links_of p c) own))
+  pub shape : SameStored p w c (Some (zeroed p c)) (Some (js.plain (links_of p c) own))
 
 -- objects of the class can be made in each state, and the units beyond those of the IR are enough for its chain
 pub record IsMade (p : Place) (c : List ℕ) : Type 0 where
@@ -109,13 +112,16 @@ pub record StaticStands (p : Place) (c f : List ℕ) (t : IrType) : Type 0 where
   pub sets : js_meaning.code_of p.program (p.home (a_setter c f t)) (setter_name c f) ≡ Some (setter_code c f)
   pub owned : owner p.program (p.home (a_setter c f t)) (static_name c f) ≡ Some (p.home (a_setter c f t))
 
--- what the code of any file can use is there, and what a call of a public member runs is its target; no object is made of a hijacked class; and around a call there are two units for a helper, and one beyond those of the IR: the cast of a class takes all three, for itself, its test and that of a kind
+-- what the code of any file can use is there, what a call of a public member runs is its target, and what is looked up is found on each instance, and each value answers a reflective name; no object is made of a hijacked class; and around a call there are three units, and one beyond those of the IR: a call by a reflective name takes three, for the function, the entry of the name and that of the method
 pub record HasObjects (p : Place) : Type 0 where
   pub linked : (f : Name) (m : Member) → (p.has f).linked m ≡ true → Linked p m
   pub received : (f : Name) (m : Member) → (p.has f).received m ≡ true → RunsOn p m
   pub targets : (f : Name) (m : Member) → (p.has f).received ((p.has f).lookup.target m) ≡ true → IsTargetOf p.classes m ((p.has f).lookup.target m)
+  pub looked : (f : Name) (c : List ℕ) (m : MethodName) → can_look_up (p.has f) c m ≡ true → LooksUpThere p c m ((p.has f).lookup.has_hijacked c)
+  pub reflected : (f : Name) (m : MethodName) → (p.has f).reflected m ≡ true → ReflectionStands p m
   pub built : (f : Name) (m : Member) → (p.has f).built m ≡ true → Constructs p m
   pub made : (f : Name) (c : List ℕ) → (p.has f).made c ≡ true → IsMade p c
+  pub lives : (f : Name) (c : List ℕ) → (p.has f).made c ≡ true → (p.has f).live c ≡ true
   pub objects : (f : Name) (c : List ℕ) → (p.has f).made c ≡ true → is_hijacked c ≡ false
   pub field : (f : Name) (c g : List ℕ) (t : IrType) → (p.has f).field c g t ≡ true → HasField p c g t
   pub statics : (f : Name) (c g : List ℕ) (t : IrType) → has_static (p.has f) c g t ≡ true → StaticStands p c g t
@@ -125,5 +131,5 @@ pub record HasObjects (p : Place) : Type 0 where
   pub tested : (f : Name) (t : IrType) → (p.has f).tests t ≡ true → Tested p t
   pub cast : (f : Name) (t : IrType) → (p.has f).casts t ≡ true → Casted p t
   pub compared : (f : Name) → compares (p.has f) ≡ true → CanCompare p
-  pub each : 2 ≤ p.room.each
+  pub each : 3 ≤ p.room.each
   pub beyond : 1 ≤ p.room.beyond

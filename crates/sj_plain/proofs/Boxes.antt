@@ -61,7 +61,7 @@ module _ (p : Place) (w : World) (s : ir.State) (u : js.State) (same : SameState
   state-owns classed = record { heaps = owns p w s.heap u.heap same.heaps o classed; tops = λ f t h. top-carry p w.owned more_owned.owned (owned-still p w s.heap u.heap same.heaps o) t (u.tops (p.home t) (top_name t)) (same.tops f t h); statics = λ f c n t h. holding-carry w more_owned t (λ i a e. e) (owned-still p w s.heap u.heap same.heaps o) refl (s.statics c n) (u.tops (p.home (a_static c n t)) (static_name c n)) (same.statics f c n t h) }
 
   pub grows-owned : Grows w more_owned
-  grows-owned = record { places = λ i a e. e; owns = owned-still p w s.heap u.heap same.heaps o; pends = λ a b e. e; boxes = refl }
+  grows-owned = record { places = λ i a e. e; classes = λ i a c e k. k; owns = owned-still p w s.heap u.heap same.heaps o; pends = λ a b e. e; boxes = refl }
 
   pub owned-there : more_owned.owned (js_objects.next_address u) ≡ Some o
   owned-there = ap (λ b. if b then Some o else w.owned (js_objects.next_address u)) (eq-eqb (js_objects.next_address u) (js_objects.next_address u) refl)

@@ -2,13 +2,14 @@
 use Rattle.std.proofs.Common.{◌≡◌, ℕ, zero, suc, Bool, true, false, List, [], ◌∷◌, ◌++◌, length, map, set, slice_get, arith, Option, Some, None, refl, sym, ap, ◌∙◌, subst, if◌then◌else◌}
 use Rattle.std.specs.Prelude.{◌==◌}
 use Rattle.ir_mean.specs.Dispatch.{chain_of}
+use Rattle.ir_mean.specs.Known.{is_hijacked}
 use Rattle.ir_mean.specs.States as ir
 use Rattle.js_mean.specs.States as js
 use Rattle.js_tree.specs.Terms.{Name}
 use Rattle.sj_mangling.specs.Bindings.{field_binding}
 use Rattle.sj_mangling.specs.declared.bindings.FieldBinding.TheVariants.{Property}
 use Rattle.sj_trees.specs.declared.types.IrType.{IrType}
-use Rattle.sj_plain.specs.Settings.{Place, link_of, TellsClass, SameField, same_field, no_field, SameStored, same_object, MarksAncestors, IsFree, SameHeap, Holding, holding}
+use Rattle.sj_plain.specs.Settings.{Place, link_of, TellsClass, SameField, same_field, no_field, SameStored, same_object, ObjectAt, MadeSomewhere, MarksAncestors, SameHeap, Holding, holding}
 use Rattle.sj_plain.specs.Worlds.{with_pending, with_owned, with_born}
 use Rattle.sj_plain.proofs.Worlds.{World, value-carry}
 
@@ -47,6 +48,9 @@ numbers-same a b e = grind arith
 pub numbers-apart : (a b : ℕ) → (a == b) ≡ false → a ≡ b → ⊥
 numbers-apart a b f e = grind arith
 
+pub classes-same : (c d : List ℕ) → ◌≡◌ {A = Option (List ℕ)} (Some c) (Some d) → c ≡ d
+classes-same c d e = cc
+
 -- what stands for a field, an object or its class in a world does so in one that has what that one has
 pub field-carry : (w y : World) (t : IrType) → ((i a : ℕ) → w.place i ≡ Some a → y.place i ≡ Some a) → ((a : ℕ) (o : js.Stored) → w.owned a ≡ Some o → y.owned a ≡ Some o) → w.boxes ≡ y.boxes → (o : Option ir.Value) (q : Option js.Value) → SameField w t o q → SameField y t o q
 field-carry w y t g h k _ _ (same_field v x a) = same_field v x (value-carry w y t v x g h k a)
@@ -59,32 +63,39 @@ holding-carry w y t g h k _ _ (holding v x a) = holding v x (value-carry w y t v
 tells-carry : (w y : World) (c : List ℕ) (properties : Name → Option js.Value) → ((a : ℕ) (o : js.Stored) → w.owned a ≡ Some o → y.owned a ≡ Some o) → TellsClass w c properties → TellsClass y c properties
 tells-carry w y c properties g h = record { address = h.address; constants = h.constants; held = h.held; owned = g h.address (js.plain [] h.constants) h.owned; marked = h.marked; known = h.known }
 
-pub stored-carry : (p : Place) (w y : World) → ((i a : ℕ) → w.place i ≡ Some a → y.place i ≡ Some a) → ((a : ℕ) (o : js.Stored) → w.owned a ≡ Some o → y.owned a ≡ Some o) → w.boxes ≡ y.boxes → (o : Option ir.Stored) (q : Option js.Stored) → SameStored p w o q → SameStored p y o q
-stored-carry p w y g h b _ _ (same_object c fields properties k f) = same_object c fields properties (tells-carry w y c properties h k) (λ d n t i. field-carry w y t g h b (fields d n) (properties (field_binding Property d n)) (f d n t i))
+pub stored-carry : (p : Place) (w y : World) → ((i a : ℕ) → w.place i ≡ Some a → y.place i ≡ Some a) → ((a : ℕ) (o : js.Stored) → w.owned a ≡ Some o → y.owned a ≡ Some o) → w.boxes ≡ y.boxes → (c : List ℕ) (o : Option ir.Stored) (q : Option js.Stored) → SameStored p w c o q → SameStored p y c o q
+stored-carry p w y g h b _ _ _ (same_object c fields properties k bare f) = same_object c fields properties (tells-carry w y c properties h k) bare (λ d n t i. field-carry w y t g h b (fields d n) (properties (field_binding Property d n)) (f d n t i))
+
+pub object-carry : (p : Place) (w y : World) → ((i a : ℕ) → w.place i ≡ Some a → y.place i ≡ Some a) → ((a : ℕ) (o : js.Stored) → w.owned a ≡ Some o → y.owned a ≡ Some o) → w.boxes ≡ y.boxes → (i : ℕ) → ((c : List ℕ) → w.classes i ≡ Some c → y.classes i ≡ Some c) → (o : Option ir.Stored) (q : Option js.Stored) → ObjectAt p w i o q → ObjectAt p y i o q
+object-carry p w y g h b i k o q f = record { class = f.class; told = k f.class f.told; alike = stored-carry p w y g h b f.class o q f.alike }
 
 pub record There {A : Type 0} (o : Option A) : Type 0 where
   pub what : A
   pub is : o ≡ Some what
 
-pub stored-there : (p : Place) (w : World) (o : Option ir.Stored) (q : Option js.Stored) → SameStored p w o q → There o × There q
-stored-there p w _ _ (same_object c fields properties k f) = (record { what = ir.object c fields; is = refl }, record { what = js.plain (map (link_of p) (chain_of p.classes c)) properties; is = refl })
+pub stored-there : (p : Place) (w : World) (c : List ℕ) (o : Option ir.Stored) (q : Option js.Stored) → SameStored p w c o q → There o × There q
+stored-there p w _ _ _ (same_object c fields properties k bare f) = (record { what = ir.object c fields; is = refl }, record { what = js.plain (map (link_of p) (chain_of p.classes c)) properties; is = refl })
+
+pub object-there : (p : Place) (w : World) (i : ℕ) (o : Option ir.Stored) (q : Option js.Stored) → ObjectAt p w i o q → There o × There q
+object-there p w i o q h = stored-there p w h.class o q h.alike
 
 module _ (p : Place) (w : World) (s : List ir.Stored) (u : List js.Stored) (h : SameHeap p w s u) where
   -- what stands at an address of the world, when the emitted code has made more
   front-there : (i a : ℕ) (o : js.Stored) → w.place i ≡ Some a → slice_get (u ++ o ∷ []) a ≡ slice_get u a
-  front-there i a o e = let q = (stored-there p w (slice_get s i) (slice_get u a) (h.objects i a e)).1 in get-front u (o ∷ []) a q.what q.is ∙ sym q.is
+  front-there i a o e = let q = (object-there p w i (slice_get s i) (slice_get u a) (h.objects i a e)).1 in get-front u (o ∷ []) a q.what q.is ∙ sym q.is
 
   address-there : (i a : ℕ) → w.place i ≡ Some a → a ≡ length u → ⊥
-  address-there i a e same = let q = (stored-there p w (slice_get s i) (slice_get u a) (h.objects i a e)).1 in not-past u q.what (subst (λ b. slice_get u b ≡ Some q.what) same q.is)
+  address-there i a e same = let q = (object-there p w i (slice_get s i) (slice_get u a) (h.objects i a e)).1 in not-past u q.what (subst (λ b. slice_get u b ≡ Some q.what) same q.is)
 
   pub place-there : (i a : ℕ) → w.place i ≡ Some a → i ≡ length s → ⊥
-  place-there i a e same = let q = (stored-there p w (slice_get s i) (slice_get u a) (h.objects i a e)).0 in not-past s q.what (subst (λ b. slice_get s b ≡ Some q.what) same q.is)
+  place-there i a e same = let q = (object-there p w i (slice_get s i) (slice_get u a) (h.objects i a e)).0 in not-past s q.what (subst (λ b. slice_get s b ≡ Some q.what) same q.is)
 
   -- an object of the emitted code that the IR hasn't made yet
   pub pends : (o : js.Stored) → SameHeap p (with_pending (length u) o w) s (u ++ o ∷ [])
   pends o = record {
-    objects = λ i a e. subst (λ q. SameStored p (with_pending (length u) o w) (slice_get s i) q) (sym (front-there i a o e)) (stored-carry p w (with_pending (length u) o w) (λ i a e. e) (λ a o e. e) refl (slice_get s i) (slice_get u a) (h.objects i a e));
+    objects = λ i a e. subst (λ q. ObjectAt p (with_pending (length u) o w) i (slice_get s i) q) (sym (front-there i a o e)) (object-carry p w (with_pending (length u) o w) (λ i a e. e) (λ a o e. e) refl i (λ c k. k) (slice_get s i) (slice_get u a) (h.objects i a e));
     free = h.free;
+    made = h.made;
     differ = h.differ;
     marked = h.marked;
     boxes = h.boxes;
@@ -121,8 +132,9 @@ module _ (p : Place) (w : World) (s : List ir.Stored) (u : List js.Stored) (h : 
   -- an object of some class that the emitted code makes for itself
   pub owns : (o : js.Stored) → ((constants : Name → Option js.Value) → o ≡ js.plain [] constants → ⊥) → SameHeap p (with_owned (length u) o w) s (u ++ o ∷ [])
   owns o classed = record {
-    objects = λ i a e. subst (λ q. SameStored p (with_owned (length u) o w) (slice_get s i) q) (sym (front-there i a o e)) (stored-carry p w (with_owned (length u) o w) (λ i a e. e) (owned-still o) refl (slice_get s i) (slice_get u a) (h.objects i a e));
+    objects = λ i a e. subst (λ q. ObjectAt p (with_owned (length u) o w) i (slice_get s i) q) (sym (front-there i a o e)) (object-carry p w (with_owned (length u) o w) (λ i a e. e) (owned-still o) refl i (λ c k. k) (slice_get s i) (slice_get u a) (h.objects i a e));
     free = h.free;
+    made = h.made;
     differ = h.differ;
     marked = λ a constants e. marks a constants (a == length u) refl e;
     boxes = h.boxes;
@@ -153,11 +165,12 @@ module _ (p : Place) (w : World) (s : List ir.Stored) (u : List js.Stored) (h : 
       waits a b d false q e k = h.separate a b d e k
 
   -- the IR makes its object for one that is pending
-  pub births : (a : ℕ) (o : js.Stored) (q : ir.Stored) → w.pending a ≡ Some o → IsFree (Some q) → SameStored p w (Some q) (Some o) → SameHeap p (with_born (length s) a w) (s ++ q ∷ []) u
-  births a o q there free alike = record {
+  pub births : (a : ℕ) (o : js.Stored) (c : List ℕ) (q : ir.Stored) → w.pending a ≡ Some o → is_hijacked c ≡ false → MadeSomewhere p c → SameStored p w c (Some q) (Some o) → SameHeap p (with_born (length s) a c w) (s ++ q ∷ []) u
+  births a o c q there free made alike = record {
     objects = λ i b e. object i b (i == length s) refl e;
     differ = λ i j b e k. two i j b (i == length s) (j == length s) refl refl e k;
-    free = λ i b e. frees i b (i == length s) refl e;
+    free = λ i d e. frees i d (i == length s) e;
+    made = λ i d e. makes i d (i == length s) e;
     marked = h.marked;
     boxes = h.boxes;
     owned = h.owned;
@@ -168,7 +181,7 @@ module _ (p : Place) (w : World) (s : List ir.Stored) (u : List js.Stored) (h : 
   }
     where
       y : World
-      y = with_born (length s) a w
+      y = with_born (length s) a c w
 
       placed : (i b : ℕ) → w.place i ≡ Some b → y.place i ≡ Some b
       placed i b e = go (i == length s) refl
@@ -180,13 +193,20 @@ module _ (p : Place) (w : World) (s : List ir.Stored) (u : List js.Stored) (h : 
       some-same : (c d : ℕ) → ◌≡◌ {A = Option ℕ} (Some c) (Some d) → c ≡ d
       some-same c d e = cc
 
-      object : (i b : ℕ) (t : Bool) → (i == length s) ≡ t → (if t then Some a else w.place i) ≡ Some b → SameStored p y (slice_get (s ++ q ∷ []) i) (slice_get u b)
-      object i b true k e = subst (λ x. SameStored p y (slice_get (s ++ q ∷ []) x) (slice_get u b)) (sym (numbers-same i (length s) k)) (subst (λ x. SameStored p y x (slice_get u b)) (sym (get-end s q)) (subst (λ x. SameStored p y (Some q) (slice_get u x)) (some-same a b e) (subst (λ x. SameStored p y (Some q) x) (sym (h.pending a o there)) (stored-carry p w y placed (λ a o e. e) refl (Some q) (Some o) alike))))
-      object i b false k e = let r = (stored-there p w (slice_get s i) (slice_get u b) (h.objects i b e)).0 in subst (λ x. SameStored p y x (slice_get u b)) (r.is ∙ sym (get-front s (q ∷ []) i r.what r.is)) (stored-carry p w y placed (λ a o e. e) refl (slice_get s i) (slice_get u b) (h.objects i b e))
+      stands : (i b : ℕ) → (i == length s) ≡ true → Some a ≡ Some b → SameStored p y c (slice_get (s ++ q ∷ []) i) (slice_get u b)
+      stands i b k e = subst (λ x. SameStored p y c (slice_get (s ++ q ∷ []) x) (slice_get u b)) (sym (numbers-same i (length s) k)) (subst (λ x. SameStored p y c x (slice_get u b)) (sym (get-end s q)) (subst (λ x. SameStored p y c (Some q) (slice_get u x)) (some-same a b e) (subst (λ x. SameStored p y c (Some q) x) (sym (h.pending a o there)) (stored-carry p w y placed (λ a o e. e) refl c (Some q) (Some o) alike))))
 
-      frees : (i b : ℕ) (t : Bool) → (i == length s) ≡ t → (if t then Some a else w.place i) ≡ Some b → IsFree (slice_get (s ++ q ∷ []) i)
-      frees i b true k e = subst (λ x. IsFree (slice_get (s ++ q ∷ []) x)) (sym (numbers-same i (length s) k)) (subst IsFree (sym (get-end s q)) free)
-      frees i b false k e = let r = (stored-there p w (slice_get s i) (slice_get u b) (h.objects i b e)).0 in subst IsFree (r.is ∙ sym (get-front s (q ∷ []) i r.what r.is)) (h.free i b e)
+      object : (i b : ℕ) (t : Bool) → (i == length s) ≡ t → (if t then Some a else w.place i) ≡ Some b → ObjectAt p y i (slice_get (s ++ q ∷ []) i) (slice_get u b)
+      object i b true k e = record { class = c; told = ap (λ (t : Bool). if t then Some c else w.classes i) k; alike = stands i b k e }
+      object i b false k e = let r = (object-there p w i (slice_get s i) (slice_get u b) (h.objects i b e)).0 in subst (λ x. ObjectAt p y i x (slice_get u b)) (r.is ∙ sym (get-front s (q ∷ []) i r.what r.is)) (object-carry p w y placed (λ a o e. e) refl i (λ d l. ap (λ (t : Bool). if t then Some c else w.classes i) k ∙ l) (slice_get s i) (slice_get u b) (h.objects i b e))
+
+      frees : (i : ℕ) (d : List ℕ) (t : Bool) → (if t then Some c else w.classes i) ≡ Some d → is_hijacked d ≡ false
+      frees i d true e = subst (λ x. is_hijacked x ≡ false) (classes-same c d e) free
+      frees i d false e = h.free i d e
+
+      makes : (i : ℕ) (d : List ℕ) (t : Bool) → (if t then Some c else w.classes i) ≡ Some d → MadeSomewhere p d
+      makes i d true e = subst (MadeSomewhere p) (classes-same c d e) made
+      makes i d false e = h.made i d e
 
       two : (i j b : ℕ) (t v : Bool) → (i == length s) ≡ t → (j == length s) ≡ v → (if t then Some a else w.place i) ≡ Some b → (if v then Some a else w.place j) ≡ Some b → i ≡ j
       two i j b true true k l e f = numbers-same i (length s) k ∙ sym (numbers-same j (length s) l)
@@ -212,10 +232,11 @@ module _ (p : Place) (w : World) (s : List ir.Stored) (u : List js.Stored) (h : 
       sep b d f e false k l = h.separate b d f e l
 
   -- something else stands at an address of both
-  pub writes : (i a : ℕ) (q : ir.Stored) (o : js.Stored) → w.place i ≡ Some a → IsFree (Some q) → SameStored p w (Some q) (Some o) → SameHeap p w (set s i q) (set u a o)
-  writes i a q o there free alike = record {
+  pub writes : (i a : ℕ) (c : List ℕ) (q : ir.Stored) (o : js.Stored) → w.place i ≡ Some a → w.classes i ≡ Some c → SameStored p w c (Some q) (Some o) → SameHeap p w (set s i q) (set u a o)
+  writes i a c q o there told alike = record {
     objects = λ j b e. object j b (j == i) refl e;
-    free = λ j b e. frees j b (j == i) refl e;
+    free = h.free;
+    made = h.made;
     differ = h.differ;
     marked = h.marked;
     boxes = h.boxes;
@@ -229,10 +250,6 @@ module _ (p : Place) (w : World) (s : List ir.Stored) (u : List js.Stored) (h : 
       some-same : (c d : ℕ) → ◌≡◌ {A = Option ℕ} (Some c) (Some d) → c ≡ d
       some-same c d e = cc
 
-      frees : (j b : ℕ) (t : Bool) → (j == i) ≡ t → w.place j ≡ Some b → IsFree (slice_get (set s i q) j)
-      frees j b true k e = let r = (stored-there p w (slice_get s i) (slice_get u a) (h.objects i a there)).0 in subst (λ x. IsFree (slice_get (set s i q) x)) (sym (numbers-same j i k)) (subst IsFree (sym (get-set s i r.what q r.is)) free)
-      frees j b false k e = subst IsFree (sym (get-set_other s j i q (numbers-apart j i k))) (h.free j b e)
-
-      object : (j b : ℕ) (t : Bool) → (j == i) ≡ t → w.place j ≡ Some b → SameStored p w (slice_get (set s i q) j) (slice_get (set u a o) b)
-      object j b true k e = let same : j ≡ i = numbers-same j i k in let to : a ≡ b = some-same a b (sym there ∙ ap w.place (sym same) ∙ e) in let r = stored-there p w (slice_get s i) (slice_get u a) (h.objects i a there) in subst (λ x. SameStored p w (slice_get (set s i q) x) (slice_get (set u a o) b)) (sym same) (subst (λ x. SameStored p w (slice_get (set s i q) i) (slice_get (set u a o) x)) to (subst (λ x. SameStored p w x (slice_get (set u a o) a)) (sym (get-set s i r.0.what q r.0.is)) (subst (λ x. SameStored p w (Some q) x) (sym (get-set u a r.1.what o r.1.is)) alike)))
-      object j b false k e = subst (λ x. SameStored p w x (slice_get (set u a o) b)) (sym (get-set_other s j i q (numbers-apart j i k))) (subst (λ x. SameStored p w (slice_get s j) x) (sym (get-set_other u b a o (λ l. numbers-apart j i k (h.differ j i b e (subst (λ x. w.place i ≡ Some x) (sym l) there))))) (h.objects j b e))
+      object : (j b : ℕ) (t : Bool) → (j == i) ≡ t → w.place j ≡ Some b → ObjectAt p w j (slice_get (set s i q) j) (slice_get (set u a o) b)
+      object j b true k e = let same : j ≡ i = numbers-same j i k in let to : a ≡ b = some-same a b (sym there ∙ ap w.place (sym same) ∙ e) in let r = object-there p w i (slice_get s i) (slice_get u a) (h.objects i a there) in subst (λ x. ObjectAt p w x (slice_get (set s i q) x) (slice_get (set u a o) b)) (sym same) (record { class = c; told = told; alike = subst (λ x. SameStored p w c (slice_get (set s i q) i) (slice_get (set u a o) x)) to (subst (λ x. SameStored p w c x (slice_get (set u a o) a)) (sym (get-set s i r.0.what q r.0.is)) (subst (λ x. SameStored p w c (Some q) x) (sym (get-set u a r.1.what o r.1.is)) alike)) })
+      object j b false k e = subst (λ x. ObjectAt p w j x (slice_get (set u a o) b)) (sym (get-set_other s j i q (numbers-apart j i k))) (subst (λ x. ObjectAt p w j (slice_get s j) x) (sym (get-set_other u b a o (λ l. numbers-apart j i k (h.differ j i b e (subst (λ x. w.place i ≡ Some x) (sym l) there))))) (h.objects j b e))

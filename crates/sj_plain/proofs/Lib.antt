@@ -1,6 +1,7 @@
 pub mod Standing
 pub mod Worlds
 pub mod Heaps
+pub mod Classes
 pub mod Operators
 pub mod Told
 pub mod Orders
@@ -10,9 +11,12 @@ pub mod Divisions
 pub mod Tops
 pub mod Divided
 pub mod Objects
+pub mod Looked
 pub mod Received
+pub mod Reflected
 pub mod Tests
 pub mod Plain
 pub mod Runs
 pub mod Boxes
 pub use Rattle.ir_mean.proofs.HijackedCalls
+pub use Rattle.ir_mean.proofs.LookedUpCalls

@@ -2,8 +2,10 @@
 use Rattle.std.proofs.Common.{◌≡◌, zero, suc, Bool, true, false, List, [], ◌∷◌, None, Option, refl, sym, ap, ◌∙◌, subst, inl, inr, if◌then◌else◌, ⊎_elim}
 use Rattle.std.specs.Prelude.{ℤ, pos, negsuc, FitsSigned, ℕ, ◌&&◌, ◌||◌, ◌⊎◌, not}
 use Rattle.std.proofs.lemmas.Bool.{and_parts}
-use Rattle.body_rules.proofs.Direct.{Direct, direct}
-use Rattle.ir_mean.proofs.HijackedCalls.{hijacked_call}
+use Rattle.body_rules.proofs.Direct.{Direct, ByLookup, OnArray, ByName, Applied, directly, by_lookup, on_array, by_name, applied}
+use Rattle.ir_mean.proofs.HijackedCalls.{hijacked_call, takes_any}
+use Rattle.ir_mean.proofs.LookedUpCalls.{calls_instance, takes_instances}
+use Rattle.body_rules.proofs.BuiltFormsDirect.{array_valued, IsLookedUp}
 use Rattle.body_rules.proofs.Fitting.{fits-unary, fits-dividend, operates, not_no_type, unary-operand-value, left-operand-value, right-operand-value}
 use Rattle.body_rules.proofs.Locals.{there}
 use Rattle.body_rules.proofs.RulesGive.{when_not, ArgumentsFit, Takes, its_types, texts, of_division, of_identity, each_made, arguments_there, operation}
@@ -14,7 +16,8 @@ use Rattle.body_rules.specs.Built.{Usable, may_make, divides}
 use Rattle.body_rules.specs.Plain.{is_plain, are_plain, is_no_type}
 use Rattle.sj_names.specs.declared.method_names.Namespace.{Namespace}
 use Rattle.sj_names.specs.declared.method_names.MethodName.{MethodName}
-use Rattle.ir_mean.specs.Subtypes.{IsSub}
+use Rattle.ir_mean.specs.Known.{object}
+use Rattle.ir_mean.specs.Subtypes.{IsSub, to_any}
 use Rattle.std.specs.Int.{w32, w64}
 use Rattle.int_arithmetic.proofs.Longs.{in_range-fits}
 use Rattle.outcomes.specs.Outcome.{Out, done, wrong, then_do}
@@ -34,7 +37,7 @@ use Rattle.body_rules.specs.Coercions.{is_char, coerced, coerced_arguments, coer
 use Rattle.sj_names.specs.declared.references.TypeRef.{TypeRef}
 use Rattle.body_rules.specs.Desugar.{member, types_of, received_text, expression_of, all_expressions}
 use Rattle.body_rules.specs.Texts.{operand_of}
-use Rattle.body_rules.specs.Templates.{check_name, member_name, expression_template, expression_templates, binary_template, unary_template, is_nonzero_literal}
+use Rattle.body_rules.specs.Templates.{check_name, member_name, looked_up_template, expression_template, expression_templates, binary_template, unary_template, is_nonzero_literal}
 use Rattle.sj_names.proofs.Same.{impossible}
 use Rattle.sj_names.specs.declared.method_names.Member.{Member}
 use Rattle.sj_trees.specs.Term.{Term, Terms, no_terms, more_terms, var_def, skip, block_of, labeled, assign, return_to, if_then, while_loop, do_while, throw, match_on, new_object, select, select_static, apply, apply_statically, this_ref, apply_static, unary_op, binary_op, is_instance_of, as_instance_of, log_line, undefined_literal, null_literal, boolean_literal, char_literal, byte_literal, short_literal, int_literal, long_literal, string_literal, var_ref}
@@ -53,14 +56,16 @@ use Rattle.sj_plain.specs.Conditions.{InScope, IsNoConstruction, Plain}
 use Rattle.body_rules.specs.Locals.{Scope}
 use Rattle.sj_plain.specs.Settings.{Setting, shown, SameState, Inside, Valued, valued, Lawful, Holding, holding, Sees, Receiving, no_receiver, on_receiver, usable, a_function, function_of_member, function_call}
 use Rattle.sj_plain.specs.Standing.{suits}
-use Rattle.body_rules.specs.Standing.{Fits, FitAll, types_referred, call_type}
+use Rattle.body_rules.specs.Standing.{Fits, FitAll, types_referred, call_type, MayStand}
 use Rattle.sj_plain.proofs.Divided.{divided_operands}
 use Rattle.sj_plain.proofs.Divisions.{division_alike, dividend_alone}
 use Rattle.sj_plain.proofs.Operators.{template_value, is_direct}
+use Rattle.sj_plain.proofs.Reflected.{reflected_call_alike}
+use Rattle.sj_plain.proofs.Looked.{as_instances, array_call_alike, looked_call_alike}
 use Rattle.sj_plain.proofs.Objects.{select_alike, static_alike, new_alike, received_call_alike, checked_alike}
 use Rattle.sure_receivers.specs.Sure.{is_sure}
 use Rattle.sj_names.specs.declared.method_names.Namespace.TheVariants.{Public, Private, Constructor}
-use Rattle.sj_plain.proofs.Received.{value_none, not_none, class_value, value_below, value_apart, may_be_checked, Received, received}
+use Rattle.sj_plain.proofs.Received.{value_none, not_none, class_value, value_below, value_apart, may_be_checked, Received, received, looked_stand}
 use Rattle.sj_plain.proofs.Orders.{ActsAlike, OperandAlike, OperandsAlike, no_operands, more_operands, all_shown, valued-weaken, in_order_alike}
 use Rattle.sj_plain.proofs.Shifts.{left_shift_alike, right_shift_alike, zero_shift_alike, joined_alike}
 use Rattle.sj_plain.proofs.Boxes.{operand_coerced, operands_coerced, stood, stood-fits, operand_stood, all_stood, all-stood-fit, StandsFor, StandForAll, stands-for, stand-for-all, receiver-coerced}
@@ -425,15 +430,107 @@ module _ (z : Setting) (lawful : Lawful z) (scope : Scope) where
     -- a call that is looked up, on a receiver of a hijacked class: what the member does that this class runs, and its text
     applied_tree : (p : Position) (e : Term) (m : MethodName) (ts : Terms) (t : IrType) → (d : Direct z.place.classes (usable z) scene p e m ts t) → TreeAlike (apply_statically p e d.is.direct.class Public m ts t) → TreeAlike (apply p e m ts t)
     applied_tree p e m ts t d one = record {
-      alike = λ w env s sc u sees same. by_equal w env t _ _ _ _ (λ i. ir_meaning.in_order (ir_meaning.receiving z.place.classes (is_sure env.sure e) z.low (ir_meaning.step z.place.classes z.low e) ∷ ir_meaning.operands z.place.classes z.low ts) (runs i) env s) (λ i. shown z (written i) sc u) (one.alike w env s sc u sees same);
+      alike = λ w env s sc u sees same. by_equal w env t _ _ _ _ ((λ i. ir_meaning.in_order (takes env i ∷ ir_meaning.operands z.place.classes z.low ts) (ir_meaning.call_method z.place.classes z.low (type_of_term e) m m.result) env s) ∙ (λ i. ir_meaning.in_order (ir_meaning.receiving z.place.classes (is_sure env.sure e) z.low (ir_meaning.step z.place.classes z.low e) ∷ ir_meaning.operands z.place.classes z.low ts) (runs i) env s)) (λ i. shown z (written i) sc u) (one.alike w env s sc u sees same);
       told = subst (λ x. tells t (expression_template z.place.name z.place.label (usable z).lookup x) ≡ true) (sym written) one.told;
     }
       where
         runs : ir_meaning.call_method z.place.classes z.low (type_of_term e) m m.result ≡ ir_meaning.call_on z.place.classes z.low (ir_meaning.static_target z.place.classes d.is.direct.class Public m)
         runs = hijacked_call z.place.classes z.low (type_of_term e) m d.is.direct.class d.is.direct.receiver d.is.direct.hijacked d.is.result d.is.named
 
+        takes : (env : ir.Env) → ir_meaning.taking z.place.classes (ir_meaning.class_looked_up (type_of_term e) m.result) (ir_meaning.receiving z.place.classes (is_sure env.sure e) z.low (ir_meaning.step z.place.classes z.low e)) ≡ ir_meaning.receiving z.place.classes (is_sure env.sure e) z.low (ir_meaning.step z.place.classes z.low e)
+        takes env = takes_any z.place.classes z.low (type_of_term e) m d.is.direct.class d.is.direct.receiver d.is.direct.hijacked (ir_meaning.receiving z.place.classes (is_sure env.sure e) z.low (ir_meaning.step z.place.classes z.low e))
+
         written : expression_of z.code.sure (apply p e m ts t) ≡ expression_of z.code.sure (apply_statically p e d.is.direct.class Public m ts t)
         written = ap (λ k. core.receiver_call k (coerced_receiver (type_of_term e) (received_text (is_sure z.code.sure e) (expression_of z.code.sure e))) (expressions_of (coerced_arguments m.params (types_of ts) (all_expressions z.code.sure ts)))) d.is.callee
+
+    -- a call that is looked up tells no type by its text
+    looked_told : (t : IrType) (b : Bool) (m : MethodName) (x : tree.Expression) (xs : tree.Expressions) → tells t (looked_up_template b m x xs) ≡ true
+    looked_told t true m x xs = refl
+    looked_told t false m x xs = refl
+
+    -- a call of a method that is looked up
+    looked_tree : (p : Position) (e : Term) (m : MethodName) (ts : Terms) (t : IrType) (d : ByLookup z.place.classes (usable z) scene e m) → t ≡ call_type m.result → MayStand (usable z) (class_type d.is.lookup.class) (type_of_term e) × ArgumentsFit z.place.classes (usable z) ts m.params → TreeAlike e → (ArgumentsFit z.place.classes (usable z) ts m.params → RowAlike ts) → TreeAlike (apply p e m ts t)
+    looked_tree p e m ts t d result may one others = record {
+      alike = λ w env s sc u sees same. by_equal w env t _ _ _ _ ((λ i. ir_meaning.in_order (takes env i ∷ ir_meaning.operands z.place.classes z.low ts) (ir_meaning.call_method z.place.classes z.low (type_of_term e) m m.result) env s) ∙ (λ i. ir_meaning.in_order ((λ env' s'. ir.go_on (received env env' s') (ir_meaning.only_instance z.place.classes l.class)) ∷ ir_meaning.operands z.place.classes z.low ts) (runs i) env s)) (λ i. shown z (written i) sc u) (subst (λ k. Sim z.direction (Valued z.place w env k) (ir_meaning.in_order ((λ env' s'. ir.go_on (received env env' s') (ir_meaning.only_instance z.place.classes l.class)) ∷ ir_meaning.operands z.place.classes z.low ts) (ir_meaning.call_instance z.place.classes z.low l.class m) env s) (shown z (core.receiver_call (callees.LookedUp l.class m) (coerced (class_type l.class) (type_of_term e) (received_text (is_sure z.code.sure e) (expression_of z.code.sure e))) (expressions_of (coerced_arguments m.params (types_of ts) (all_expressions z.code.sure ts)))) sc u)) (sym result) (looked_call_alike z lawful l.class m l.free l.there (stood (class_type l.class) (type_of_term e) on.0) (all_stood (types_referred m.params) (types_of ts) fit.0) (received env) (ir_meaning.operands z.place.classes z.low ts) (coerced (class_type l.class) (type_of_term e) (received_text (is_sure z.code.sure e) (expression_of z.code.sure e))) (coerced_arguments m.params (types_of ts) (all_expressions z.code.sure ts)) (stood-fits (class_type l.class) (type_of_term e) on.0) (all-stood-fit (types_referred m.params) (types_of ts) fit.0) w env s sc u sees.inside (in_front _ _ _ w env sc _ _ _ (receiver_stood l.class (type_of_term e) on _ _ w env sc sees.inside (receiver_alike e one d.checked w env sc sees)) (passed m.params ts fit w env sc sees.inside (others may.1 w env sc sees))) same));
+      told = subst (λ x. tells t (expression_template z.place.name z.place.label (usable z).lookup x) ≡ true) (sym written) (looked_told t ((usable z).lookup.has_hijacked l.class) m _ _);
+    }
+      where
+        l : IsLookedUp (usable z) (type_of_term e) m
+        l = d.is.lookup
+
+        on : StandsFor z (class_type l.class) (type_of_term e)
+        on = stands-for z lawful (class_type l.class) (type_of_term e) (l.below z.place.classes) may.0
+
+        fit : StandForAll z (types_referred m.params) (types_of ts)
+        fit = stand-for-all z lawful ts m.params may.1
+
+        received : ir.Env → ir.Run
+        received env = ir_meaning.receiving z.place.classes (is_sure env.sure e) z.low (ir_meaning.step z.place.classes z.low e)
+
+        takes : (env : ir.Env) → ir_meaning.taking z.place.classes (ir_meaning.class_looked_up (type_of_term e) m.result) (received env) ≡ (λ env' s'. ir.go_on (received env env' s') (ir_meaning.only_instance z.place.classes l.class))
+        takes env = takes_instances z.place.classes (type_of_term e) m l.class l.receiver l.free d.is.result d.is.named (received env)
+
+        runs : ir_meaning.call_method z.place.classes z.low (type_of_term e) m m.result ≡ ir_meaning.call_instance z.place.classes z.low l.class m
+        runs = calls_instance z.place.classes (type_of_term e) m l.class l.receiver l.free d.is.result d.is.named z.low
+
+        written : expression_of z.code.sure (apply p e m ts t) ≡ core.receiver_call (callees.LookedUp l.class m) (coerced (class_type l.class) (type_of_term e) (received_text (is_sure z.code.sure e) (expression_of z.code.sure e))) (expressions_of (coerced_arguments m.params (types_of ts) (all_expressions z.code.sure ts)))
+        written = ap (λ k. core.receiver_call k (coerced_receiver (type_of_term e) (received_text (is_sure z.code.sure e) (expression_of z.code.sure e))) (expressions_of (coerced_arguments m.params (types_of ts) (all_expressions z.code.sure ts)))) d.is.callee ∙ ap (λ x. core.receiver_call (callees.LookedUp l.class m) x (expressions_of (coerced_arguments m.params (types_of ts) (all_expressions z.code.sure ts)))) (receiver-coerced l.class (type_of_term e) (received_text (is_sure z.code.sure e) (expression_of z.code.sure e)))
+
+    -- a call of a method of an array
+    first_alike : (t : IrType) (r : ir.Run) (e : core.Expression) (w : World) (env : ir.Env) (sc : js.Scope) → OperandsAlike z w env sc (t ∷ []) (r ∷ []) (e ∷ []) → OperandAlike z w env sc t r (shown z e)
+    first_alike _ _ _ w env sc (more_operands t r e _ _ _ told one no_operands) = one
+
+    array_tree : (p : Position) (e : Term) (m : MethodName) (ts : Terms) (t : IrType) → OnArray z.place.classes (usable z) scene e m → TreeAlike e → TreeAlike (apply p e m ts t)
+    array_tree p e m ts t d one = record {
+      alike = λ w env s sc u sees same. by_equal w env t _ _ _ _ (λ i. ir_meaning.in_order (taken env i ∷ ir_meaning.operands z.place.classes z.low ts) act env s) (λ i. shown z (written i) sc u) (array_call_alike z d.array.reference m (type_of_term e) t d.array.is act (received env) (ir_meaning.operands z.place.classes z.low ts) receiver (coerced_arguments m.params (types_of ts) (all_expressions z.code.sure ts)) w env s sc u (first_alike (type_of_term e) (received env) receiver w env sc (receiver_alike e one d.checked w env sc sees) w s u (grows-refl w) same));
+      told = subst (λ x. tells t (expression_template z.place.name z.place.label (usable z).lookup x) ≡ true) (sym written) refl;
+    }
+      where
+        act : List ir.Value → ir.Run
+        act = ir_meaning.call_method z.place.classes z.low (type_of_term e) m m.result
+
+        receiver : core.Expression
+        receiver = received_text (is_sure z.code.sure e) (expression_of z.code.sure e)
+
+        received : ir.Env → ir.Run
+        received env = ir_meaning.receiving z.place.classes (is_sure env.sure e) z.low (ir_meaning.step z.place.classes z.low e)
+
+        taken : (env : ir.Env) → ir_meaning.taking z.place.classes (ir_meaning.class_looked_up (type_of_term e) m.result) (received env) ≡ as_instances z object (received env)
+        taken env = takes_instances z.place.classes (type_of_term e) m object d.array.receiver refl d.is.result d.is.named (received env)
+
+        written : expression_of z.code.sure (apply p e m ts t) ≡ core.receiver_call (callees.OfArray m) receiver (expressions_of (coerced_arguments m.params (types_of ts) (all_expressions z.code.sure ts)))
+        written = ap (λ k. core.receiver_call k (coerced_receiver (type_of_term e) receiver) (expressions_of (coerced_arguments m.params (types_of ts) (all_expressions z.code.sure ts)))) d.is.callee ∙ ap (λ k. core.receiver_call (callees.OfArray m) (coerced_receiver k receiver) (expressions_of (coerced_arguments m.params (types_of ts) (all_expressions z.code.sure ts)))) d.array.is
+
+    -- a call by a reflective name
+    named_tree : (p : Position) (e : Term) (m : MethodName) (ts : Terms) (t : IrType) (d : ByName z.place.classes (usable z) scene e m) → t ≡ call_type m.result → MayStand (usable z) (class_type object) (type_of_term e) × ArgumentsFit z.place.classes (usable z) ts m.params → TreeAlike e → (ArgumentsFit z.place.classes (usable z) ts m.params → RowAlike ts) → TreeAlike (apply p e m ts t)
+    named_tree p e m ts t d result may one others = record {
+      alike = λ w env s sc u sees same. by_equal w env t _ _ _ _ (λ i. ir_meaning.in_order (ir_meaning.taking z.place.classes (ir_meaning.class_looked_up (type_of_term e) (d.is.named i)) (received env) ∷ ir_meaning.operands z.place.classes z.low ts) (ir_meaning.call_method z.place.classes z.low (type_of_term e) m (d.is.named i)) env s) (λ i. shown z (written i) sc u) (subst (λ k. Sim z.direction (Valued z.place w env k) (ir_meaning.in_order (received env ∷ ir_meaning.operands z.place.classes z.low ts) (ir_meaning.call_reflective z.place.classes z.low m) env s) (shown z (core.receiver_call (callees.Reflective m) (coerced Any (type_of_term e) receiver) (expressions_of (coerced_arguments m.params (types_of ts) (all_expressions z.code.sure ts)))) sc u)) (sym (result ∙ ap call_type d.is.named)) (reflected_call_alike z lawful m d.is.there (stood Any (type_of_term e) on.0) (all_stood (types_referred m.params) (types_of ts) fit.0) (received env) (ir_meaning.operands z.place.classes z.low ts) (coerced Any (type_of_term e) receiver) (coerced_arguments m.params (types_of ts) (all_expressions z.code.sure ts)) (stood-fits Any (type_of_term e) on.0) (all-stood-fit (types_referred m.params) (types_of ts) fit.0) w env s sc u sees.inside (in_front _ _ _ w env sc _ _ _ (receiver_stood object (type_of_term e) on _ _ w env sc sees.inside (receiver_alike e one d.checked w env sc sees)) (passed m.params ts fit w env sc sees.inside (others may.1 w env sc sees))) same));
+      told = subst (λ x. tells t (expression_template z.place.name z.place.label (usable z).lookup x) ≡ true) (sym written) refl;
+    }
+      where
+        on : StandsFor z Any (type_of_term e)
+        on = stands-for z lawful Any (type_of_term e) (to_any refl d.value) may.0
+
+        fit : StandForAll z (types_referred m.params) (types_of ts)
+        fit = stand-for-all z lawful ts m.params may.1
+
+        receiver : core.Expression
+        receiver = received_text (is_sure z.code.sure e) (expression_of z.code.sure e)
+
+        received : ir.Env → ir.Run
+        received env = ir_meaning.receiving z.place.classes (is_sure env.sure e) z.low (ir_meaning.step z.place.classes z.low e)
+
+        written : expression_of z.code.sure (apply p e m ts t) ≡ core.receiver_call (callees.Reflective m) (coerced Any (type_of_term e) receiver) (expressions_of (coerced_arguments m.params (types_of ts) (all_expressions z.code.sure ts)))
+        written = ap (λ k. core.receiver_call k (coerced_receiver (type_of_term e) receiver) (expressions_of (coerced_arguments m.params (types_of ts) (all_expressions z.code.sure ts)))) d.is.callee ∙ ap (λ x. core.receiver_call (callees.Reflective m) x (expressions_of (coerced_arguments m.params (types_of ts) (all_expressions z.code.sure ts)))) (receiver-coerced object (type_of_term e) receiver)
+
+    called_tree : (p : Position) (e : Term) (m : MethodName) (ts : Terms) (t : IrType) → Kept (apply p e m ts t) → Makes (is_boxed Any e || any_is_boxed m.params ts) → ((c : List ℕ) → IsSub z.place.classes (type_of_term e) (class_type c) → TreeAlike e) → (ArgumentsFit z.place.classes (usable z) ts m.params → RowAlike ts) → TreeAlike (apply p e m ts t)
+    called_tree p e m ts t h may one others = by (applied z.place.classes (usable z) scene p e m ts t h.0)
+      where
+        by : Applied z.place.classes (usable z) scene p e m ts t → TreeAlike (apply p e m ts t)
+        by (directly d) = applied_tree p e m ts t d (receiving_tree p e d.is.direct.class Public m ts t (d.here, h.1, h.2) may tt (one d.is.direct.class (d.is.direct.below z.place.classes)) others)
+        by (by_name d) = named_tree p e m ts t d h.0.meets.1 (looked_stand z.place.classes (usable z) e object m ts may h.0.finds h.0.meets.2) (one object (to_any refl d.value)) others
+        by (on_array d) = array_tree p e m ts t d (one object (to_any refl (array_valued (type_of_term e) d.array)))
+        by (by_lookup d) = looked_tree p e m ts t d h.0.meets.1 (looked_stand z.place.classes (usable z) e d.is.lookup.class m ts may h.0.finds h.0.meets.2) (one d.is.lookup.class (d.is.lookup.below z.place.classes)) others
 
     mutual
       -- both directions at once: what a plain tree comes to, its expression comes to
@@ -455,11 +552,10 @@ module _ (z : Setting) (lawful : Lawful z) (scope : Scope) where
           let operands = each_made (usable z) (boxes_as_text e) (any_boxes_as_text ts) parts.1 in
           receiving_tree p e c n m ts t h parts.0 v (tree_alike e h.1 operands.0 x.0 (value_apart z.place.classes (usable z) scene e h.1 (value_below z.place.classes law (type_of_term e) (class_type c) h.0.meets.2 (class_value c)))) (trees_alike ts m.params h.2 operands.1 x.1)
       tree_alike (apply p e m ts t) h boxed k v =
-          let d = direct z.place.classes (usable z) scene p e m ts t h.0 in
           let x = and_parts (is_plain e) (are_plain ts) k in
           let parts = each_made (usable z) (is_boxed Any e || any_is_boxed m.params ts) (boxes_as_text e || any_boxes_as_text ts) boxed in
           let operands = each_made (usable z) (boxes_as_text e) (any_boxes_as_text ts) parts.1 in
-          applied_tree p e m ts t d (receiving_tree p e d.is.direct.class Public m ts t (d.here, h.1, h.2) parts.0 tt (tree_alike e h.1 operands.0 x.0 (value_apart z.place.classes (usable z) scene e h.1 (value_below z.place.classes law (type_of_term e) (class_type d.is.direct.class) (d.is.direct.below z.place.classes) (class_value d.is.direct.class)))) (trees_alike ts m.params h.2 operands.1 x.1))
+          called_tree p e m ts t h parts.0 (λ c on. tree_alike e h.1 operands.0 x.0 (value_apart z.place.classes (usable z) scene e h.1 (value_below z.place.classes law (type_of_term e) (class_type c) on (class_value c)))) (trees_alike ts m.params h.2 operands.1 x.1)
       tree_alike (select_static p c f t) h boxed k v = record { alike = λ w env s sc u sees same. static_alike z lawful.base c f t h.built w env s sc u sees.inside same; told = refl }
       tree_alike (this_ref p t) h boxed k v = this_tree p t h
       tree_alike (apply_static p c n m ts t) h boxed k v = let parts = each_made (usable z) (any_is_boxed m.params ts) (any_boxes_as_text ts) boxed in call_tree p c n m ts t h parts.0 (trees_alike ts m.params h.1 parts.1 k (arguments_there z.place.classes (usable z) ts m.params parts.0 h.0.finds h.0.meets.2))

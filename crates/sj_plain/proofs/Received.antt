@@ -75,6 +75,13 @@ received w has checked e c n m ts built boxed values on fits = record {
     may : (may_make has (is_boxed Any e) ≡ true) × (may_make has (any_is_boxed m.params ts) ≡ true)
     may = each_made has (is_boxed Any e) (any_is_boxed m.params ts) boxed
 
+-- what the rules give of the receiver and the arguments of a call that is looked up
+pub looked_stand : (w : Classes) (has : Usable) (e : Term) (c : List ℕ) (m : MethodName) (ts : Terms) → may_make has (is_boxed Any e || any_is_boxed m.params ts) ≡ true → AllHaveValues m.params → rules.ArgumentsFit w ts m.params → MayStand has (class_type c) (type_of_term e) × ArgumentsFit w has ts m.params
+looked_stand w has e c m ts boxed values fits = (stands-at-class has c (type_of_term e) may.0, arguments_there w has ts m.params may.1 values fits)
+  where
+    may : (may_make has (is_boxed Any e) ≡ true) × (may_make has (any_is_boxed m.params ts) ≡ true)
+    may = each_made has (is_boxed Any e) (any_is_boxed m.params ts) boxed
+
 -- a receiver that may be checked is never null, or its check is there
 pub may_be_checked : (has : Usable) (sure : List ℕ → Bool) (e : Term) → may_check has sure e ≡ true → (is_sure sure e ≡ true) ⊎ (has.helper check_name ≡ true)
 may_be_checked has sure e h = either_true (is_sure sure e) (has.helper check_name) h

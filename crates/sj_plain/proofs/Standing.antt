@@ -5,6 +5,7 @@ use Rattle.std.specs.Cmp.Lexicographic.{pointwise}
 use Rattle.ir_mean.specs.States as ir
 use Rattle.body_rules.specs.Coercions.{is_char}
 use Rattle.sj_names.proofs.Same.{impossible, text-same}
+use Rattle.sj_names.specs.declared.references.ArrayRef.{ArrayRef}
 use Rattle.sj_trees.specs.Types.{class_type}
 use Rattle.sj_trees.specs.declared.types.IrType.{IrType}
 use Rattle.sj_trees.specs.declared.types.IrType.TheVariants.{Any, Nothing, Undefined, Boolean, Char, Byte, Short, Int, Long, String, Class, Null, Array, NoType}
@@ -35,7 +36,7 @@ type-open c free = go (pointwise nat_eq c (codes "java.lang.Object"))
 not_bare : (t : IrType) (i : ℕ) → suits t (ir.reference i) ≡ true → is_bare t ≡ false
 not_bare Any i h = refl
 not_bare (Class c) i h = not-true (is_bare (Class c)) h
-not_bare (Array r) i h = refl
+not_bare (Array r) i h = impossible h
 not_bare Null i h = impossible h
 not_bare NoType i h = impossible h
 not_bare Nothing i h = impossible h
@@ -55,10 +56,9 @@ either_way false b h k = impossible (sym k ∙ h)
 -- where the second stands for the first, and objects stand at the second, they do at the first
 open-fits : (expected own : IrType) → Fits expected own → is_bare own ≡ false → not (is_bare expected) ≡ true
 open-fits Any own f b = refl
-open-fits (Array r) own f b = refl
 open-fits (Class c) Any f b = either_way (not (is_bare (Class c))) false f refl
-open-fits (Class c) (Array r) f b = either_way (not (is_bare (Class c))) false f refl
 open-fits (Class c) (Class d) f b = either_way (not (is_bare (Class c))) (is_bare (Class d)) f b
+open-fits expected (Array r) f b = impossible (sym b)
 open-fits expected Null f b = impossible (sym b)
 open-fits expected NoType f b = impossible (sym b)
 open-fits expected Nothing f b = impossible (sym b)
@@ -70,7 +70,6 @@ open-fits expected Short f b = impossible (sym b)
 open-fits expected Int f b = impossible (sym b)
 open-fits expected Long f b = impossible (sym b)
 open-fits expected String f b = impossible (sym b)
-open-fits Null (Class d) f b = impossible (sym b ∙ f)
 open-fits NoType (Class d) f b = impossible (sym b ∙ f)
 open-fits expected own f b = impossible f
 
@@ -78,7 +77,7 @@ open-fits expected own f b = impossible f
 pub suits_open : (t : IrType) (u : ℕ) → not (is_bare t) ≡ true → suits t (ir.char u) ≡ true
 suits_open Any u h = refl
 suits_open (Class c) u h = h
-suits_open (Array r) u h = refl
+suits_open (Array r) u h = impossible h
 suits_open Char u h = refl
 suits_open Null u h = impossible h
 suits_open NoType u h = impossible h
@@ -94,7 +93,7 @@ suits_open String u h = impossible h
 refers_open : (t : IrType) (i : ℕ) → not (is_bare t) ≡ true → suits t (ir.reference i) ≡ true
 refers_open Any i h = refl
 refers_open (Class c) i h = h
-refers_open (Array r) i h = refl
+refers_open (Array r) i h = impossible h
 refers_open Char i h = impossible h
 refers_open Null i h = impossible h
 refers_open NoType i h = impossible h
@@ -112,8 +111,16 @@ char-suits Char Char u f h = refl
 char-suits expected Char u f h = impossible f
 char-suits expected Any u f h = suits_open expected u (open-fits expected Any f refl)
 char-suits expected (Class d) u f h = suits_open expected u (open-fits expected (Class d) f (not-true (is_bare (Class d)) h))
-char-suits expected (Array r) u f h = suits_open expected u (open-fits expected (Array r) f refl)
 char-suits expected own u f h = impossible h
+
+-- null suits each type of arrays
+null-suits : (r : ArrayRef) (v : ir.Value) → suits Null v ≡ true → suits (Array r) v ≡ true
+null-suits r ir.null h = refl
+null-suits r _ h = impossible h
+
+array-suits : (r q : ArrayRef) (v : ir.Value) → suits (Array q) v ≡ true → suits (Array r) v ≡ true
+array-suits r q ir.null h = refl
+array-suits r q _ h = impossible h
 
 pub fits-suits : (expected own : IrType) (v : ir.Value) → Fits expected own → suits own v ≡ true → suits expected v ≡ true
 fits-suits expected Nothing v f h = impossible h
@@ -140,10 +147,11 @@ fits-suits Any Char v f h = impossible f
 fits-suits Any own v f h = refl
 fits-suits (Class c) Char v f h = impossible f
 fits-suits (Class c) own v f h = refl
-fits-suits Null Char v f h = impossible f
-fits-suits Null own v f h = refl
-fits-suits (Array r) Char v f h = impossible f
-fits-suits (Array r) own v f h = refl
+fits-suits Null Null v f h = h
+fits-suits Null own v f h = impossible f
+fits-suits (Array r) Null v f h = null-suits r v h
+fits-suits (Array r) (Array q) v f h = array-suits r q v h
+fits-suits (Array r) own v f h = impossible f
 fits-suits NoType Char v f h = impossible f
 fits-suits NoType own v f h = refl
 
@@ -151,7 +159,7 @@ fits-suits NoType own v f h = refl
 pub bare-refers : (t : IrType) (i : ℕ) → is_bare t ≡ true → suits t (ir.reference i) ≡ false
 bare-refers Any i b = impossible b
 bare-refers (Class c) i b = ap not b
-bare-refers (Array r) i b = impossible b
+bare-refers (Array r) i b = refl
 bare-refers Null i b = refl
 bare-refers NoType i b = refl
 bare-refers Nothing i b = refl
@@ -168,7 +176,7 @@ bare-refers String i b = refl
 pub open-refers : (t : IrType) (i : ℕ) → is_bare t ≡ false → suits t (ir.reference i) ≡ true
 open-refers Any i b = refl
 open-refers (Class c) i b = ap not b
-open-refers (Array r) i b = refl
+open-refers (Array r) i b = impossible (sym b)
 open-refers Null i b = impossible (sym b)
 open-refers NoType i b = impossible (sym b)
 open-refers Nothing i b = impossible (sym b)
@@ -185,7 +193,6 @@ open-refers String i b = impossible (sym b)
 pub bare-chars : (t : IrType) (u : ℕ) → is_bare t ≡ true → is_char t ≡ false → suits t (ir.char u) ≡ false
 bare-chars (Class c) u b n = ap not b
 bare-chars Any u b n = impossible b
-bare-chars (Array r) u b n = impossible b
 bare-chars Char u b n = impossible (sym n)
 bare-chars _ u b n = refl
 

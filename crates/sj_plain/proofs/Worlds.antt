@@ -9,14 +9,14 @@ use Rattle.body_rules.specs.Coercions.{is_char}
 use Rattle.sj_trees.specs.declared.types.IrType.{IrType}
 
 pub grows-refl : (w : World) → Grows w w
-grows-refl w = record { places = λ i a e. e; owns = λ a o e. e; pends = λ a o e. e; boxes = refl }
+grows-refl w = record { places = λ i a e. e; classes = λ i a c e k. k; owns = λ a o e. e; pends = λ a o e. e; boxes = refl }
 
 pub grows-trans : (u v w : World) → Grows u v → Grows v w → Grows u w
-grows-trans u v w g h = record { places = λ i a e. h.places i a (g.places i a e); owns = λ a o e. h.owns a o (g.owns a o e); pends = λ a o e. h.pends a o (g.pends a o e); boxes = g.boxes ∙ h.boxes }
+grows-trans u v w g h = record { places = λ i a e. h.places i a (g.places i a e); classes = λ i a c e k. h.classes i a c (g.places i a e) (g.classes i a c e k); owns = λ a o e. h.owns a o (g.owns a o e); pends = λ a o e. h.pends a o (g.pends a o e); boxes = g.boxes ∙ h.boxes }
 
 -- an object holds a char wherever the emitted code has for itself what it had
 box-carry : (u w : World) (c a : ℕ) → ((a : ℕ) (o : js.Stored) → u.owned a ≡ Some o → w.owned a ≡ Some o) → u.boxes ≡ w.boxes → IsBox u c a → IsBox w c a
-box-carry u w c a h k b = record { properties = b.properties; address = b.address; constants = b.constants; owned = subst (λ ls. w.owned a ≡ Some (js.plain ls b.properties)) k (h a (js.plain u.boxes b.properties) b.owned); char = b.char; held = b.held; constants_owned = h b.address (js.plain [] b.constants) b.constants_owned; marked = b.marked }
+box-carry u w c a h k b = record { properties = b.properties; address = b.address; constants = b.constants; owned = subst (λ ls. w.owned a ≡ Some (js.plain ls b.properties)) k (h a (js.plain u.boxes b.properties) b.owned); char = b.char; held = b.held; constants_owned = h b.address (js.plain [] b.constants) b.constants_owned; marked = b.marked; bare = b.bare }
 
 -- a value stands for another wherever each address has its address, too
 pub stands-carry : (u w : World) (raw : Bool) (v : ir.Value) (x : js.Value) → ((i a : ℕ) → u.place i ≡ Some a → w.place i ≡ Some a) → ((a : ℕ) (o : js.Stored) → u.owned a ≡ Some o → w.owned a ≡ Some o) → u.boxes ≡ w.boxes → Stands u raw v x → Stands w raw v x

@@ -10,13 +10,14 @@ use Rattle.helper_rules.specs.declared.kinds.Helper.{Helper}
 use Rattle.helper_rules.specs.declared.kinds.Helper.TheVariants.{BoxedChar, ConstantsOf, NotNull}
 use Rattle.helper_rules.specs.declared.kinds.Helper.TheVariants as helpers
 use Rattle.helper_rules.specs.declared.kinds.Kind.TheVariants as kinds
-use Rattle.ir_mean.specs.Dispatch.{chain_of}
+use Rattle.ir_mean.specs.Dispatch.{chain_of, is_ancestor}
 use Rattle.ir_mean.specs.Meaning as ir_meaning
 use Rattle.ir_mean.specs.Operators.{binary_value}
 use Rattle.ir_mean.specs.States as ir
 use Rattle.ir_mean.specs.World as ir_world
 use Rattle.js_mean.specs.Files.{owner}
 use Rattle.js_mean.specs.Meaning as js_meaning
+use Rattle.js_mean.specs.Objects as js_objects
 use Rattle.js_mean.specs.States as js
 use Rattle.js_mean.specs.Shows.{object_shown, class_marked}
 use Rattle.outcomes.specs.Shown as shown_ends
@@ -24,18 +25,20 @@ use Rattle.sj_core.specs.Terms as core
 use Rattle.body_rules.specs.Coercions.{is_char}
 use Rattle.body_rules.specs.Tests.{test_name, cast_name}
 use Rattle.body_rules.specs.Templates.{called_member, check_name, member_name, static_name, setter_name, expression_template, statement_templates}
-use Rattle.sj_mangling.specs.Bindings.{class_binding, field_binding}
+use Rattle.sj_mangling.specs.Bindings.{class_binding, field_binding, method_binding}
 use Rattle.sj_mangling.specs.declared.bindings.ClassBinding.TheVariants.{Class, Constants, Marker}
 use Rattle.sj_mangling.specs.declared.bindings.FieldBinding.TheVariants.{Property}
+use Rattle.sj_mangling.specs.declared.bindings.MethodBinding.TheVariants.{Entry, Dispatch, Reflective}
 use Rattle.sj_names.specs.Same.{is_same_text}
 use Rattle.sj_names.specs.declared.method_names.Member.{Member}
+use Rattle.sj_names.specs.declared.method_names.MethodName.{MethodName}
 use Rattle.body_rules.specs.Subtyping.{IsSubtyping}
 use Rattle.sj_plain.specs.Standing.{suits}
 use Rattle.sj_plain.specs.Worlds.{World, with_pending, Grows, SameValue, SameValues}
 use Rattle.ir_mean.specs.Ancestors.{IsAncestor}
 use Rattle.ir_mean.specs.Known.{is_hijacked}
 use Rattle.ir_mean.specs.Subtypes.{IsSub}
-use Rattle.body_rules.specs.Built.{Usable, has_static, can_box, divides, compares}
+use Rattle.body_rules.specs.Built.{Usable, has_static, can_box, divides, compares, can_look_up}
 use Rattle.body_rules.specs.Locals.{Scope, HasValue}
 use Rattle.body_rules.specs.Standing.{types_referred, call_type}
 use Rattle.sj_trees.specs.declared.classes.ClassDef.{ClassDef}
@@ -48,12 +51,15 @@ use Rattle.body_rules.specs.Rules.{left_operand, right_operand}
 use Rattle.sj_trees.specs.declared.types.IrType.{IrType}
 use Rattle.sj_trees.specs.declared.types.IrType.TheVariants.{Any, Boolean, Array, NoType}
 
--- a binding at the top of a file of the emitted code: the function of a static member, of one that runs on a receiver, and of a constructor; a class, and
+-- a binding at the top of a file of the emitted code: the function of a static member, of one that runs on a receiver, and of a constructor; the function that tells
+-- the receivers of a method apart, and the one by which receivers are called under a reflective name; a class, and
 -- its constants; the variable of a static field of this type, and the function that sets it; the test of a type, and the cast to it; and a helper
 pub data Top : Type 0 where
   a_function : Member → Top
   a_method : Member → Top
   a_constructor : Member → Top
+  a_dispatch : MethodName → Top
+  a_reflection : MethodName → Top
   a_class : List ℕ → Top
   some_constants : List ℕ → Top
   a_static : List ℕ → List ℕ → IrType → Top
@@ -66,6 +72,8 @@ abbrev pub top_name : Top → Name
 top_name (a_function m) = member_name m
 top_name (a_method m) = member_name m
 top_name (a_constructor m) = member_name m
+top_name (a_dispatch m) = method_binding Dispatch m
+top_name (a_reflection m) = method_binding Reflective m
 top_name (a_class c) = class_binding Class c
 top_name (some_constants c) = class_binding Constants c
 top_name (a_static c f t) = static_name c f
@@ -79,8 +87,10 @@ abbrev pub is_usable : Usable → Top → Bool
 is_usable has (a_function m) = has.linked m
 is_usable has (a_method m) = has.received m
 is_usable has (a_constructor m) = has.built m
-is_usable has (a_class c) = has.made c
-is_usable has (some_constants c) = has.made c
+is_usable has (a_dispatch m) = has.dispatched m
+is_usable has (a_reflection m) = has.reflected m
+is_usable has (a_class c) = has.live c
+is_usable has (some_constants c) = has.live c
 is_usable has (a_static c f t) = has.static_field c f t
 is_usable has (a_setter c f t) = has.static_setter c f t
 is_usable has (a_test t) = has.tests t
@@ -191,26 +201,38 @@ links_of p c = map (link_of p) (chain_of p.classes c)
 abbrev pub box_link : Place → js.ClassLink
 box_link p = record { file = p.home (a_helper BoxedChar); name = helper_name BoxedChar }
 
--- what stands at an address of the IR, and what stands at the address that it has in the world: an object of a class, made by the class that stands for
--- it and by those that this one extends, with a property for each field
-pub data SameStored (p : Place) (w : World) : Option ir.Stored → Option js.Stored → Type 0 where
-  same_object : (c : List ℕ) (fields : ir.Fields) (properties : Name → Option js.Value) → TellsClass w c properties → ((d f : List ℕ) (t : IrType) → IsField p.classes d f t → SameField w t (fields d f) (properties (field_binding Property d f))) → SameStored p w (Some (ir.object c fields)) (Some (js.plain (links_of p c) properties))
+-- no entry of a method is among an object's own properties
+abbrev pub HasNoEntries : (Name → Option js.Value) → Type 0
+HasNoEntries properties = (m : MethodName) → properties (method_binding Entry m) ≡ None
+
+-- what stands at an address of the IR, and what stands at the address that it has in the world: an object of this class, made by the class that stands for
+-- it and by those that this one extends, with a property for each field and no entry of a method
+pub data SameStored (p : Place) (w : World) : List ℕ → Option ir.Stored → Option js.Stored → Type 0 where
+  same_object : (c : List ℕ) (fields : ir.Fields) (properties : Name → Option js.Value) → TellsClass w c properties → HasNoEntries properties → ((d f : List ℕ) (t : IrType) → IsField p.classes d f t → SameField w t (fields d f) (properties (field_binding Property d f))) → SameStored p w c (Some (ir.object c fields)) (Some (js.plain (links_of p c) properties))
 
 -- constants with the marker of a class under `s` have the markers of the classes that stand above it, and of no other
 abbrev pub MarksAncestors : ir_world.World → (Name → Option js.Value) → Type 0
 MarksAncestors classes constants = (c b : List ℕ) → constants (codes "s") ≡ Some (js.text (class_binding Marker c)) → (is_some (constants (class_binding Marker b)) ≡ true) ↔ IsAncestor classes c b
 
--- an object of the IR is of no hijacked class: the values of these are primitive
-abbrev pub IsFree : Option ir.Stored → Type 0
-IsFree (Some (ir.object c fields)) = is_hijacked c ≡ false
-IsFree _ = Unit {0}
+-- the class that the world tells of an address of the IR, and what stands there on both sides
+pub record ObjectAt (p : Place) (w : World) (i : ℕ) (o : Option ir.Stored) (q : Option js.Stored) : Type 0 where
+  pub class : List ℕ
+  pub told : w.classes i ≡ Some class
+  pub alike : SameStored p w class o q
 
--- the heaps stand for each other: what has an address in the world stands on both, and is of no hijacked class; two addresses of the IR have two; what the emitted
--- code has for itself, or has made before the IR, stands where it stood, at no address of the world; constants among it have the markers of ancestors; and objects
--- that hold chars are of their class
+-- the code of some file can make objects of the class
+pub record MadeSomewhere (p : Place) (c : List ℕ) : Type 0 where
+  pub file : Name
+  pub made : (p.has file).made c ≡ true
+
+-- the heaps stand for each other: what has an address in the world stands on both, and is of the class that the world tells, which is no hijacked one, since the
+-- values of these are primitive, and one of which some file's code can make objects; two addresses of the IR have two; what the emitted code has for itself, or has
+-- made before the IR, stands where it stood, at no address of the world; constants among it have the markers of ancestors; and objects that hold chars are of
+-- their class
 pub record SameHeap (p : Place) (w : World) (s : List ir.Stored) (u : List js.Stored) : Type 0 where
-  pub objects : (i a : ℕ) → w.place i ≡ Some a → SameStored p w (slice_get s i) (slice_get u a)
-  pub free : (i a : ℕ) → w.place i ≡ Some a → IsFree (slice_get s i)
+  pub objects : (i a : ℕ) → w.place i ≡ Some a → ObjectAt p w i (slice_get s i) (slice_get u a)
+  pub free : (i : ℕ) (c : List ℕ) → w.classes i ≡ Some c → is_hijacked c ≡ false
+  pub made : (i : ℕ) (c : List ℕ) → w.classes i ≡ Some c → MadeSomewhere p c
   pub differ : (i j a : ℕ) → w.place i ≡ Some a → w.place j ≡ Some a → i ≡ j
   pub owned : (a : ℕ) (o : js.Stored) → w.owned a ≡ Some o → slice_get u a ≡ Some o
   pub marked : (a : ℕ) (constants : Name → Option js.Value) → w.owned a ≡ Some (js.plain [] constants) → MarksAncestors p.classes constants
@@ -294,7 +316,7 @@ zeroed p c = ir.object c (ir_world.new_fields p.classes c)
 
 -- `new` of a class: the emitted code makes the object, and the IR does nothing yet
 pub data Makes (p : Place) (from : World) (c : List ℕ) (env : ir.Env) (s : ir.State) : ir.Ended → js.ExpressionEnd → Type 0 where
-  makes : (a : ℕ) (o : js.Stored) (u : js.State) → ((b : js.Stored) → from.pending a ≡ Some b → ⊥) → SameStored p from (Some (zeroed p c)) (Some o) → SameState p (with_pending a o from) s u → Makes p from c env s (ir.ends (ir.gives ir.undefined) env s) (js.gives (js.object a) u)
+  makes : (a : ℕ) (o : js.Stored) (u : js.State) → ((b : js.Stored) → from.pending a ≡ Some b → ⊥) → SameStored p from c (Some (zeroed p c)) (Some o) → SameState p (with_pending a o from) s u → Makes p from c env s (ir.ends (ir.gives ir.undefined) env s) (js.gives (js.object a) u)
 
 abbrev pub MakesAlike : Setting → List ℕ → Type 0
 MakesAlike z c = (w : World) (env : ir.Env) (s : ir.State) (u : js.State) → SameState z.place w s u → Sim z.direction (Makes z.place w c env s) (done (ir.ends (ir.gives ir.undefined) env s)) (js_meaning.construct z.place.program z.js_low (links_of z.place c) (links_of z.place c) [] u)
@@ -316,6 +338,48 @@ BuildsAlike z m = (w : World) (v : ir.Value) (x : js.Value) (vs : List ir.Value)
 -- a member on a receiver, as a call in its class finds it, and the function of its target
 abbrev pub ReceivesAlike : Setting → Member → Type 0
 ReceivesAlike z m = (w : World) (v : ir.Value) (x : js.Value) (vs : List ir.Value) (xs : List js.Value) (env : ir.Env) (s : ir.State) (u : js.State) → IsReceiver w m.class v x → SameValues w (types_referred m.method.params) vs xs → SameState z.place w s u → Sim z.direction (Valued z.place w env (call_type m.method.result)) (ir_meaning.call z.low (ir_meaning.static_target z.place.classes m.class m.namespace m.method) (Some v) vs env s) (top_call z.place z.js_low (a_method (called_member (usable z).lookup m.namespace m)) (x ∷ xs) u)
+
+-- the class of a value: that which the world tells of the address of an object, and of a primitive value the one that it has in each state
+pub data ClassTold (w : World) : ir.Value → List ℕ → Type 0 where
+  of_object : (i a : ℕ) (c : List ℕ) → w.place i ≡ Some a → w.classes i ≡ Some c → ClassTold w (ir.reference i) c
+  of_kind : (v : ir.Value) (c : List ℕ) → ((s : ir.State) → ir_world.class_of_value s v ≡ Some c) → ClassTold w v c
+
+-- the value is of a class at or below this one
+pub record HasClass (classes : ir_world.World) (w : World) (c : List ℕ) (v : ir.Value) : Type 0 where
+  pub class : List ℕ
+  pub told : ClassTold w v class
+  pub below : is_ancestor classes class c ≡ true
+
+-- a value on which a method may be looked up that is called on instances of the class, and the one that stands for it
+pub record IsInstance (classes : ir_world.World) (w : World) (c : List ℕ) (v : ir.Value) (x : js.Value) : Type 0 where
+  pub stands : SameValue w (class_type c) v x
+  pub its : HasClass classes w c v
+
+-- a call of the method that the class of the value decides on
+abbrev pub call_by_class : Setting → MethodName → List ℕ → ir.Value → List ir.Value → ir.Run
+call_by_class z m c v vs = ir_meaning.call_on z.place.classes z.low (ir_meaning.target_in z.place.classes (Some c) m) (v ∷ vs)
+
+-- the function that tells the receivers of a method apart, on an instance of the class
+abbrev pub DispatchesAlike : Setting → List ℕ → MethodName → Type 0
+DispatchesAlike z c m = (w : World) (v : ir.Value) (x : js.Value) (one : IsInstance z.place.classes w c v x) (vs : List ir.Value) (xs : List js.Value) (env : ir.Env) (s : ir.State) (u : js.State) → SameValues w (types_referred m.params) vs xs → SameState z.place w s u → Sim z.direction (Valued z.place w env (call_type m.result)) (call_by_class z m one.its.class v vs env s) (top_call z.place z.js_low (a_dispatch m) (x ∷ xs) u)
+
+-- the entry of a method that is read off an object, and what a call of it does from there on
+pub record Finds (z : Setting) (m : MethodName) (w : World) (c : List ℕ) (v : ir.Value) (x : js.Value) (u : js.State) : Type 0 where
+  pub found : js_objects.Callee
+  pub is : js_objects.callee z.place.program u x (method_binding Entry m) ≡ Some found
+  pub calls : (y : World) → Grows w y → (vs : List ir.Value) (xs : List js.Value) (env : ir.Env) (sc : js.Scope) (s : ir.State) (k : js.State) → SameValues y (types_referred m.params) vs xs → SameState z.place y s k → Sim z.direction (Valued z.place y env (call_type m.result)) (call_by_class z m c v vs env s) (js_meaning.call_with_this z.place.program z.js_low x found xs sc k)
+
+abbrev pub EntriesAlike : Setting → List ℕ → MethodName → Type 0
+EntriesAlike z c m = (w : World) (v : ir.Value) (x : js.Value) (one : IsInstance z.place.classes w c v x) (s : ir.State) (u : js.State) → SameState z.place w s u → Finds z m w one.its.class v x u
+
+-- a method that is looked up: where a primitive value may be the receiver, by that function, and else by the object's entry
+abbrev pub LooksUp : Bool → Setting → List ℕ → MethodName → Type 0
+LooksUp true z c m = DispatchesAlike z c m
+LooksUp false z c m = EntriesAlike z c m
+
+-- a call by a reflective name, which means nothing on null, and the function of the name
+abbrev pub ReflectsAlike : Setting → MethodName → Type 0
+ReflectsAlike z m = (w : World) (v : ir.Value) (x : js.Value) (vs : List ir.Value) (xs : List js.Value) (env : ir.Env) (s : ir.State) (u : js.State) → SameValue w Any v x → SameValues w (types_referred m.params) vs xs → SameState z.place w s u → Sim z.direction (Valued z.place w env Any) (ir_meaning.call_reflective z.place.classes z.low m (v ∷ vs) env s) (top_call z.place z.js_low (a_reflection m) (x ∷ xs) u)
 
 -- an assignment to a static field of this type, and a call of the function that sets its variable
 abbrev pub SetsAlike : Setting → List ℕ → List ℕ → IrType → Type 0
@@ -343,7 +407,7 @@ pub record HasStatic (p : Place) (c f : List ℕ) (t : IrType) : Type 0 where
   pub value : HasValue t
   pub differ : StaticsDiffer p
 
--- subtyping is ordered, and what the levels below give of what is called, set and made; no object is made of a hijacked class
+-- subtyping is ordered, and what the levels below give of what is called, set and made; a class of which objects are made has its code there, and is not hijacked
 pub record Based (z : Setting) : Type 0 where
   pub ordered : IsSubtyping (IsSub z.place.classes)
   pub names : NamesDiffer z.place
@@ -355,6 +419,7 @@ pub record Based (z : Setting) : Type 0 where
   pub receives : (m : Member) → (usable z).received (called_member (usable z).lookup m.namespace m) ≡ true → ReceivesAlike z m
   pub builds : (m : Member) → (usable z).built m ≡ true → BuildsAlike z m
   pub makes : (c : List ℕ) → (usable z).made c ≡ true → MakesAlike z c
+  pub lives : (c : List ℕ) → (usable z).made c ≡ true → (usable z).live c ≡ true
   pub objects : (c : List ℕ) → (usable z).made c ≡ true → is_hijacked c ≡ false
 
 -- the null check of a value, and its helper
@@ -397,9 +462,11 @@ BoxesAlike z = (t : IrType) (c : ℕ) (w : World) (env : ir.Env) (s : ir.State) 
 abbrev pub MayBox : Setting → IrType → IrType → Type 0
 MayBox z expected own = (is_char own && not (is_char expected)) ≡ true → ((usable z).helper (helper_name BoxedChar) ≡ true) × BoxesAlike z
 
--- what the levels below give to trees, with what helpers do
+-- what the levels below give to trees, with what is looked up and what helpers do
 pub record Lawful (z : Setting) : Type 0 where
   pub base : Based z
+  pub looks : (c : List ℕ) (m : MethodName) → can_look_up (usable z) c m ≡ true → LooksUp ((usable z).lookup.has_hijacked c) z c m
+  pub reflects : (m : MethodName) → (usable z).reflected m ≡ true → ReflectsAlike z m
   pub checks : (usable z).helper check_name ≡ true → ChecksAlike z
   pub divisions : (o : BinaryOp) → divides (usable z) o ≡ true → DividesAlike z o
   pub boxes : can_box (usable z) ≡ true → BoxesAlike z

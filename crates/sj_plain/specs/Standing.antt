@@ -4,9 +4,9 @@ use Rattle.ir_mean.specs.States as ir
 use Rattle.body_rules.specs.Standing.{is_bare, Fits}
 use Rattle.body_rules.specs.Coercions.{is_char}
 use Rattle.sj_trees.specs.declared.types.IrType.{IrType}
-use Rattle.sj_trees.specs.declared.types.IrType.TheVariants.{Nothing, Undefined, Boolean, Char, Byte, Short, Int, Long, String}
+use Rattle.sj_trees.specs.declared.types.IrType.TheVariants.{Array, Nothing, Undefined, Boolean, Char, Byte, Short, Int, Long, String, Null}
 
--- the value is of the kind of the type
+-- the value is of the kind of the type: null alone is of a type of arrays, since none is made yet
 abbrev pub suits : IrType → ir.Value → Bool
 suits Nothing v = false
 suits Undefined ir.undefined = true
@@ -25,6 +25,10 @@ suits Long (ir.long z) = true
 suits Long v = false
 suits String (ir.text us) = true
 suits String v = false
+suits Null ir.null = true
+suits Null v = false
+suits (Array r) ir.null = true
+suits (Array r) v = false
 suits t (ir.char u) = not (is_bare t)
 suits t (ir.reference i) = not (is_bare t)
 suits t v = true

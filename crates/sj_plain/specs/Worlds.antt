@@ -5,43 +5,48 @@ use Rattle.ir_mean.specs.States as ir
 use Rattle.js_mean.specs.States as js
 use Rattle.js_tree.specs.Terms.{Name}
 use Rattle.body_rules.specs.Coercions.{is_char}
-use Rattle.sj_mangling.specs.Bindings.{class_binding}
+use Rattle.sj_mangling.specs.Bindings.{class_binding, method_binding}
+use Rattle.sj_mangling.specs.declared.bindings.MethodBinding.TheVariants.{Entry}
+use Rattle.sj_names.specs.declared.method_names.MethodName.{MethodName}
 use Rattle.sj_mangling.specs.declared.bindings.ClassBinding.TheVariants.{Marker}
 use Rattle.sj_plain.specs.Standing.{suits}
 use Rattle.sj_trees.specs.declared.types.IrType.{IrType}
 
--- the address that the emitted code has for each address of the IR; what it has for itself at other addresses (constants of classes, and objects that hold
+-- the address that the emitted code has for each address of the IR, and the class of the IR's object at it; what it has for itself at other addresses (constants of classes, and objects that hold
 -- chars), which stays as it is; the objects that it has already made and the IR hasn't yet, as they stand; and the class of objects that hold chars
 pub record World : Type 0 where
   pub place : ℕ → Option ℕ
+  pub classes : ℕ → Option (List ℕ)
   pub owned : ℕ → Option js.Stored
   pub pending : ℕ → Option js.Stored
   pub boxes : List js.ClassLink
 
 -- the world of a program that begins
 abbrev pub nothing_made : List js.ClassLink → World
-nothing_made boxes = record { place = λ i. None; owned = λ a. None; pending = λ a. None; boxes = boxes }
+nothing_made boxes = record { place = λ i. None; classes = λ i. None; owned = λ a. None; pending = λ a. None; boxes = boxes }
 
 -- the world in which the emitted code has made this object at this address, and the IR hasn't yet
 abbrev pub with_pending : ℕ → js.Stored → World → World
-with_pending a o w = record { place = w.place; owned = w.owned; pending = λ b. if b == a then Some o else w.pending b; boxes = w.boxes }
+with_pending a o w = record { place = w.place; classes = w.classes; owned = w.owned; pending = λ b. if b == a then Some o else w.pending b; boxes = w.boxes }
 
 -- the world in which the emitted code has made this object for itself at this address
 abbrev pub with_owned : ℕ → js.Stored → World → World
-with_owned a o w = record { place = w.place; owned = λ b. if b == a then Some o else w.owned b; pending = w.pending; boxes = w.boxes }
+with_owned a o w = record { place = w.place; classes = w.classes; owned = λ b. if b == a then Some o else w.owned b; pending = w.pending; boxes = w.boxes }
 
--- the world in which the IR has made its own, at this address, for the one that was pending there
-abbrev pub with_born : ℕ → ℕ → World → World
-with_born i a w = record { place = λ j. if j == i then Some a else w.place j; owned = w.owned; pending = λ b. if b == a then None else w.pending b; boxes = w.boxes }
+-- the world in which the IR has made its own, of this class at this address, for the one that was pending there
+abbrev pub with_born : ℕ → ℕ → List ℕ → World → World
+with_born i a c w = record { place = λ j. if j == i then Some a else w.place j; classes = λ j. if j == i then Some c else w.classes j; owned = w.owned; pending = λ b. if b == a then None else w.pending b; boxes = w.boxes }
 
+-- a world in which what had an address has it still, with its class; and what the emitted code had, it has
 pub record Grows (old new : World) : Type 0 where
   pub places : (i a : ℕ) → old.place i ≡ Some a → new.place i ≡ Some a
+  pub classes : (i a : ℕ) (c : List ℕ) → old.place i ≡ Some a → old.classes i ≡ Some c → new.classes i ≡ Some c
   pub owns : (a : ℕ) (o : js.Stored) → old.owned a ≡ Some o → new.owned a ≡ Some o
   pub pends : (a : ℕ) (o : js.Stored) → old.pending a ≡ Some o → new.pending a ≡ Some o
   pub boxes : old.boxes ≡ new.boxes
 
--- an object of the class of those that hold chars, as the emitted code has it for itself and never changes it: its property `c` is the char, and its constants
--- have the marker of `java.lang.Character`
+-- an object of the class of those that hold chars, as the emitted code has it for itself and never changes it: its property `c` is the char, its constants
+-- have the marker of `java.lang.Character`, and no entry of a method is among its properties
 pub record IsBox (w : World) (u a : ℕ) : Type 0 where
   pub properties : Name → Option js.Value
   pub address : ℕ
@@ -51,6 +56,7 @@ pub record IsBox (w : World) (u a : ℕ) : Type 0 where
   pub held : properties (codes "k") ≡ Some (js.object address)
   pub constants_owned : w.owned address ≡ Some (js.plain [] constants)
   pub marked : constants (codes "s") ≡ Some (js.text (class_binding Marker (codes "java.lang.Character")))
+  pub bare : (m : MethodName) → properties (method_binding Entry m) ≡ None
 
 -- a value, and the value of the emitted code that stands for it: of a reference the address that it has in the world, of a char a Number where it is raw,
 -- and else an object that holds it

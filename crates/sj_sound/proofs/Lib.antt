@@ -13,4 +13,5 @@ pub use Rattle.body_soundness.proofs.Lengths
 pub use Rattle.body_soundness.proofs.Direct
 pub use Rattle.body_soundness.proofs.Targets
 pub use Rattle.body_soundness.proofs.Running
+pub use Rattle.body_soundness.proofs.SameNames
 pub use Rattle.sj_calls.proofs.Reflective

@@ -1,10 +1,11 @@
 -- Pieces that are put, one list behind another: which they are, and that they keep the rules of printing.
-use Rattle.std.proofs.Common.{◌≡◌, ◌∙◌, ◌+◌, ◌≤◌, ◌<◌, ℕ, List, [], ◌∷◌, ◌++◌, ap, get_or, length, map, subst, sym, take}
+use Rattle.std.proofs.Common.{◌≡◌, ◌∙◌, ◌+◌, ◌≤◌, ◌<◌, ℕ, List, [], ◌∷◌, ◌++◌, Some, ap, append_assoc, get_or, length, map, slice_get, subst, sym, take}
 use Rattle.std.specs.List.{flat_map}
-use Rattle.std.specs.Prelude.{All}
+use Rattle.std.specs.Prelude.{All, option_map}
 use Rattle.std.proofs.lemmas.Grind.{flat_map-append}
 use Rattle.std.proofs.lemmas.List.{append-nil, length-map, map-append, take_all, take_more}
 use Rattle.std.proofs.lemmas.List.Elements.{All-append, All-cons, All-contains, All-nil, Contains-append_left, Contains-append_right}
+use Rattle.std.proofs.lemmas.Option.{get_or_from_slice_get, slice_get-map, slice_get_within}
 use Rattle.helper_rules.specs.Helpers.{Above, helper_piece}
 use Rattle.helper_rules.specs.declared.kinds.Helper.{Helper}
 use Rattle.js_tree.specs.Rules.{IsPiece}
@@ -26,6 +27,13 @@ one_keeps old new p is rules before = put_keeps old new (map piece_view (p ∷ [
 -- the piece of one more helper
 pub one_helper : (above : Above) (hs : List Helper) (i : ℕ) (d : Helper) (old new : List JsPiece) (p : JsPiece) → i < length hs → piece_view p ≡ helper_piece above (get_or hs i d) → new ≡ old ++ p ∷ [] → map piece_view old ≡ map (helper_piece above) (take i hs) → map piece_view new ≡ map (helper_piece above) (take (i + 1) hs)
 one_helper above hs i d old new p within is put before = appended old (p ∷ []) new put ∙ (λ t. before t ++ is t ∷ []) ∙ sym (ap (map (helper_piece above)) (take_more hs i d within) ∙ map-append (helper_piece above) (take i hs) (get_or hs i d ∷ []))
+
+-- one more copy
+pub one_copy : (start those : List JsPiece) (i : ℕ) (q : JsPiece) (old new : List JsPiece) (p : JsPiece) → slice_get those i ≡ Some q → piece_view p ≡ piece_view q → new ≡ old ++ p ∷ [] → map piece_view old ≡ map piece_view start ++ take i (map piece_view those) → map piece_view new ≡ map piece_view start ++ take (i + 1) (map piece_view those)
+one_copy start those i q old new p at is put before =
+    let there : slice_get (map piece_view those) i ≡ Some (piece_view q) = slice_get-map piece_view those i ∙ ap (option_map piece_view) at in
+    let more : take (i + 1) (map piece_view those) ≡ take i (map piece_view those) ++ piece_view q ∷ [] = take_more (map piece_view those) i (piece_view q) (slice_get_within (map piece_view those) i (piece_view q) there) ∙ ap (λ (x : Piece). take i (map piece_view those) ++ x ∷ []) (get_or_from_slice_get (map piece_view those) i (piece_view q) (piece_view q) there) in
+    appended old (p ∷ []) new put ∙ (λ t. before t ++ is t ∷ []) ∙ append_assoc (map piece_view start) (take i (map piece_view those)) (piece_view q ∷ []) ∙ ap (λ (l : List Piece). map piece_view start ++ l) (sym more)
 
 -- all that comes before the end is all
 pub whole : {X Y : Type 0} (f : X → Y) (xs : List X) (i : ℕ) → length xs ≤ i → take i (map f xs) ≡ map f xs

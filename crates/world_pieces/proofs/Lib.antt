@@ -7,6 +7,7 @@ pub mod Made
 mod Kept
 pub mod Moved
 pub mod Placed
+pub mod ToldPieces
 pub mod UsedWords
 pub mod Used
 pub use Rattle.linked_pieces.proofs.Same

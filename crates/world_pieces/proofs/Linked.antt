@@ -9,14 +9,14 @@ use Rattle.std.proofs.lemmas.List.MinMax.{ranks_by}
 use Rattle.std.proofs.lemmas.List.Sorted.{Contains-permutation, IsPermutation-map, IsPermutation-sym}
 use Rattle.std.proofs.lemmas.Map.Keys.{IsDistinct-cons}
 use Rattle.std.proofs.lemmas.Slice.Eq.{bytes_eq-Decides}
-use Rattle.helper_rules.specs.Helpers.{Above, helper_piece}
-use Rattle.helper_rules.specs.declared.kinds.Helper.{Helper}
+use Rattle.helper_rules.specs.Helpers.{helper_piece}
 use Rattle.js_tree.specs.Terms.{Piece}
 use Rattle.js_tree.specs.Views.{piece_view}
 use Rattle.js_tree.specs.declared.items.JsPiece.{JsPiece}
 use Rattle.linked_pieces.specs.Order.{AreInOrder, AreClasses, AreMethodsOf}
 use Rattle.linked_pieces.specs.Pieces as pieces
-use Rattle.linked_pieces.specs.Pieces.{piece_of_member, pieces_of_block, IsBlock, AreBlocks, AreHelpers, AreAbove, with_helpers, AreLinkedPieces}
+use Rattle.linked_pieces.specs.Pieces.{piece_of_member, pieces_of_block, IsBlock, AreBlocks, AreHelpers, with_helpers, AreLinkedPieces}
+use Rattle.linked_pieces.specs.Reflected.{AreToldPieces}
 use Rattle.sj_emit_expr.specs.Templates.{member_name}
 use Rattle.sj_names.specs.WellKnown.{is_object}
 use Rattle.sj_proper.specs.Emitted.{EmittedMethod, HaveOwnMembers}
@@ -28,6 +28,7 @@ use Rattle.world_pieces.specs.declared.blocks.Block.{Block}
 use Rattle.world_pieces.specs.Blocks.{IsMade, AreMade, class_of_block, pieces_in, with_helpers_in}
 use Rattle.world_pieces.specs.Functions.{is_owned, has_lesser_name, AreByName}
 use Rattle.world_pieces.specs.Names.{NamesTell}
+use Rattle.world_pieces.specs.Told.{HaveHelpers, AreBehind}
 use Rattle.world_pieces.proofs.InOrder.{before_other, sorted_stand, into_images, from_images}
 use Rattle.world_pieces.proofs.Moved.{moved_too}
 use Rattle.world_pieces.proofs.Placed.{once_moved}
@@ -38,7 +39,7 @@ heads x y xs ys e = cc
 tails : {X : Type 0} (x y : X) (xs ys : List X) → x ∷ xs ≡ y ∷ ys → xs ≡ ys
 tails x y xs ys e = cc
 
-map_twice : {X Y Z : Type 0} (f : X → Y) (g : Y → Z) (xs : List X) → map g (map f xs) ≡ map (λ x. g (f x)) xs
+pub map_twice : {X Y Z : Type 0} (f : X → Y) (g : Y → Z) (xs : List X) → map g (map f xs) ≡ map (λ x. g (f x)) xs
 map_twice f g [] = refl
 map_twice {Z = Z} f g (x ∷ xs) = ap (λ (l : List Z). g (f x) ∷ l) (map_twice f g xs)
 
@@ -51,7 +52,7 @@ is_of c e = is_same e.member.class c
 abbrev piece_name : Piece → Name
 piece_name p = p.name
 
-abbrev function_name : JsPiece → Name
+abbrev pub function_name : JsPiece → Name
 function_name p = p.name
 
 -- the functions of a class are those of its methods
@@ -85,7 +86,7 @@ own_passed c (e ∷ es) own = go (is_of c e) (own_passed c es own.1)
     go true rest = (λ o h. own.0 o (from_filter (is_of c) es o h).among, rest)
     go false rest = rest
 
-not_same : (a b : Name) → (a ≡ b → ⊥) → is_same a b ≡ false
+pub not_same : (a b : Name) → (a ≡ b → ⊥) → is_same a b ≡ false
 not_same a b differ = go (is_same a b) refl
   where
     go : (t : Bool) → is_same a b ≡ t → is_same a b ≡ false
@@ -96,7 +97,7 @@ other_names : (e : EmittedMethod) (es : List EmittedMethod) → ((o : EmittedMet
 other_names e [] differ = tt
 other_names e (o ∷ es) differ = (not_same (name_in e) (name_in o) (differ o (at_first o es)), other_names e es (λ p h. differ p (further o p es h)))
 
-nothing_distinct : IsDistinct is_same []
+pub nothing_distinct : IsDistinct is_same []
 unfolding IsDistinct
 nothing_distinct = tt
 
@@ -175,15 +176,20 @@ module _ (l : Linked) (functions : List JsPiece) (all : List EmittedMethod) (giv
   all_with_helpers helpers [] each = refl
   all_with_helpers helpers (b ∷ bs) each = λ i. same_with_helpers helpers b (each b (at_first b bs)) i ++ all_with_helpers helpers bs (λ c h. each c (further b c bs h)) i
 
-  pub are_linked_pieces : (names : List Name) (bs : List Block) (helpers : List Helper) (above : Above) (ps : List Piece) → AreClasses l.world names → AreMade l functions names bs → AreHelpers (flat_map pieces_in bs) helpers → AreAbove l.world above → ps ≡ flat_map (with_helpers_in (map (helper_piece above) helpers)) bs → AreLinkedPieces l all ps
-  are_linked_pieces names bs helpers above ps are_classes made are_helpers are_above is = record {
+  pub are_linked_pieces : (names : List Name) (bs : List Block) (behind ps : List Piece) → AreClasses l.world names → AreMade l functions names bs → AreBehind l (flat_map pieces_in bs) behind → ps ≡ flat_map (with_helpers_in behind) bs → AreLinkedPieces l all ps
+  are_linked_pieces names bs behind ps are_classes made are_behind is = record {
     classes = map class_of_block bs;
     are_classes = subst (AreClasses l.world) (sym made.names_are) are_classes;
     blocks = blocks bs made.each;
     are_blocks = are_blocks bs made.each;
-    helpers = helpers;
-    are_helpers = subst (λ (qs : List Piece). AreHelpers qs helpers) (sym (all_pieces bs made.each)) are_helpers;
-    above = above;
-    are_above = are_above;
-    pieces_are = is ∙ sym (all_with_helpers (map (helper_piece above) helpers) bs made.each);
+    told = are_behind.told;
+    are_told = subst (λ (qs : List Piece). AreToldPieces l qs are_behind.told) (sym (all_pieces bs made.each)) are_behind.are_told;
+    helpers = have.helpers;
+    are_helpers = subst (λ (qs : List Piece). AreHelpers (qs ++ are_behind.told) have.helpers) (sym (all_pieces bs made.each)) have.are_helpers;
+    above = have.above;
+    are_above = have.are_above;
+    pieces_are = is ∙ ap (λ (qs : List Piece). flat_map (with_helpers_in qs) bs) have.are ∙ sym (all_with_helpers (map (helper_piece have.above) have.helpers ++ are_behind.told) bs made.each);
   }
+    where
+      have : HaveHelpers l.world (flat_map pieces_in bs ++ are_behind.told) are_behind.told behind
+      have = are_behind.have_helpers

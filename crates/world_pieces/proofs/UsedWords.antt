@@ -13,7 +13,7 @@ use Rattle.js_tree.specs.Views.{piece_view}
 use Rattle.js_tree.specs.declared.items.Binding.{Binding}
 use Rattle.js_tree.specs.declared.items.JsPiece.{JsPiece}
 use Rattle.sj_baselink.specs.Steps.{Puts, OfOne}
-use Rattle.sj_baselink.proofs.Putting.{OfFirst, adds_none, adds_as, adds_then, each_ends, only_these}
+use Rattle.sj_baselink.proofs.Putting.{OfFirst, adds_none, adds_as, adds_then, all_put, each_ends, only_these}
 use Rattle.sj_world.specs.Known.{is_same}
 use Rattle.sj_split.proofs.Members.{Mapped, into_map, from_map, at_first, further, cons_cases}
 use Rattle.worklist.proofs.Inserted.{nothing_in}
@@ -91,6 +91,14 @@ words_of_blocks bs n words over f x = (λ h. to (those.0 h), λ q. those.1 (from
 
     from : OfOne (flat_map pieces_in bs) UsesWord x → OfOne bs (λ b y. OfOne (pieces_in b) UsesWord y) x
     from q = let o = in_one pieces_in bs q.thing q.among in record { thing = o.item; among = o.among; holds = record { thing = q.thing; among = o.holds; holds = q.holds } }
+
+-- the names that more pieces use
+pub words_with : (ps qs : List Piece) (words more : List Name) → ((x : Name) → Contains words x ↔ OfOne ps UsesWord x) → Puts (OfOne qs UsesWord) words more → (x : Name) → Contains more x ↔ OfOne (ps ++ qs) UsesWord x
+words_with ps qs words more are puts = all_put (OfOne (ps ++ qs) UsesWord) [] more refl (words_of_both ps qs [] words more (record { exact = λ x. (λ h. inr ((are x).0 h), λ q. from x q) }) puts)
+  where
+    from : (x : Name) → Contains [] x ⊎ OfOne ps UsesWord x → Contains words x
+    from x (inl h) = nothing_in x h
+    from x (inr q) = (are x).1 q
 
 -- the helpers of these names
 pub named_helpers : (words : List Name) (n : ℕ) (found : List UsedHelper) → length every_helper ≤ n → Puts (OfFirst every_helper n (IsNamed words)) [] found → (u : UsedHelper) → Contains found u ↔ Contains words (helper_name u.helper)

@@ -5,5 +5,6 @@ pub mod Helpers
 pub mod Names
 pub mod Places
 pub mod Same
+pub mod Told
 pub use Rattle.linked_pieces.specs.Files
 pub use Rattle.linked_pieces.specs.Pieces

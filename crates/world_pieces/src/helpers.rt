@@ -1,20 +1,18 @@
 // The helpers that pieces use.
-ghost use Rattle.std.specs.Prelude.{◌≡◌, ◌↔◌, Contains, IfOk, OnOk, IsTrue, map};
+ghost use Rattle.std.specs.Prelude.{◌≡◌, ◌↔◌, Contains, IfOk, OnOk, IsTrue, List, map};
 ghost use Rattle.std.specs.Hash as fed;
-ghost use Rattle.std.specs.List.{filter, flat_map};
+ghost use Rattle.std.specs.List.{filter};
 ghost use Rattle.helper_rules.specs.Helpers.{helper_name as name_of_helper};
 ghost use Rattle.indexmap.specs.IndexSet.{insert_all};
+ghost use Rattle.js_tree.specs.Terms.{Name, Piece};
 ghost use Rattle.linked_pieces.specs.Pieces.{AreHelpers};
-ghost use Rattle.sj_baselink.specs.Steps.{Puts};
-ghost use Rattle.world_pieces.specs.Blocks.{pieces_in};
-ghost use Rattle.world_pieces.specs.Helpers.{every_helper, IsNamed, as_used, is_found, is_same_used, next_used};
+ghost use Rattle.sj_baselink.specs.Steps.{Puts, OfOne};
+ghost use Rattle.world_pieces.specs.Helpers.{every_helper, IsNamed, UsesWord, as_used, is_found, is_same_used, next_used};
 ghost use Rattle.world_pieces.specs.declared.helpers.UsedHelper.{UsedHelper as Used};
 ghost use Rattle.world_pieces.specs.Same.{same_used};
 ghost use Rattle.std.proofs.Common.{ap};
 
-use crate::blocks::Block;
 use crate::table::all_helpers;
-use crate::words::used_words;
 use helper_making::used_helpers;
 use helper_rules::Helper;
 use indexmap::IndexSet;
@@ -75,12 +73,11 @@ fn add_used(helpers: &[Helper], found: &mut IndexSet<UsedHelper>) -> Result<(), 
     Ok(())
 }
 
-/// Exactly the helpers that the pieces of blocks use, or other helpers that are used, in the order of their names.
-pub fn helpers_of(alloc: Global, blocks: &[Block]) -> Result<Vec<Helper>, NoMemory>
-    ensures { IfOk result (λ hs. AreHelpers (flat_map pieces_in blocks.now) hs.items) }
+/// Exactly the helpers that have these names, which pieces use, or that other helpers use which are used, in the order of their names.
+pub fn helpers_of(alloc: Global, words: &IndexSet<Text>) -> Result<Vec<Helper>, NoMemory>
+    ensures { (ps : List Piece) → ((x : Name) → Contains words.now.keys x ↔ OfOne ps UsesWord x) → IfOk result (λ hs. AreHelpers ps hs.items) }
 {
-    let words = used_words(alloc, blocks)?;
-    let mut found = helpers_named(alloc, &words)?;
+    let mut found = helpers_named(alloc, words)?;
     search(&UsedBy {}, &mut found)?;
     listed(alloc, &found)
 }

@@ -33,7 +33,8 @@ fn put_words_of(block: &Block, words: &mut IndexSet<Text>) -> Result<(), NoMemor
     put_words(&block.functions, words)
 }
 
-fn put_words(pieces: &[JsPiece], words: &mut IndexSet<Text>) -> Result<(), NoMemory>
+/// Puts the names that these pieces use.
+pub fn put_words(pieces: &[JsPiece], words: &mut IndexSet<Text>) -> Result<(), NoMemory>
     ensures { OnOk result (Puts (OfOne (map piece_view pieces.now) UsesWord) words.old.keys words.new.keys) }
 {
     for piece in pieces {

@@ -7,6 +7,9 @@ pub returns-clause-fields : goal.returns-clause-fields
 unfolding digits
 returns-clause-fields c = refl
 
+pub returns-clause-dispatches : goal.returns-clause-dispatches
+returns-clause-dispatches c = refl
+
 pub returns-clause-all_caught : goal.returns-clause-all_caught
 unfolding digits chars
 returns-clause-all_caught c = refl

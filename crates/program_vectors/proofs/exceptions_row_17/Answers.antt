@@ -1,5 +1,6 @@
 use Rattle.std.proofs.Common.{refl}
 use Rattle.std.specs.Fmt.{digits}
+use Rattle.std.specs.Str.{chars}
 use Rattle.program_vectors.proofs.exceptions_row_17.Goals as goal
 
 pub returns-clause-main_within_0 : goal.returns-clause-main_within_0
@@ -19,19 +20,19 @@ unfolding digits
 returns-clause-main_within_3 c = refl
 
 pub returns-clause-main_within_5 : goal.returns-clause-main_within_5
-unfolding digits
+unfolding digits chars
 returns-clause-main_within_5 c = refl
 
 pub returns-clause-main_within_10 : goal.returns-clause-main_within_10
-unfolding digits
+unfolding digits chars
 returns-clause-main_within_10 c = refl
 
 pub returns-clause-main_within_50 : goal.returns-clause-main_within_50
-unfolding digits
+unfolding digits chars
 returns-clause-main_within_50 c = refl
 
 pub returns-clause-main_within_300 : goal.returns-clause-main_within_300
-unfolding digits
+unfolding digits chars
 returns-clause-main_within_300 c = refl
 
 pub returns-clause-main_files : goal.returns-clause-main_files

@@ -1,10 +1,12 @@
 use Rattle.std.proofs.Common.{◌≡◌, ◌∙◌, Bool, refl, ap, sym, arith}
 use Rattle.std.specs.Prelude.{true, false, ◌&&◌}
 use Rattle.built_forms.specs.Built.{any_object, can_call, stands, is_built, are_built}
+use Rattle.sj_desugar.specs.CalleeVariants as callees
+use Rattle.sj_desugar.specs.Callee.{Callee}
+use Rattle.sj_desugar.specs.Desugar.{callee_of}
 use Rattle.built_forms.proofs.Cases.{case_then}
 use Rattle.built_forms.proofs.forms.+forms.Goals as goal
-use Rattle.built_forms.proofs.forms.+forms.Goals.{is_built-then-is_direct_call, is_built-else-is_direct_call, is_built-then-is_called_by_class, is_built-else-is_called_by_class}
-use Rattle.sj_desugar.specs.Desugar.{callee_of}
+use Rattle.built_forms.proofs.forms.+forms.Goals.{is_built-then-is_direct_call, is_built-else-is_direct_call}
 use Rattle.sj_names.proofs.Same.{impossible}
 use Rattle.sj_trees.specs.TypeOf.{type_of_term}
 use Rattle.sj_trees.proofs.trees.Tree.TheLaws.{the_size}
@@ -78,29 +80,27 @@ is_built-returns-else-is_built-5 t c =
     ]
 
 pub is_built-are_built-requires-then-is_built-6 : goal.is_built-are_built-requires-then-is_built-6
-is_built-are_built-requires-then-is_built-6 t c = let n = c.in-Apply in (rw c.deref-then-is_built-6.ensures.value (omega (arith, ap the_size n.is ∙ sized-Apply n.field-0 n.receiver n.method n.arguments n.field-4)), tt)
+is_built-are_built-requires-then-is_built-6 t c = let n = c.in-Apply in (rw c.deref-then-is_built-6.ensures.value (omega (arith, ap the_size n.is ∙ sized-Apply n.field-0 n.receiver n.field-2 n.arguments n.field-4)), tt)
+
+-- whatever is called, a call is built
+any_called : (k : Callee) → can_call any_object k ≡ true
+any_called (callees.Member m) = refl
+any_called (callees.LookedUp c m) = refl
+any_called (callees.OfArray m) = refl
+any_called (callees.Reflective m) = refl
 
 pub is_built-returns-then-is_built-6 : goal.is_built-returns-then-is_built-6
 is_built-returns-then-is_built-6 t c =
     let n = c.in-Apply in
-    let v : view c.args.tree.now ≡ apply n.field-0 (view n.receiver.value) n.method (terms_view n.arguments.items) n.field-4 = ap view (n.is ∙ sym (rolls-Apply n.field-0 n.receiver n.method n.arguments n.field-4)) ∙ fold-roll-Tree Term Case view_step case_step (Tree-F.Apply n.field-0 n.receiver n.method n.arguments n.field-4) in
-    let called : c.is_called_by_class.result ≡ stands any_object (λ e. true) (apply n.field-0 (view n.receiver.value) n.method (terms_view n.arguments.items) n.field-4) = c.is_called_by_class.ensures ∙ ap (λ (x : Term). can_call any_object (callee_of (type_of_term x) n.method)) (ap view c.deref-in-Apply.ensures) ∙ sym (and-true _) in
+    let v : view c.args.tree.now ≡ apply n.field-0 (view n.receiver.value) n.field-2 (terms_view n.arguments.items) n.field-4 = ap view (n.is ∙ sym (rolls-Apply n.field-0 n.receiver n.field-2 n.arguments n.field-4)) ∙ fold-roll-Tree Term Case view_step case_step (Tree-F.Apply n.field-0 n.receiver n.field-2 n.arguments n.field-4) in
+    let called : stands any_object (λ e. true) (apply n.field-0 (view n.receiver.value) n.field-2 (terms_view n.arguments.items) n.field-4) ≡ true = and-true _ ∙ any_called (callee_of (type_of_term (view n.receiver.value)) n.field-2) in
+    let inner : c.is_built-in-Apply.result ≡ is_built any_object (λ e. true) (view n.receiver.value) = c.is_built-in-Apply.ensures ∙ ap (λ x. is_built any_object (λ e. true) (view x)) c.deref-in-Apply.ensures in
     let own : c.are_built-then-is_built-6.result ≡ are_built any_object (λ e. true) (terms_view n.arguments.items) = c.are_built-then-is_built-6.ensures ∙ ap (λ xs. are_built any_object (λ e. true) (terms_view xs)) c.deref-then-is_built-6.ensures.value in
-    elim c.if-is_called_by_class.branch [
-      | is_built-then-is_called_by_class w ↦
-          let inner : w.is_built-then-is_called_by_class.result ≡ is_built any_object (λ e. true) (view n.receiver.value) = w.is_built-then-is_called_by_class.ensures ∙ ap (λ x. is_built any_object (λ e. true) (view x)) w.deref-then-is_called_by_class.ensures in
-          own ∙ call_built _ (is_built any_object (λ e. true) (view n.receiver.value)) (are_built any_object (λ e. true) (terms_view n.arguments.items)) (sym called ∙ w.if-is_called_by_class.true) (sym inner ∙ sym w.value-is ∙ c.if-is_built-6.true) ∙ ap (is_built any_object (λ e. true)) (sym v)
-      | is_built-else-is_called_by_class w ↦ impossible (sym w.if-is_called_by_class.false ∙ sym w.value-is ∙ c.if-is_built-6.true)
-    ]
+    own ∙ call_built _ (is_built any_object (λ e. true) (view n.receiver.value)) (are_built any_object (λ e. true) (terms_view n.arguments.items)) called (sym inner ∙ c.if-is_built-6.true) ∙ ap (is_built any_object (λ e. true)) (sym v)
 
 pub is_built-returns-else-is_built-6 : goal.is_built-returns-else-is_built-6
 is_built-returns-else-is_built-6 t c =
     let n = c.in-Apply in
-    let v : view c.args.tree.now ≡ apply n.field-0 (view n.receiver.value) n.method (terms_view n.arguments.items) n.field-4 = ap view (n.is ∙ sym (rolls-Apply n.field-0 n.receiver n.method n.arguments n.field-4)) ∙ fold-roll-Tree Term Case view_step case_step (Tree-F.Apply n.field-0 n.receiver n.method n.arguments n.field-4) in
-    let called : c.is_called_by_class.result ≡ stands any_object (λ e. true) (apply n.field-0 (view n.receiver.value) n.method (terms_view n.arguments.items) n.field-4) = c.is_called_by_class.ensures ∙ ap (λ (x : Term). can_call any_object (callee_of (type_of_term x) n.method)) (ap view c.deref-in-Apply.ensures) ∙ sym (and-true _) in
-    elim c.if-is_called_by_class.branch [
-      | is_built-then-is_called_by_class w ↦
-          let inner : w.is_built-then-is_called_by_class.result ≡ is_built any_object (λ e. true) (view n.receiver.value) = w.is_built-then-is_called_by_class.ensures ∙ ap (λ x. is_built any_object (λ e. true) (view x)) w.deref-then-is_called_by_class.ensures in
-          c.if-is_built-6.false ∙ receiver_unbuilt _ (is_built any_object (λ e. true) (view n.receiver.value)) (are_built any_object (λ e. true) (terms_view n.arguments.items)) (sym inner ∙ sym w.value-is ∙ c.if-is_built-6.false) ∙ ap (is_built any_object (λ e. true)) (sym v)
-      | is_built-else-is_called_by_class w ↦ c.if-is_built-6.false ∙ call_unbuilt _ (is_built any_object (λ e. true) (view n.receiver.value)) (are_built any_object (λ e. true) (terms_view n.arguments.items)) (sym called ∙ w.if-is_called_by_class.false) ∙ ap (is_built any_object (λ e. true)) (sym v)
-    ]
+    let v : view c.args.tree.now ≡ apply n.field-0 (view n.receiver.value) n.field-2 (terms_view n.arguments.items) n.field-4 = ap view (n.is ∙ sym (rolls-Apply n.field-0 n.receiver n.field-2 n.arguments n.field-4)) ∙ fold-roll-Tree Term Case view_step case_step (Tree-F.Apply n.field-0 n.receiver n.field-2 n.arguments n.field-4) in
+    let inner : c.is_built-in-Apply.result ≡ is_built any_object (λ e. true) (view n.receiver.value) = c.is_built-in-Apply.ensures ∙ ap (λ x. is_built any_object (λ e. true) (view x)) c.deref-in-Apply.ensures in
+    c.if-is_built-6.false ∙ receiver_unbuilt _ (is_built any_object (λ e. true) (view n.receiver.value)) (are_built any_object (λ e. true) (terms_view n.arguments.items)) (sym inner ∙ c.if-is_built-6.false) ∙ ap (is_built any_object (λ e. true)) (sym v)
