@@ -1,5 +1,6 @@
 #!/usr/bin/env bash
-# Makes the class files of the listings in this folder, and prints the listing of each file again.
+# Makes the class files of the listings in this folder, links them, and runs the module that is written under node, or prints it where there
+# is no node.
 set -euo pipefail
 cd "$(dirname "${BASH_SOURCE[0]}")"
 
@@ -7,4 +8,11 @@ out="$(mktemp -d)"
 trap 'rm -rf "$out"' EXIT
 
 ../make.sh listings "$out/classes"
-../../sjsir.sh print "$out"/classes/*.sjsir
+../../sjslink.sh link --optimize off entries "$out" "$out/classes"
+
+if command -v node > /dev/null; then
+  cp "$out/1/main.js" "$out/main.mjs"
+  node "$out/main.mjs"
+else
+  cat "$out/1/main.js"
+fi
