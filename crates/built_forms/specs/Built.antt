@@ -32,7 +32,7 @@ is_nonzero_long (long_literal p z) = not (int_eq z (pos 0))
 is_nonzero_long _ = false
 
 -- what a body can use: the static members that are linked, and those that run on a receiver, with what is known of the classes where these are called; the methods that are looked
--- up on the instances of a class, and those of which there is a function that tells primitive instances apart; the reflective names of which there is a function by which receivers are called; the constructors that are linked; the classes of which objects are made, and those whose code is there: these and the classes above them; their fields and the static fields that can be read and those that can be set, with their types; the types for which
+-- up on the instances of a class, and those of which there is a function that tells primitive instances apart; the reflective names of which there is a function by which receivers are called; the constructors that are linked; the classes of which objects are made, and those whose code is there: these and the classes above them; their fields and the static fields that can be read and those that can be set, with their types; the classes whose one object can be loaded, and those for which it can be stored; the types for which
 -- there is a test, and those for which there is a cast; helpers, by their names; and whether it can throw, and name the object that it runs on
 pub record Usable : Type 0 where
   pub linked : Member → Bool
@@ -47,6 +47,8 @@ pub record Usable : Type 0 where
   pub field : List ℕ → List ℕ → IrType → Bool
   pub static_field : List ℕ → List ℕ → IrType → Bool
   pub static_setter : List ℕ → List ℕ → IrType → Bool
+  pub modules : List ℕ → Bool
+  pub stored : List ℕ → Bool
   pub tests : IrType → Bool
   pub casts : IrType → Bool
   pub helper : List ℕ → Bool
@@ -62,11 +64,15 @@ may_make has boxed = can_box has || not boxed
 
 -- these static members and nothing else
 abbrev pub members_alone : (Member → Bool) → Usable
-members_alone linked = record { linked = linked; lookup = own_targets; received = λ m. false; looked_up = λ c m. false; dispatched = λ m. false; reflected = λ m. false; built = λ m. false; made = λ c. false; live = λ c. false; field = λ c f t. false; static_field = λ c f t. false; static_setter = λ c f t. false; tests = λ t. false; casts = λ t. false; helper = λ x. false; objects = false }
+members_alone linked = record { linked = linked; lookup = own_targets; received = λ m. false; looked_up = λ c m. false; dispatched = λ m. false; reflected = λ m. false; built = λ m. false; made = λ c. false; live = λ c. false; field = λ c f t. false; static_field = λ c f t. false; static_setter = λ c f t. false; modules = λ c. false; stored = λ c. false; tests = λ t. false; casts = λ t. false; helper = λ x. false; objects = false }
 
 -- a static field can be read or set
 abbrev pub has_static : Usable → List ℕ → List ℕ → IrType → Bool
 has_static has c f t = has.static_field c f t || has.static_setter c f t
+
+-- the one object of the class can be loaded or stored
+abbrev pub has_cell : Usable → List ℕ → Bool
+has_cell has c = has.modules c || has.stored c
 
 -- the operator is a division whose helper can be used
 abbrev pub divides : Usable → BinaryOp → Bool
@@ -215,7 +221,7 @@ is_testable t = has_kind t
 
 -- whatever is made, called and used of objects, but for constructors with a value, and tests of arrays and casts to them
 abbrev pub any_object : Usable
-any_object = record { linked = λ m. true; lookup = own_targets; received = λ m. true; looked_up = λ c m. true; dispatched = λ m. true; reflected = λ m. true; built = λ m. has_no_value m.method.result; made = λ c. true; live = λ c. true; field = λ c f t. true; static_field = λ c f t. true; static_setter = λ c f t. true; tests = is_testable; casts = is_testable; helper = λ x. true; objects = true }
+any_object = record { linked = λ m. true; lookup = own_targets; received = λ m. true; looked_up = λ c m. true; dispatched = λ m. true; reflected = λ m. true; built = λ m. has_no_value m.method.result; made = λ c. true; live = λ c. true; field = λ c f t. true; static_field = λ c f t. true; static_setter = λ c f t. true; modules = λ c. true; stored = λ c. true; tests = is_testable; casts = is_testable; helper = λ x. true; objects = true }
 
 -- the body is of these forms, whatever it calls, makes and reads
 abbrev pub is_object_body : MethodDef → Term → Bool

@@ -82,7 +82,7 @@ case (k ∷ ks) body = match_on nowhere (number 1) (more_cases (pos k ∷ []) bo
 
 -- a field can be used, whatever its class, its name and its type are
 abbrev pub with_fields : Usable
-with_fields = record { linked = λ m. true; lookup = own_targets; received = λ m. false; looked_up = λ c m. false; dispatched = λ m. false; reflected = λ m. false; built = λ m. false; made = λ c. false; live = λ c. false; field = λ c f t. true; static_field = λ c f t. false; static_setter = λ c f t. false; tests = λ t. false; casts = λ t. false; helper = λ x. false; objects = false }
+with_fields = record { linked = λ m. true; lookup = own_targets; received = λ m. false; looked_up = λ c m. false; dispatched = λ m. false; reflected = λ m. false; built = λ m. false; made = λ c. false; live = λ c. false; field = λ c f t. true; static_field = λ c f t. false; static_setter = λ c f t. false; modules = λ c. false; stored = λ c. false; tests = λ t. false; casts = λ t. false; helper = λ x. false; objects = false }
 
 -- there is a test for each type, and there is a cast to each
 abbrev pub with_tests : Usable
@@ -93,7 +93,7 @@ with_casts = record with_fields { casts = λ t. true }
 
 -- objects that hold chars can be made
 abbrev pub with_boxes : Usable
-with_boxes = record { linked = λ m. true; lookup = own_targets; received = λ m. false; looked_up = λ c m. false; dispatched = λ m. false; reflected = λ m. false; built = λ m. false; made = λ c. false; live = λ c. false; field = λ c f t. true; static_field = λ c f t. false; static_setter = λ c f t. false; tests = λ t. false; casts = λ t. false; helper = λ x. true; objects = false }
+with_boxes = record { linked = λ m. true; lookup = own_targets; received = λ m. false; looked_up = λ c m. false; dispatched = λ m. false; reflected = λ m. false; built = λ m. false; made = λ c. false; live = λ c. false; field = λ c f t. true; static_field = λ c f t. false; static_setter = λ c f t. false; modules = λ c. false; stored = λ c. false; tests = λ t. false; casts = λ t. false; helper = λ x. true; objects = false }
 
 -- the code of a method that gives a value of this type makes an object that holds a char
 abbrev pub makes_box : IrType → Term → Bool
