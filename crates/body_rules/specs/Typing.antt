@@ -8,13 +8,13 @@ use Rattle.sj_names.specs.declared.method_names.Namespace.TheVariants.{PublicSta
 use Rattle.sj_emit_expr.specs.Sure.{is_sure, sure_locals}
 use Rattle.sj_names.specs.declared.references.TypeRef.{TypeRef}
 use Rattle.body_rules.specs.Locals.{Own, OwnAll, local_of, HasValue}
-use Rattle.sj_trees.specs.Term.{Term, Terms, no_terms, more_terms, Cases, no_cases, more_cases, var_def, block_of, labeled, assign, return_to, if_then, while_loop, do_while, match_on, throw, new_object, select, select_static, apply, apply_statically, this_ref, apply_static, unary_op, binary_op, is_instance_of, as_instance_of, boolean_literal, char_literal, byte_literal, short_literal, int_literal, long_literal, var_ref, log_line}
+use Rattle.sj_trees.specs.Term.{Term, Terms, no_terms, more_terms, Cases, no_cases, more_cases, var_def, block_of, labeled, assign, return_to, if_then, while_loop, do_while, try_catch, match_on, throw, new_object, select, select_static, apply, apply_statically, this_ref, apply_static, unary_op, binary_op, is_instance_of, as_instance_of, boolean_literal, char_literal, byte_literal, short_literal, int_literal, long_literal, var_ref, log_line}
 use Rattle.sj_trees.specs.Types.{class_type, reference_type}
 use Rattle.sj_trees.specs.declared.classes.MethodDef.{MethodDef}
 use Rattle.sj_trees.specs.declared.classes.ParamDef.{ParamDef}
 use Rattle.sj_trees.specs.declared.positions.Position.{Position}
 use Rattle.sj_trees.specs.declared.types.IrType.{IrType}
-use Rattle.sj_trees.specs.declared.types.IrType.TheVariants.{NoType}
+use Rattle.sj_trees.specs.declared.types.IrType.TheVariants.{NoType, Any}
 use Rattle.sj_emit_expr.specs.Known.{Classes}
 use Rattle.built_forms.specs.Label.{Label}
 use Rattle.built_forms.specs.Nodes.{inside}
@@ -62,6 +62,10 @@ abbrev pub behind : Term → Scene → Scene
 behind (var_def p x t b e) s = record { owner = s.owner; space = s.space; sure = s.sure; locals = record { name = x; «mutable» = b; tpe = t } ∷ s.locals; labels = s.labels }
 behind _ s = s
 
+-- in a handler, what is caught is a local that isn't mutable
+abbrev pub catching : List ℕ → Scene → Scene
+catching x s = record { owner = s.owner; space = s.space; sure = s.sure; locals = record { name = x; «mutable» = false; tpe = Any } ∷ s.locals; labels = s.labels }
+
 abbrev pub in_label : List ℕ → IrType → Scene → Scene
 in_label l t s = record { owner = s.owner; space = s.space; sure = s.sure; locals = s.locals; labels = inside l t s.labels }
 
@@ -79,11 +83,12 @@ may_check has sure e = is_sure sure e || has.helper check_name
 abbrev pub is_built_with : Usable → MethodDef → Term → Bool
 is_built_with has d e = is_built_method has (may_check has (sure_locals e)) d e
 
--- what a tree asks of its surroundings: that a local which it uses is in scope, and one which it defines isn't defined in it again; that there are values where
+-- what a tree asks of its surroundings: that a local which it uses is in scope, and one which it defines isn't defined in it again, nor one that holds what is caught in its handler; that there are values where
 -- they are handed over; and that numbers are those of their types
 abbrev pub Finds : Scene → Term → Type 0
 Finds s (var_def p x t b e) = HasValue t × (Own e x → ⊥)
 Finds s (assign p (var_ref q x t) e) = IsVariable s x t
+Finds s (try_catch p e x d t) = Own d x → ⊥
 Finds s (new_object p c m ts) = AllHaveValues m.params
 Finds s (apply p e m ts t) = AllHaveValues m.params
 Finds s (apply_statically p e c n m ts t) = AllHaveValues m.params
@@ -116,6 +121,7 @@ module _ (w : Classes) (has : Usable) where
     Typed s (if_then p c a b t) = Here s (if_then p c a b t) × Typed s c × Typed s a × Typed s b
     Typed s (while_loop p c b) = Here s (while_loop p c b) × Typed s c × Typed s b
     Typed s (do_while p b c) = Here s (do_while p b c) × Typed s b × Typed s c
+    Typed s (try_catch p e x d t) = Here s (try_catch p e x d t) × Typed s e × Typed (catching x s) d
     Typed s (throw p e) = Here s (throw p e) × Typed s e
     Typed s (match_on p e cs d t) = Here s (match_on p e cs d t) × Typed s e × TypedCases s t cs × Typed s d
     Typed s (new_object p c m ts) = Here s (new_object p c m ts) × TypedAll s ts

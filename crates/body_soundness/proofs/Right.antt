@@ -33,7 +33,7 @@ use Rattle.sj_names.specs.declared.method_names.Namespace.{Namespace}
 use Rattle.sj_names.specs.declared.method_names.Namespace.TheVariants.{Constructor}
 use Rattle.sj_names.specs.declared.method_names.Member.{Member}
 use Rattle.sj_names.specs.declared.references.TypeRef.{TypeRef}
-use Rattle.sj_trees.specs.Term.{Term, Terms, no_terms, more_terms, Cases, no_cases, more_cases, var_def, skip, block_of, labeled, assign, return_to, if_then, while_loop, do_while, throw, match_on, new_object, new_array, array_value, load_module, select, select_static, apply, apply_statically, apply_static, unary_op, binary_op, is_instance_of, as_instance_of, undefined_literal, null_literal, boolean_literal, char_literal, byte_literal, short_literal, int_literal, long_literal, string_literal, var_ref, this_ref, log_line}
+use Rattle.sj_trees.specs.Term.{Term, Terms, no_terms, more_terms, Cases, no_cases, more_cases, var_def, skip, block_of, labeled, assign, return_to, if_then, while_loop, do_while, throw, try_catch, match_on, new_object, new_array, array_value, load_module, select, select_static, apply, apply_statically, apply_static, unary_op, binary_op, is_instance_of, as_instance_of, undefined_literal, null_literal, boolean_literal, char_literal, byte_literal, short_literal, int_literal, long_literal, string_literal, var_ref, this_ref, log_line}
 use Rattle.sj_trees.specs.TypeOf.{type_of_term, type_of_last, loop_type, unary_result, binary_result}
 use Rattle.sj_trees.specs.Types.{class_type, reference_type}
 use Rattle.sj_trees.specs.declared.classes.ClassDef.{ClassDef}
@@ -48,7 +48,7 @@ use Rattle.sj_proper.specs.Operators.{IsDivision, a_quotient, a_remainder, IsLon
 use Rattle.sj_proper.proofs.BuiltFormsStatics.{read_static, set_static}
 use Rattle.sj_proper.specs.Built.{Usable, has_static, can_cast}
 use Rattle.sj_proper.specs.Standing.{is_bare, call_type}
-use Rattle.sj_proper.specs.Typing.{RunsOnObject, AllHaveValues, may_check, IsTrueLiteral, true_literal, Scene, behind, in_label, Typed, TypedBlock, TypedAll, TypedCases}
+use Rattle.sj_proper.specs.Typing.{RunsOnObject, AllHaveValues, may_check, IsTrueLiteral, true_literal, Scene, behind, catching, in_label, Typed, TypedBlock, TypedAll, TypedCases}
 use Rattle.sj_proper.specs.Locals.{Own, OwnAll, OwnCases, IsParameter, local_of, HasValue, HaveValues}
 use Rattle.sj_proper.proofs.Equal.{is-equal}
 use Rattle.sj_names.proofs.Same.{impossible, text-same, namespace-same}
@@ -992,6 +992,12 @@ module _ (w : World) (law : IsSubtyping (IsSub w)) (has : Usable) where
     string_not : String ≡ NoType → ⊥
     string_not = value-not String refl
 
+    -- what a block throws is handled
+    caught_right : (at : Classes) (s : Scene) (x : List ℕ) (t : IrType) (handler : ir.Run) → ((k : Classes) → Adds at k → (v : ir.Value) (env : ir.Env) (st : ir.State) → HasType (IsSub w) law k v Any → Ready k (frame_of s) s.locals env st → Right k s t (handler (ir_meaning.set_local x v env) st)) → (a : ir.Ended) → CameRight at s s.locals t a → Right at s t (ir_meaning.caught x handler a)
+    caught_right at s x t handler h _ (gave k v env st b g i) = gave k v env st b g i
+    caught_right at s x t handler h _ (left k l v env st r b i g j) = left k l v env st r b i g j
+    caught_right at s x t handler h _ (threw k v env st b i j) = rebased at k b s s.locals t (handler (ir_meaning.set_local x v env) st).end (h k b v env st i j)
+
     -- a condition, and what is done where it holds
     tested_right : (c : Term) (first : ir.Run) (s : Scene) (t : IrType) → t ≡ NoType → (at : Classes) (env : ir.Env) (st : ir.State) → Right at s (type_of_term c) (step c env st) → IsSub w (type_of_term c) Boolean → ((k : Classes) (env : ir.Env) (st : ir.State) → Ready k (frame_of s) s.locals env st → Comes (Turned k s t) (first env st).end) → Comes (Turned at s t) (ir_meaning.in_order (step c ∷ []) (ir_meaning.branch first (λ env s. record { lines = []; end = Done (ir.ends ir.stops env s) })) env st).end
     tested_right c first s t none at env st h f body = go_on_turn at s (type_of_term c) t (step c env st) (λ v. ir_meaning.in_order [] (λ vs. ir_meaning.branch first (λ env s. record { lines = []; end = Done (ir.ends ir.stops env s) }) (v ∷ vs))) h (λ k a v env st g i. test_right k s t first v env st none (as_boolean (IsSub w) law k v (operand-type k v (type_of_term c) Boolean g f boolean_not)) i (body k env st i))
@@ -1077,6 +1083,14 @@ module _ (w : World) (law : IsSubtyping (IsSub w)) (has : Usable) where
       tree_right (if_then p c a b t) = λ s v h fresh u at env st i. operand_right c at s t Boolean (ir_meaning.branch (step a) (step b)) env st (tree_right c s v h.1 (λ x o. fresh x (inl o)) (sures-parts s (definitions c) (definitions a) (sures-parts s (definitions c ++ definitions a) (definitions b) u).0).0 at env st i) h.0.meets.0 boolean_not (λ y n q env st k i. branch_right y s t (step a) (step b) q env st (as_boolean (IsSub w) law y q k) (yields-right y s s.locals a t (step a env st).end h.0.meets.1 (tree_right a s v h.2 (λ x o. fresh x (inr (inl o))) (sures-parts s (definitions c) (definitions a) (sures-parts s (definitions c ++ definitions a) (definitions b) u).0).1 y env st i)) (yields-right y s s.locals b t (step b env st).end h.0.meets.2 (tree_right b s v h.3 (λ x o. fresh x (inr (inr o))) (sures-parts s (definitions c ++ definitions a) (definitions b) u).1 y env st i)))
       tree_right (while_loop p c b) = λ s v h fresh u at env st i. comes_then (Turned at s (loop_type c)) (CameRight at s s.locals (loop_type c)) (ir_meaning.in_order (step c ∷ []) (ir_meaning.branch (step b) (λ env s. record { lines = []; end = Done (ir.ends ir.stops env s) })) env st) (ir_meaning.after_turn (low (while_loop p c b))) (while_turn p c b (tree_right c) (tree_right b) s v h fresh u (true-or-none c) at env st i) (turn_right at s (loop_type c) (low (while_loop p c b)) (right (while_loop p c b) s v h fresh u))
       tree_right (do_while p b c) = λ s v h fresh u at env st i. comes_then (Turned at s (loop_type c)) (CameRight at s s.locals (loop_type c)) (ir.go_on (step b env st) (λ v. ir_meaning.in_order (step c ∷ []) (ir_meaning.branch (ir.given ir.undefined) (λ env s. record { lines = []; end = Done (ir.ends ir.stops env s) })))) (ir_meaning.after_turn (low (do_while p b c))) (do_turn p b c (tree_right b) (tree_right c) s v h fresh u at env st i) (turn_right at s (loop_type c) (low (do_while p b c)) (right (do_while p b c) s v h fresh u))
+      tree_right (try_catch p e x d t) = λ s v h fresh u at env st i.
+          (let caught : ParamDef = record { name = x; «mutable» = false; tpe = Any } in
+          let parts = sures-parts s (definitions e) (record { name = x; is_mutable = false; value = null_literal p } ∷ definitions d) u in
+          comes_then (CameRight at s s.locals t) (CameRight at s s.locals t) (step e env st) (ir_meaning.caught x (step d))
+          (yields-right at s s.locals e t (step e env st).end h.0.meets.0 (tree_right e s v h.1 (λ y o. fresh y (inr (inl o))) parts.0 at env st i))
+          (caught_right at s x t (step d) (λ k b a env' st' is ready. leave-right k s caught t (step d (ir_meaning.set_local x a env') st').end (fresh x (inl refl))
+          (yields-right k (catching x s) (caught ∷ s.locals) d t (step d (ir_meaning.set_local x a env') st').end h.0.meets.1
+          (tree_right d (catching x s) (scope-behind (frame_of s) s.locals caught v refl (λ r q. refl)) h.2 (λ y o j. ⊎_elim (λ same. h.0.finds (subst (Own d) same o)) (λ there. fresh y (inr (inr o)) there) j) (λ r. (parts.1 r).1) k (ir_meaning.set_local x a env') st' (set-ready k (frame_of s) s.locals caught env' st' a is (λ r q. impossible ((parts.1 r).0 q).1) ready))))))
       tree_right (match_on p e cs d t) = λ s v h fresh u at env st i. operand_right e at s t Int (ir_meaning.choose (ir_meaning.branches w low cs) (step d)) env st (tree_right e s v h.1 (λ x o. fresh x (inl o)) (sures-parts s (definitions e) (definitions_of_cases cs) (sures-parts s (definitions e ++ definitions_of_cases cs) (definitions d) u).0).0 at env st i) h.0.meets.0 int_not (λ y b q env st k i. chosen_right y s t (ir_meaning.branches w low cs) (step d) q env st (as_int (IsSub w) law y q k) (λ n. cases_right cs s t v h.2 (λ x o. fresh x (inr (inl o))) (sures-parts s (definitions e) (definitions_of_cases cs) (sures-parts s (definitions e ++ definitions_of_cases cs) (definitions d) u).0).1 (step d) n y env st i (yields-right y s s.locals d t (step d env st).end h.0.meets.2 (tree_right d s v h.3 (λ x o. fresh x (inr (inr o))) (sures-parts s (definitions e ++ definitions_of_cases cs) (definitions d) u).1 y env st i))))
       tree_right (apply_static p c n m ts t) = λ s v h fresh u at env st i. arguments_right ts m.params s t v h.0.meets.2 h.0.finds h.1 fresh u at (ir_meaning.call low (member_of w c n m) None) env st i (λ y b vs env st k i. call_right laws low right (member c n m) (members (member c n m) h.0.built) s t h.0.meets.1 y vs k None (λ r. absurd (no_object n h.0.meets.0 r)) env st i)
       tree_right (throw p e) = λ s v h fresh u at env st i. operand_right e at s Nothing Any ir_meaning.throw_value env st (tree_right e s v h.1 fresh u at env st i) h.0.meets (value-not Any refl) (λ y b a env st k i. threw y a env st (adds-refl y) k i)

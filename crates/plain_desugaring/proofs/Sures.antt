@@ -44,7 +44,7 @@ mutual
   in_one (if_then p c a b t) xs = in_one b (sure_in a (sure_in c xs)) ∙ ap (λ ys. sure_list ys (definitions b)) (in_one a (sure_in c xs) ∙ ap (λ ys. sure_list ys (definitions a)) (in_one c xs)) ∙ sym (sure-append (sure_list xs (definitions c)) (definitions a) (definitions b)) ∙ sym (sure-append xs (definitions c) (definitions a ++ definitions b)) ∙ three xs (definitions c) (definitions a) (definitions b)
   in_one (while_loop p c b) xs = in_one b (sure_in c xs) ∙ ap (λ ys. sure_list ys (definitions b)) (in_one c xs) ∙ sym (sure-append xs (definitions c) (definitions b))
   in_one (do_while p b c) xs = in_one c (sure_in b xs) ∙ ap (λ ys. sure_list ys (definitions c)) (in_one b xs) ∙ sym (sure-append xs (definitions b) (definitions c))
-  in_one (try_catch p e x d t) xs = in_one d (sure_in e xs) ∙ ap (λ ys. sure_list ys (definitions d)) (in_one e xs) ∙ sym (sure-append xs (definitions e) (definitions d))
+  in_one (try_catch p e x d t) xs = in_one d (sure_in e xs) ∙ ap (λ ys. sure_list ys (definitions d)) (in_one e xs) ∙ sym (sure-append xs (definitions e) (record { name = x; is_mutable = false; value = null_literal p } ∷ definitions d))
   in_one (try_finally p e d) xs = in_one d (sure_in e xs) ∙ ap (λ ys. sure_list ys (definitions d)) (in_one e xs) ∙ sym (sure-append xs (definitions e) (definitions d))
   in_one (throw p e) xs = in_one e xs
   in_one (match_on p e cs d t) xs = in_one d (sure_in_cases cs (sure_in e xs)) ∙ ap (λ ys. sure_list ys (definitions d)) (in_cases cs (sure_in e xs) ∙ ap (λ ys. sure_list ys (definitions_of_cases cs)) (in_one e xs)) ∙ sym (sure-append (sure_list xs (definitions e)) (definitions_of_cases cs) (definitions d)) ∙ sym (sure-append xs (definitions e) (definitions_of_cases cs ++ definitions d)) ∙ three xs (definitions e) (definitions_of_cases cs) (definitions d)

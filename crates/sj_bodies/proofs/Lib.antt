@@ -9,6 +9,7 @@ pub mod Parts
 pub mod Spills
 pub mod Statements
 pub mod Trees
+pub mod Tries
 pub mod Turns
 pub mod ObjectTrees
 pub mod ArrayTrees

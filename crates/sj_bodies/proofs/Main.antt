@@ -16,7 +16,7 @@ use Rattle.sj_core.specs.Views.{expressions_of}
 use Rattle.sj_proper.specs.Coercions.{is_char, coerced, coerced_arguments, coerced_receiver}
 use Rattle.sj_proper.specs.Desugar.{target_of, member, types_of, into, block, receiver, operands, first_of, second_of, rest_of, finish, branches, cases, switch_code, callee_of}
 use Rattle.sj_proper.specs.Spill.{Destination, discard, to_variable, to_result, Code, one, spill, then_use}
-use Rattle.sj_trees.specs.Term.{Term, Terms, no_terms, more_terms, Cases, no_cases, more_cases, var_def, skip, block_of, labeled, assign, return_to, if_then, while_loop, do_while, throw, match_on, new_object, select, select_static, apply, apply_statically, this_ref, apply_static, unary_op, binary_op, is_instance_of, as_instance_of, undefined_literal, null_literal, boolean_literal, char_literal, byte_literal, short_literal, int_literal, long_literal, string_literal, var_ref, log_line}
+use Rattle.sj_trees.specs.Term.{Term, Terms, no_terms, more_terms, Cases, no_cases, more_cases, var_def, skip, block_of, labeled, assign, return_to, if_then, while_loop, do_while, throw, try_catch, match_on, new_object, select, select_static, apply, apply_statically, this_ref, apply_static, unary_op, binary_op, is_instance_of, as_instance_of, undefined_literal, null_literal, boolean_literal, char_literal, byte_literal, short_literal, int_literal, long_literal, string_literal, var_ref, log_line}
 use Rattle.sj_trees.specs.TypeOf.{type_of_term, type_of_last, unary_result, binary_result}
 use Rattle.sj_trees.specs.declared.operators.BinaryOp.{BinaryOp}
 use Rattle.sj_trees.specs.declared.operators.UnaryOp.{UnaryOp}
@@ -42,7 +42,7 @@ use Rattle.sure_receivers.specs.Sure.{is_sure}
 use Rattle.sj_names.specs.declared.method_names.MethodName.{MethodName}
 use Rattle.sj_names.specs.declared.method_names.Namespace.{Namespace}
 use Rattle.sj_names.specs.declared.method_names.Namespace.TheVariants.{Public, Private, Constructor}
-use Rattle.sj_proper.specs.Typing.{Scene, in_label, Typed, TypedBlock, TypedAll, TypedCases, may_check}
+use Rattle.sj_proper.specs.Typing.{Scene, catching, in_label, Typed, TypedBlock, TypedAll, TypedCases, may_check}
 use Rattle.sj_proper.proofs.Direct.{Direct, ByLookup, OnArray, ByName, Applied, directly, by_lookup, on_array, by_name, applied}
 use Rattle.sj_proper.proofs.BuiltFormsDirect.{array_valued, IsLookedUp}
 use Rattle.sj_plain.proofs.HijackedCalls.{hijacked_call, takes_any}
@@ -74,6 +74,7 @@ use Rattle.sj_plain.proofs.Objects.{static_alike}
 use Rattle.sj_bodies.proofs.ObjectTrees.{reflect_does, receiver_piece, receiver_does, select_does, set_static_final, set_does, set_spilled, new_does, this_does, throw_does, receive_does, construct_does}
 use Rattle.sj_bodies.proofs.Spills.{Does, OperandDoes, OperandsDo, numbered-named, operands_in}
 use Rattle.sj_bodies.proofs.Statements.{run-followed, came_then, finish_alike, Ends}
+use Rattle.sj_bodies.proofs.Tries.{try_alike}
 use Rattle.sj_bodies.proofs.Turns.{while_does, do_does}
 use Rattle.sj_plain.proofs.Worlds.{World, Grows, grows-refl}
 
@@ -138,11 +139,11 @@ module _ (z : Setting) (lawful : Lawful z) (low : LowAlike z) where
   ahead-behind : (c : Context) (x : List ℕ) (t : IrType) (j : ℕ) → Ahead c j → Ahead (behind z c x t) j
   ahead-behind c x t j ahead = record { writable = ahead.writable; kept = λ k h i. ⊎_elim (λ e. numbered-named x k (sym e.0)) (ahead.kept k h) i }
 
-  outside-behind : (c : Context) (x : List ℕ) (t : IrType) (ts : Terms) → Outside c (OwnAll ts) → (OwnAll ts x → ⊥) → Outside (behind z c x t) (OwnAll ts)
-  outside-behind c x t ts out fresh = record {
-    scope = λ y i o g. ⊎_elim (λ e. fresh (subst (OwnAll ts) e.0 o)) (λ h. out.scope y i o h.1) g;
+  outside-behind : (c : Context) (x : List ℕ) (t : IrType) (own : List ℕ → Type 0) → Outside c own → (own x → ⊥) → Outside (behind z c x t) own
+  outside-behind c x t own out fresh = record {
+    scope = λ y i o g. ⊎_elim (λ e. fresh (subst own e.0 o)) (λ h. out.scope y i o h.1) g;
     writable = out.writable;
-    kept = λ y o k. ⊎_elim (λ i. let e : y ≡ x = cc in fresh (subst (OwnAll ts) e o)) (out.kept y o) k;
+    kept = λ y o k. ⊎_elim (λ i. let e : y ≡ x = cc in fresh (subst own e o)) (out.kept y o) k;
   }
 
   -- a local that wasn't there hides none
@@ -169,6 +170,33 @@ module _ (z : Setting) (lawful : Lawful z) (low : LowAlike z) where
 
   if_does : (p : Position) (a b d : Term) (t : IrType) → TreeDoes z lawful low a → TreeDoes z lawful low b → TreeDoes z lawful low d → TreeDoes z lawful low (if_then p a b d t)
   if_does p a b d t does_a does_b does_d c k j sound ahead out wr fine = of_operands z lawful c k (piece z lawful low c.targets a ∷ []) j (ir_meaning.branch (ir_meaning.step z.place.classes z.low b) (ir_meaning.step z.place.classes z.low d)) (λ es i. branches p (first_of es) (into z.is_mutable z.code.sure c.targets k i b) (λ i. into z.is_mutable z.code.sure c.targets k i d)) sound ahead (operand_does z lawful low c j a does_a (outside-part c (Own (if_then p a b d t)) (Own a) (λ x o. inl o) out) (part_of c fine.scene fine.amid a (of_first z.is_mutable (mutable_in a) (λ xs. mutable_in b (mutable_in d xs)) (front a) fine.written) Boolean fine.typed.0.meets.0 refl fine.typed.1 (each (operand_boxes (goals_of c.targets) a) (boxes (goals_of c.targets) (goal_of k) b || boxes (goals_of c.targets) (goal_of k) d) fine.boxed).0 fine.around fine.once.0), tt) (one_final z lawful c k j (type_of_term a) (ir_meaning.branch (ir_meaning.step z.place.classes z.low b) (ir_meaning.step z.place.classes z.low d)) (λ es i. branches p (first_of es) (into z.is_mutable z.code.sure c.targets k i b) (λ i. into z.is_mutable z.code.sure c.targets k i d)) (if_final z lawful c k p (λ i. into z.is_mutable z.code.sure c.targets k i b) (λ i. into z.is_mutable z.code.sure c.targets k i d) (ir_meaning.step z.place.classes z.low b) (ir_meaning.step z.place.classes z.low d) j sound wr (λ i l. (written z.is_mutable z.code.sure c.targets b k i fine.once.1).onward) (λ i l ah. undeclared c (Own b) i (into z.is_mutable z.code.sure c.targets k i b) (outside-part c (Own (if_then p a b d t)) (Own b) (λ x o. inr (inl o)) out) ah (written z.is_mutable z.code.sure c.targets b k i fine.once.1)) (λ i l ah. undeclared c (Own d) i (into z.is_mutable z.code.sure c.targets k i d) (outside-part c (Own (if_then p a b d t)) (Own d) (λ x o. inr (inr o)) out) ah (written z.is_mutable z.code.sure c.targets d k i fine.once.2)) (λ i l ah. does_b c k i sound ah (outside-part c (Own (if_then p a b d t)) (Own b) (λ x o. inr (inl o)) out) wr (tree c fine.scene fine.amid k b (one_mutable z.is_mutable b d (of_second z.is_mutable (mutable_in a) (λ xs. mutable_in b (mutable_in d xs)) (front a) fine.written)) (yields z.place.classes lawful.base.ordered k b t fine.asks fine.typed.0.meets.1) fine.typed.2 (each (boxes (goals_of c.targets) (goal_of k) b) (boxes (goals_of c.targets) (goal_of k) d) (each (operand_boxes (goals_of c.targets) a) (boxes (goals_of c.targets) (goal_of k) b || boxes (goals_of c.targets) (goal_of k) d) fine.boxed).1).0 fine.around fine.once.1)) (λ i l ah. does_d c k i sound ah (outside-part c (Own (if_then p a b d t)) (Own d) (λ x o. inr (inr o)) out) wr (tree c fine.scene fine.amid k d (other_mutable z.is_mutable b d (of_second z.is_mutable (mutable_in a) (λ xs. mutable_in b (mutable_in d xs)) (front a) fine.written)) (yields z.place.classes lawful.base.ordered k d t fine.asks fine.typed.0.meets.2) fine.typed.3 (each (boxes (goals_of c.targets) (goal_of k) b) (boxes (goals_of c.targets) (goal_of k) d) (each (operand_boxes (goals_of c.targets) a) (boxes (goals_of c.targets) (goal_of k) b || boxes (goals_of c.targets) (goal_of k) d) fine.boxed).1).1 fine.around fine.once.2)) (type_of_term a)))
+
+  try_does : (p : Position) (e : Term) (x : List ℕ) (d : Term) (t : IrType) → TreeDoes z lawful low e → TreeDoes z lawful low d → TreeDoes z lawful low (try_catch p e x d t)
+  try_does p e x d t does_e does_d c k j sound ahead out wr fine =
+      try_alike z lawful c k p x first.statements second.statements (ir_meaning.step z.place.classes z.low e) (ir_meaning.step z.place.classes z.low d) sound wr
+      (record { scope = λ i. out.scope x i (inl refl); writable = out.writable x (inl refl); kept = out.kept x (inl refl) })
+      (undeclared c (Own e) j first out_e ahead (written z.is_mutable z.code.sure c.targets e k j fine.once.2))
+      (undeclared c (Own d) first.next second out_d later (written z.is_mutable z.code.sure c.targets d k first.next fine.once.3))
+      (does_e c k j sound ahead out_e wr (tree c fine.scene fine.amid k e (one_mutable z.is_mutable e d fine.written) (yields z.place.classes lawful.base.ordered k e t fine.asks fine.typed.0.meets.0) fine.typed.1 parts.0 fine.around fine.once.2))
+      (does_d (behind z c x Any) k first.next (sound-behind c x Any sound (out.writable x (inl refl)) (out.kept x (inl refl))) (ahead-behind c x Any first.next later) (outside-behind c x Any (Own d) out_d fine.once.1) wr (tree (behind z c x Any) (catching x fine.scene) (amid-behind z.place.classes z.is_mutable z.code c.scope (around c) fine.scene x Any false fine.amid refl (λ h. impossible h)) k d (other_mutable z.is_mutable e d fine.written) (yields z.place.classes lawful.base.ordered k d t fine.asks fine.typed.0.meets.1) fine.typed.2 parts.1 fine.around fine.once.3))
+    where
+      first : Code
+      first = into z.is_mutable z.code.sure c.targets k j e
+
+      second : Code
+      second = into z.is_mutable z.code.sure c.targets k first.next d
+
+      out_e : Outside c (Own e)
+      out_e = outside-part c (Own (try_catch p e x d t)) (Own e) (λ y o. inr (inl o)) out
+
+      out_d : Outside c (Own d)
+      out_d = outside-part c (Own (try_catch p e x d t)) (Own d) (λ y o. inr (inr o)) out
+
+      later : Ahead c first.next
+      later = ahead-later z lawful c j first.next (written z.is_mutable z.code.sure c.targets e k j fine.once.2).onward ahead
+
+      parts : Makes (boxes (goals_of c.targets) (goal_of k) e) × Makes (boxes (goals_of c.targets) (goal_of k) d)
+      parts = each (boxes (goals_of c.targets) (goal_of k) e) (boxes (goals_of c.targets) (goal_of k) d) fine.boxed
 
   unary_does : (p : Position) (o : UnaryOp) (e : Term) → TreeDoes z lawful low e → TreeDoes z lawful low (unary_op p o e)
   unary_does p o e does c k j sound ahead out wr fine = of_operands z lawful c k (piece z lawful low c.targets e ∷ []) j (ir_meaning.unary z.place.classes z.low o) (λ es. finish k p (unary_result o) false (core.unary_of o (first_of es))) sound ahead (operand_does z lawful low c j e does out (part_of c fine.scene fine.amid e fine.written (unary_operand o) fine.typed.0.meets (unary-operand-value o) fine.typed.1 (each (is_boxed_at (goal_of k) (unary_result o)) (operand_boxes (goals_of c.targets) e) fine.boxed).1 fine.around fine.once), tt) (one_final z lawful c k j (type_of_term e) (ir_meaning.unary z.place.classes z.low o) (λ es. finish k p (unary_result o) false (core.unary_of o (first_of es))) (finish_one z lawful low c k p (type_of_term e) (unary_result o) (ir_meaning.unary z.place.classes z.low o) (core.unary_of o) j sound wr (fits-value z.place.classes lawful.base.ordered (usable z) k (unary_result o) fine.asks (unary-value o) (each (is_boxed_at (goal_of k) (unary_result o)) (operand_boxes (goals_of c.targets) e) fine.boxed).0) (λ r x w env s sc u alike same. unary_alike z lawful c.scope o (type_of_term e) r x (fits-unary z.place.classes lawful.base.ordered o (type_of_term e) fine.typed.0.meets) w env s sc u alike same)))
@@ -246,7 +274,7 @@ module _ (z : Setting) (lawful : Lawful z) (low : LowAlike z) where
   scene_behind x t b s = record { owner = s.owner; space = s.space; sure = s.sure; locals = record { name = x; «mutable» = b; tpe = t } ∷ s.locals; labels = s.labels }
 
   defined_does : (p : Position) (x : List ℕ) (t : IrType) (b : Bool) (e u : Term) (us : Terms) → TreeDoes z lawful low e → BlockDoes (more_terms u us) → BlockDoes (more_terms (var_def p x t b e) (more_terms u us))
-  defined_does p x t b e u us does others c k j sound ahead out wr scene amid mut i asks typed boxed labels once w env s sc q r same = one_and_rest (var_def p x t b e) (more_terms u us) us c k j (with_local x t c.scope) w env s sc q (define_does z lawful low p x t b e does c j sound ahead out_first (tree c scene amid discard (var_def p x t b e) (of_first z.is_mutable (mutable_in (var_def p x t b e)) (mutable_in_all (more_terms u us)) (front (var_def p x t b e)) mut) tt typed.0 parts.0 labels once.0) w env s sc q r same) (λ y v env s sc' q g ready ks same. sim_weaken z.direction (Came z.place z.code (behind z c x t) (behind z c x t).scope k y sc') (Came z.place z.code c c.scope k w sc) (ir_meaning.block z.place.classes z.low (more_terms u us) env s) (run z (block z.is_mutable z.code.sure c.targets k next (more_terms u us)).statements sc' q) (came-narrow z lawful c (behind z c x t) (behind z c x t).scope c.scope k w y sc sc' refl refl (λ l h. h) (λ h. h) (none_hidden c x t (λ i. out.scope x i (inl (inl refl)))) (none_hidden c x t (λ i. out.scope x i (inl (inl refl)))) (λ y h. inr h) g ks) (others (behind z c x t) k next (sound-behind c x t sound (out.writable x (inl (inl refl))) (out.kept x (inl (inl refl)))) (ahead-behind c x t next (ahead-later z lawful c j next (written z.is_mutable z.code.sure c.targets (var_def p x t b e) discard j once.0).onward ahead)) (outside-behind c x t (more_terms u us) (outside-part c (OwnAll (more_terms (var_def p x t b e) (more_terms u us))) (OwnAll (more_terms u us)) (λ x o. inr o) out) (typed.1 x refl)) wr (scene_behind x t b scene) (amid-behind z.place.classes z.is_mutable z.code c.scope (around c) scene x t b amid typed.0.0.finds.0 (of_definition z.is_mutable b x (mutable_in e) (of_first z.is_mutable (mutable_in (var_def p x t b e)) (mutable_in_all (more_terms u us)) (front (var_def p x t b e)) mut))) (of_second z.is_mutable (mutable_in (var_def p x t b e)) (mutable_in_all (more_terms u us)) (front (var_def p x t b e)) mut) NoType asks typed.2 parts.1 labels once.1 y env s sc' q ready same))
+  defined_does p x t b e u us does others c k j sound ahead out wr scene amid mut i asks typed boxed labels once w env s sc q r same = one_and_rest (var_def p x t b e) (more_terms u us) us c k j (with_local x t c.scope) w env s sc q (define_does z lawful low p x t b e does c j sound ahead out_first (tree c scene amid discard (var_def p x t b e) (of_first z.is_mutable (mutable_in (var_def p x t b e)) (mutable_in_all (more_terms u us)) (front (var_def p x t b e)) mut) tt typed.0 parts.0 labels once.0) w env s sc q r same) (λ y v env s sc' q g ready ks same. sim_weaken z.direction (Came z.place z.code (behind z c x t) (behind z c x t).scope k y sc') (Came z.place z.code c c.scope k w sc) (ir_meaning.block z.place.classes z.low (more_terms u us) env s) (run z (block z.is_mutable z.code.sure c.targets k next (more_terms u us)).statements sc' q) (came-narrow z lawful c (behind z c x t) (behind z c x t).scope c.scope k w y sc sc' refl refl (λ l h. h) (λ h. h) (none_hidden c x t (λ i. out.scope x i (inl (inl refl)))) (none_hidden c x t (λ i. out.scope x i (inl (inl refl)))) (λ y h. inr h) g ks) (others (behind z c x t) k next (sound-behind c x t sound (out.writable x (inl (inl refl))) (out.kept x (inl (inl refl)))) (ahead-behind c x t next (ahead-later z lawful c j next (written z.is_mutable z.code.sure c.targets (var_def p x t b e) discard j once.0).onward ahead)) (outside-behind c x t (OwnAll (more_terms u us)) (outside-part c (OwnAll (more_terms (var_def p x t b e) (more_terms u us))) (OwnAll (more_terms u us)) (λ x o. inr o) out) (typed.1 x refl)) wr (scene_behind x t b scene) (amid-behind z.place.classes z.is_mutable z.code c.scope (around c) scene x t b amid typed.0.0.finds.0 (of_definition z.is_mutable b x (mutable_in e) (of_first z.is_mutable (mutable_in (var_def p x t b e)) (mutable_in_all (more_terms u us)) (front (var_def p x t b e)) mut))) (of_second z.is_mutable (mutable_in (var_def p x t b e)) (mutable_in_all (more_terms u us)) (front (var_def p x t b e)) mut) NoType asks typed.2 parts.1 labels once.1 y env s sc' q ready same))
     where
       parts : Makes (boxes (goals_of c.targets) Goal.given_up (var_def p x t b e)) × Makes (last_boxes (goals_of c.targets) (goal_of k) (more_terms u us))
       parts = each (boxes (goals_of c.targets) Goal.given_up (var_def p x t b e)) (last_boxes (goals_of c.targets) (goal_of k) (more_terms u us)) boxed
@@ -510,6 +538,7 @@ module _ (z : Setting) (lawful : Lawful z) (low : LowAlike z) where
     does (assign p (select q o d f t) e) = λ c k j sound ahead out wr fine. set_by p q o d f t e (does o) (does e) c k j sound ahead out fine (given_up z.place.classes lawful.base.ordered k fine.asks)
     does (assign p (select_static q d f t) e) = λ c k j sound ahead out wr fine. set_static_by p q d f t e (does e) c k j sound ahead out fine (given_up z.place.classes lawful.base.ordered k fine.asks)
     does (return_to p e l) = return_does p e l (does e)
+    does (try_catch p e x d t) = try_does p e x d t (does e) (does d)
     does (if_then p a b d t) = if_does p a b d t (does a) (does b) (does d)
     does (while_loop p a b) = while_does z lawful low p a b (does a) (does b)
     does (do_while p b a) = do_does z lawful low p b a (does b) (does a)

@@ -69,6 +69,7 @@ mutual
     loop_of : Origin → Statements → Statement
     labeled_of : Origin → List ℕ → Statements → Statement
     switch_of : Origin → Expression → Cases → Statements → Statement
+    try_of : Origin → Statements → Variable → Statements → Statement
 
   pub data Statements : Type 0 where
     no_statements : Statements

@@ -40,6 +40,8 @@ pub enum CoreStatement {
     Labeled(Option<Position>, LabelName, Vec<CoreStatement>),
     /// A choice by a number: the selector, the cases and the default.
     Switch(Option<Position>, CoreExpression, Vec<CoreCase>, Vec<CoreStatement>),
+    /// What the one block throws is caught under a name, for the other.
+    Try(Option<Position>, Vec<CoreStatement>, CoreVariable, Vec<CoreStatement>),
 }
 
 impl Drop for CoreStatement {
@@ -64,6 +66,7 @@ impl Drop for CoreStatement {
             CoreStatement::Loop(_, _one) => {}
             CoreStatement::Labeled(_, _one, _two) => {}
             CoreStatement::Switch(_, _one, _two, _three) => {}
+            CoreStatement::Try(_, _one, _two, _three) => {}
         }
     }
 }

@@ -17,7 +17,7 @@ use Rattle.sj_core.specs.Position.{Position}
 use Rattle.sj_core.specs.IrType.{IrType}
 use Rattle.sj_core.specs.IrTypeVariants.{Any, Array, Nothing, Undefined, Boolean, Char, Byte, Short, Int, Long, String, Null, NoType}
 use Rattle.sj_core.specs.Terms as core
-use Rattle.sj_core.specs.Terms.{named, Expression, field_of, static_of, module_of, made_of, receiver_call, test_of, cast_of, checked_value, undefined_value, null_value, boolean_value, number_value, long_value, text_value, variable_use, choice_of, static_call, unary_of, binary_of, Statement, define_of, declare_of, assign_to, evaluate_of, return_of, log_of, assign_field, assign_static, store_module_of, throw_of, leave_label, break_nearest, if_of, while_of, loop_of, labeled_of, switch_of, Statements, no_statements, statement, followed, Method}
+use Rattle.sj_core.specs.Terms.{named, Expression, field_of, static_of, module_of, made_of, receiver_call, test_of, cast_of, checked_value, undefined_value, null_value, boolean_value, number_value, long_value, text_value, variable_use, choice_of, static_call, unary_of, binary_of, Statement, define_of, declare_of, assign_to, evaluate_of, return_of, log_of, assign_field, assign_static, store_module_of, throw_of, leave_label, break_nearest, if_of, while_of, loop_of, labeled_of, switch_of, try_of, Statements, no_statements, statement, followed, Method}
 use Rattle.sj_core.specs.Views.{expressions_of}
 use Rattle.sj_core.specs.declared.callees.Callee.{Callee}
 use Rattle.sj_core.specs.declared.callees.Callee.TheVariants as callees
@@ -218,6 +218,13 @@ switched p e bs d = record { statements = statement (switch_of (Some p) e bs.cas
 abbrev pub switch_code : Position → Expression → Branches → (ℕ → Code) → Code
 switch_code p e bs d = switched p e bs (d bs.next)
 
+abbrev pub tried : Position → List ℕ → Code → Code → Code
+tried p x first second = record { statements = statement (try_of (Some p) first.statements (named x) second.statements) no_statements; next = second.next }
+
+-- what the first code throws is caught under the name for the second
+abbrev pub tries : Position → List ℕ → Code → (ℕ → Code) → Code
+tries p x first second = tried p x first (second first.next)
+
 -- a receiver as an operand, with its null check unless it is sure: with it, it isn't fixed, and where it isn't plain it is spilled by itself
 abbrev pub received : Bool → Operand → Operand
 received true o = o
@@ -245,6 +252,7 @@ module _ (is_mutable sure : List ℕ → Bool) where
     into ls k j (if_then p c a b t) = then_use (spill (operand c (λ k j. into ls k j c) ∷ []) j) (λ es j. branches p (first_of es) (into ls k j a) (λ j. into ls k j b))
     into ls k j (while_loop p c b) = elim (is_plain c) [ true ↦ wrapped (while_of (Some p) (expression_of sure c)) (into ls discard j b) | false ↦ wrapped (while_of (Some p) (boolean_value true)) (then_use (spill (operand c (λ k j. into ls k j c) ∷ []) j) (λ es j. put_first (break_unless (first_of es)) (into ls discard j b))) ]
     into ls k j (do_while p b c) = wrapped (loop_of (Some p)) (then_code (into ls discard j b) (λ j. then_use (spill (operand c (λ k j. into ls k j c) ∷ []) j) (λ es. one (break_unless (first_of es)))))
+    into ls k j (try_catch p e x d t) = tries p x (into ls k j e) (λ j. into ls k j d)
     into ls k j (match_on p e cs d t) = then_use (spill (operand e (λ k j. into ls k j e) ∷ []) j) (λ es j. switch_code p (first_of es) (cases ls k j cs) (λ j. into ls k j d))
     into ls k j (apply_static p c n m ts t) = then_use (spill (operands ls ts) j) (λ es. finish k p t false (static_call (member c n m) (expressions_of (coerced_arguments m.params (types_of ts) es))))
     into ls k j (apply p e m ts t) = then_use (spill (receiver e (λ k j. into ls k j e) ∷ operands ls ts) j) (λ es. finish k p t false (receiver_call (callee_of (type_of_term e) m) (coerced_receiver (type_of_term e) (first_of es)) (expressions_of (coerced_arguments m.params (types_of ts) (rest_of es)))))

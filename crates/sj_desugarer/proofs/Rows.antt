@@ -5,7 +5,7 @@ use Rattle.sj_core.specs.Terms as core
 use Rattle.sj_core.specs.declared.callees.Callee.{Callee}
 use Rattle.sj_desugar.specs.Coercions.{coerced, coerced_arguments, coerced_receiver}
 use Rattle.sj_core.specs.Views.{expressions_of}
-use Rattle.sj_desugar.specs.Desugar.{Targets, into, expression_of, cases, member, types_of, operand, operands, branched, wrapped, break_unless, switched, finish, first_of, second_of, rest_of, received, receiver, position_of, branches, switch_code, Branches}
+use Rattle.sj_desugar.specs.Desugar.{Targets, into, expression_of, cases, member, types_of, operand, operands, branched, wrapped, break_unless, switched, finish, first_of, second_of, rest_of, received, receiver, position_of, branches, switch_code, Branches, tried}
 use Rattle.sj_desugar.specs.Plain.{is_plain, are_plain}
 use Rattle.sj_desugar.specs.Spill.{Destination, discard, to_variable, Code, one, put_first, joined, Spilled, spill, then_use}
 use Rattle.sj_desugar.specs.Texts.{operand_of}
@@ -17,7 +17,7 @@ use Rattle.sj_desugarer.proofs.Spilling.{use-one, use-two, use-first}
 use Rattle.sj_desugarer.proofs.Runs.{operands-plain}
 use Rattle.sj_names.specs.declared.method_names.MethodName.{MethodName}
 use Rattle.sj_names.specs.declared.method_names.Namespace.{Namespace}
-use Rattle.sj_trees.specs.Term.{Term, Terms, Cases, apply_static, throw, store_module, select, select_static, assign, var_ref, if_then, while_loop, do_while, match_on, unary_op, binary_op, is_instance_of, as_instance_of, log_line}
+use Rattle.sj_trees.specs.Term.{Term, Terms, Cases, apply_static, throw, store_module, select, select_static, assign, var_ref, if_then, while_loop, do_while, try_catch, match_on, unary_op, binary_op, is_instance_of, as_instance_of, log_line}
 use Rattle.sj_trees.specs.TypeOf.{type_of_term, unary_result, binary_result}
 use Rattle.sj_trees.specs.Types.{class_type}
 use Rattle.sj_trees.specs.declared.operators.BinaryOp.{BinaryOp}
@@ -61,6 +61,9 @@ module _ (m s : List ℕ → Bool) (ls : Targets) (k : Destination) (j : ℕ) (p
   loop-row b c = ap (λ d. wrapped (loop_of (Some p)) (joined (into m s ls discard j b) d)) (use-one (operand m s c (λ k j. into m s ls k j c)) (into m s ls discard j b).next (λ es. one (break_unless (first_of es))))
 
   -- the same where the parts are known by other names
+  pub try-joins : (u v : Code) (a : Term) (x : List ℕ) (b : Term) (t : IrType) → u ≡ into m s ls k j a → v ≡ into m s ls k u.next b → into m s ls k j (try_catch p a x b t) ≡ tried p x u v
+  try-joins u v a x b t h g = ap (λ (c : Code). tried p x c (into m s ls k c.next b)) (sym h) ∙ ap (tried p x u) (sym g)
+
   pub if-joins : (o : Placed) (u v : Code) (c a b : Term) (t : IrType) → o ≡ comes_to m s ls true j c → u ≡ into m s ls k o.next a → v ≡ into m s ls k u.next b → into m s ls k j (if_then p c a b t) ≡ behind o (λ g i. branched p g u v)
   if-joins o u v c a b t h hy hn =
       let e1 : into m s ls k (comes_to m s ls true j c).next a ≡ u = ap (λ (r : Placed). into m s ls k r.next a) (sym h) ∙ sym hy in

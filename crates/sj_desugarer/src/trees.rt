@@ -18,7 +18,7 @@ use sj_desugaring::{
     field_value, in_place, is_fixed, is_plain, is_sure, joined, kept, labeled, leaving,
     local_destination, logged, looked_up_value, looped, looped_behind, made_value, member_value,
     module_stored, nothing, number_behind, operand_destination, position_of, static_set, switched, target_of,
-    tested_loop, tested_value, thrown, unary_value, value_of, with_label, without_first,
+    tested_loop, tested_value, thrown, tried, unary_value, value_of, with_label, without_first,
 };
 use sj_names::{LocalName, NoMemory, TypeRef};
 use sj_trees::{MatchCase, Position, Tree, type_of};
@@ -96,6 +96,11 @@ pub fn statements_of(
             let whole = statements_of(alloc, locals, targets, &nowhere, next, body)?;
             let back = operand_of(alloc, locals, targets, true, whole.next, condition)?;
             looped_behind(alloc, *position, whole, back)
+        }
+        Tree::TryCatch(position, block, name, handler, _) => {
+            let first = statements_of(alloc, locals, targets, destination, next, block)?;
+            let second = statements_of(alloc, locals, targets, destination, first.next, handler)?;
+            tried(alloc, *position, first, name, second)
         }
         Tree::Match(position, selector, cases, default, _) => {
             let selected = operand_of(alloc, locals, targets, true, next, selector)?;
@@ -209,7 +214,6 @@ pub fn statements_of(
         | Tree::SelectStatic(_, _, _, _)
         | Tree::LoadModule(_, _) => value_of(alloc, destination, next, tree),
         Tree::Skip(_)
-        | Tree::TryCatch(_, _, _, _, _)
         | Tree::TryFinally(_, _, _)
         | Tree::NewArray(_, _, _)
         | Tree::ArrayValue(_, _, _)

@@ -205,6 +205,26 @@ pub fn branched(
     joined(front, one(alloc, statement, no.next)?)
 }
 
+/// A block whose thrown value is caught under a name, for the code of the handler.
+pub fn tried(
+    alloc: Global,
+    position: Position,
+    block: Written,
+    name: &LocalName,
+    handler: Written,
+) -> Result<Written, NoMemory>
+    ensures { IfOk result (λ w. code_view w ≡ desugar.tried position name.now (code_view block) (code_view handler)) }
+{
+    let caught = CoreVariable::Local(name.copied()?);
+    let statement = CoreStatement::Try(
+        Some(position),
+        block.statements,
+        caught,
+        handler.statements,
+    );
+    one(alloc, statement, handler.next)
+}
+
 // `(!c)`
 fn negated(alloc: Global, condition: CoreExpression) -> Result<CoreExpression, NoMemory>
     ensures { IfOk result (λ e. expression_view e ≡ terms.unary_of BooleanNot (expression_view condition)) }

@@ -120,6 +120,16 @@ fn emit_statement(
             let body = emit_statements(alloc, known, body)?;
             Ok(JsStmt::Labeled { label, body })
         }
+        CoreStatement::Try(_, block, name, handler) => {
+            let body = emit_statements(alloc, known, block)?;
+            let name = variable_name(alloc, name)?;
+            let handler = emit_statements(alloc, known, handler)?;
+            Ok(JsStmt::TryCatch {
+                body,
+                name,
+                handler,
+            })
+        }
         CoreStatement::Switch(_, selector, cases, default) => {
             let selector = emit_expression(alloc, known, selector)?;
             let cases = emit_cases(alloc, known, cases)?;

@@ -349,6 +349,10 @@ fn add_uses_of(
         CoreStatement::Loop(_, body) | CoreStatement::Labeled(_, _, body) => {
             add_uses_of_all(alloc, known, body, bindings)
         }
+        CoreStatement::Try(_, block, _, handler) => {
+            add_uses_of_all(alloc, known, block, bindings)?;
+            add_uses_of_all(alloc, known, handler, bindings)
+        }
         CoreStatement::Switch(_, selector, cases, default) => {
             add_uses_in(alloc, known, selector, bindings)?;
             add_uses_of_cases(alloc, known, cases, bindings)?;

@@ -4,7 +4,7 @@ use Rattle.sj_kept.proofs.Distinct.{Has, declares, Fresh, parts, in-left, in-rig
 use Rattle.sj_local.specs.Nodes.{Context, Node, node, inside, in_a_block, with_label, with_local, caught, behind, below, statements_below, all_below, cases_below}
 use Rattle.sj_local.specs.declared.walks.Declaration.TheVariants as declaration
 use Rattle.sj_proper.specs.Once.{Names, AreOnce}
-use Rattle.sj_trees.specs.Term.{Term, Terms, no_terms, more_terms, Cases, no_cases, more_cases, var_def, block_of, labeled, assign, return_to, if_then, while_loop, do_while, try_catch, try_finally, throw, match_on, new_object, store_module, select, apply, apply_statically, apply_static, unary_op, binary_op, new_array, array_value, array_length, array_select, is_instance_of, as_instance_of, log_line}
+use Rattle.sj_trees.specs.Term.{Term, Terms, no_terms, more_terms, Cases, no_cases, more_cases, var_def, block_of, labeled, assign, return_to, if_then, while_loop, do_while, try_catch, try_finally, throw, match_on, new_object, store_module, select, apply, apply_statically, apply_static, unary_op, binary_op, new_array, array_value, array_length, array_select, is_instance_of, as_instance_of, null_literal, log_line}
 use Rattle.sure_receivers.specs.Sure.{Definition, definitions, definitions_in, definitions_of_cases}
 
 names-parts : (xs ys : List Definition) (x : List ℕ) → Names (xs ++ ys) x → Names xs x ⊎ Names ys x
@@ -36,7 +36,11 @@ mutual
   told (if_then p c a b t) x y n = two-told (definitions c ++ definitions a) (definitions b) (At x c ++ At x a) (At x b) (two-told (definitions c) (definitions a) (At x c) (At x a) (told c x) (told a x)) (told b x) y n
   told (while_loop p c b) x y n = two-told (definitions c) (definitions b) (At x c) (At x b) (told c x) (told b x) y n
   told (do_while p b c) x y n = two-told (definitions b) (definitions c) (At x b) (At x c) (told b x) (told c x) y n
-  told (try_catch p e v d t) x y n = inr (two-told (definitions e) (definitions d) (At x e) (At (with_local (caught v) x) d) (told e x) (told d (with_local (caught v) x)) y n)
+  told (try_catch p e v d t) x y n =
+      let h = with_local (caught v) x in
+      ⊎_elim (λ i. inr (in-left (At x e) (At h d) (declaration.Local y) (told e x y i)))
+      (λ i. ⊎_elim (λ same. inl (ap declaration.Local (sym same))) (λ j. inr (in-right (At x e) (At h d) (declaration.Local y) (told d h y j))) i)
+      (names-parts (definitions e) (record { name = v; is_mutable = false; value = null_literal p } ∷ definitions d) y n)
   told (try_finally p e d) x y n = two-told (definitions e) (definitions d) (At x e) (At x d) (told e x) (told d x) y n
   told (throw p e) x y n = told e x y n
   told (match_on p e cs d t) x y n = two-told (definitions e ++ definitions_of_cases cs) (definitions d) (At x e ++ cases_below x cs) (At x d) (two-told (definitions e) (definitions_of_cases cs) (At x e) (cases_below x cs) (told e x) (told_cases cs x)) (told d x) y n
@@ -82,7 +86,12 @@ mutual
   names-once (if_then p c a b t) x f = two-once (definitions c ++ definitions a) (definitions b) (At x c ++ At x a) (At x b) (two-told (definitions c) (definitions a) (At x c) (At x a) (told c x) (told a x)) (told b x) (two-once (definitions c) (definitions a) (At x c) (At x a) (told c x) (told a x) (names-once c x) (names-once a x)) (names-once b x) f
   names-once (while_loop p c b) x f = two-once (definitions c) (definitions b) (At x c) (At x b) (told c x) (told b x) (names-once c x) (names-once b x) f
   names-once (do_while p b c) x f = two-once (definitions b) (definitions c) (At x b) (At x c) (told b x) (told c x) (names-once b x) (names-once c x) f
-  names-once (try_catch p e v d t) x f = two-once (definitions e) (definitions d) (At x e) (At (with_local (caught v) x) d) (told e x) (told d (with_local (caught v) x)) (names-once e x) (names-once d (with_local (caught v) x)) f.1
+  names-once (try_catch p e v d t) x f =
+      let h = with_local (caught v) x in
+      let apart = parts (At x e) (At h d) f.1 in
+      once-joined (definitions e) (record { name = v; is_mutable = false; value = null_literal p } ∷ definitions d) (names-once e x apart.0)
+      ((λ n. f.0 (in-right (At x e) (At h d) (declaration.Local v) (told d h v n))), names-once d h apart.1)
+      (λ y i j. ⊎_elim (λ same. f.0 (in-left (At x e) (At h d) (declaration.Local v) (subst (λ (z : List ℕ). Has (declares (At x e)) (declaration.Local z)) (sym same) (told e x y i)))) (λ k. apart.2 (declaration.Local y) (told e x y i) (told d h y k)) j)
   names-once (try_finally p e d) x f = two-once (definitions e) (definitions d) (At x e) (At x d) (told e x) (told d x) (names-once e x) (names-once d x) f
   names-once (throw p e) x f = names-once e x f
   names-once (match_on p e cs d t) x f = two-once (definitions e ++ definitions_of_cases cs) (definitions d) (At x e ++ cases_below x cs) (At x d) (two-told (definitions e) (definitions_of_cases cs) (At x e) (cases_below x cs) (told e x) (told_cases cs x)) (told d x) (two-once (definitions e) (definitions_of_cases cs) (At x e) (cases_below x cs) (told e x) (told_cases cs x) (names-once e x) (once_cases cs x)) (names-once d x) f

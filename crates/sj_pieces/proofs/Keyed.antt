@@ -9,7 +9,7 @@ use Rattle.sj_desugar.specs.Desugar.{operand, into, block, operands, cases, fini
 use Rattle.sj_desugar.specs.Plain.{is_plain}
 use Rattle.sj_desugar.specs.Spill.{Destination, discard, to_variable, to_result, Code, one, put_first, Operand, all_plain, Spilled, spill, spill_case, then_use}
 use Rattle.sj_desugar.specs.Texts.{operand_of}
-use Rattle.sj_trees.specs.Term.{Term, Terms, no_terms, more_terms, Cases, no_cases, more_cases, var_def, block_of, labeled, assign, return_to, if_then, while_loop, do_while, match_on, throw, new_object, load_module, store_module, select, select_static, apply, apply_statically, apply_static, unary_op, binary_op, is_instance_of, as_instance_of, undefined_literal, null_literal, boolean_literal, char_literal, byte_literal, short_literal, int_literal, long_literal, string_literal, var_ref, this_ref, log_line}
+use Rattle.sj_trees.specs.Term.{Term, Terms, no_terms, more_terms, Cases, no_cases, more_cases, var_def, block_of, labeled, assign, return_to, if_then, while_loop, do_while, try_catch, match_on, throw, new_object, load_module, store_module, select, select_static, apply, apply_statically, apply_static, unary_op, binary_op, is_instance_of, as_instance_of, undefined_literal, null_literal, boolean_literal, char_literal, byte_literal, short_literal, int_literal, long_literal, string_literal, var_ref, this_ref, log_line}
 use Rattle.sj_trees.specs.TypeOf.{type_of_term, unary_result, binary_result}
 use Rattle.sj_trees.specs.declared.classes.MethodDef.{MethodDef}
 use Rattle.sj_trees.specs.Types.{class_type}
@@ -105,6 +105,7 @@ module _ (is_mutable sure : List ℕ → Bool) where
     keyed (if_then p c a b t) = λ ts k j. act_keyed c (keyed c) ts j (λ es j. branches p (first_of es) (into is_mutable sure ts k j a) (λ j. into is_mutable sure ts k j b)) (λ es i. ((keyed a ts k i, keyed b ts k (into is_mutable sure ts k i a).next), tt))
     keyed (while_loop p c b) = λ ts k j. either-keyed (is_plain c) (wrapped (core.while_of (Some p) (expression_of sure c)) (into is_mutable sure ts discard j b)) (wrapped (core.while_of (Some p) (core.boolean_value true)) (then_use (spill (one_of ts c) j) (λ es j. put_first (break_unless (first_of es)) (into is_mutable sure ts discard j b)))) (keyed b ts discard j, tt) (act_keyed c (keyed c) ts j (λ es j. put_first (break_unless (first_of es)) (into is_mutable sure ts discard j b)) (λ es i. (((tt, tt), tt), keyed b ts discard i)), tt)
     keyed (do_while p b c) = λ ts k j. (followed-keyed (into is_mutable sure ts discard j b).statements (then_use (spill (one_of ts c) (into is_mutable sure ts discard j b).next) (λ es. one (break_unless (first_of es)))).statements (keyed b ts discard j) (act_keyed c (keyed c) ts (into is_mutable sure ts discard j b).next (λ es. one (break_unless (first_of es))) (λ es i. (((tt, tt), tt), tt))), tt)
+    keyed (try_catch p e x b t) = λ ts k j. ((keyed e ts k j, keyed b ts k (into is_mutable sure ts k j e).next), tt)
     keyed (match_on p e cs b t) = λ ts k j. act_keyed e (keyed e) ts j (λ es j. switch_code p (first_of es) (cases is_mutable sure ts k j cs) (λ j. into is_mutable sure ts k j b)) (λ es i. ((keyed_cases cs ts k i, keyed b ts k (cases is_mutable sure ts k i cs).next), tt))
     keyed (apply_static p c n m es t) = λ ts k j. use-keyed (operands is_mutable sure ts es) (keyed_operands es ts) j (λ xs. finish k p t false (core.static_call (member c n m) (expressions_of (coerced_arguments m.params (types_of es) xs)))) (λ xs i. finish-keyed k p t false (core.static_call (member c n m) (expressions_of (coerced_arguments m.params (types_of es) xs))) i)
     keyed (apply p e m es t) = λ ts k j. use-keyed (owner_of ts e ∷ operands is_mutable sure ts es) (owner_keyed e (keyed e) ts, keyed_operands es ts) j (λ xs. finish k p t false (core.receiver_call (callee_of (type_of_term e) m) (coerced_receiver (type_of_term e) (first_of xs)) (expressions_of (coerced_arguments m.params (types_of es) (rest_of xs))))) (λ xs i. finish-keyed k p t false (core.receiver_call (callee_of (type_of_term e) m) (coerced_receiver (type_of_term e) (first_of xs)) (expressions_of (coerced_arguments m.params (types_of es) (rest_of xs)))) i)

@@ -218,6 +218,11 @@ fn statement_fits(statement: &CoreStatement)
             text_fits(label.text());
             statements_fit(body);
         }
+        CoreStatement::Try(_, block, name, handler) => {
+            statements_fit(block);
+            variable_fits(name);
+            statements_fit(handler);
+        }
         CoreStatement::Switch(_, selector, cases, default) => {
             expression_fits(selector);
             cases_fit(cases);

@@ -4,7 +4,7 @@ use Rattle.std.specs.Prelude.{ℤ}
 use Rattle.body_rules.specs.Terms as core
 use Rattle.body_rules.specs.Terms.{followed}
 use Rattle.body_rules.specs.Coercions.{coerced}
-use Rattle.body_rules.specs.Desugar.{finish, has_no_value, branches, break_unless, Branches, one_case, switch_code}
+use Rattle.body_rules.specs.Desugar.{finish, has_no_value, branches, tries, break_unless, Branches, one_case, switch_code}
 use Rattle.body_rules.specs.Spill.{Destination, discard, to_variable, to_result, Code, no_code, one, put_first, joined, Operand, all_plain, Spilled, spill, spill_case, then_use}
 use Rattle.sj_trees.specs.declared.positions.Position.{Position}
 use Rattle.sj_trees.specs.declared.types.IrType.{IrType}
@@ -113,6 +113,10 @@ finish-good own ls b (to_result i) p t q e j = finish-value own ls b (has_no_val
 -- a choice, whose branches are lists of their own
 pub branches-good : (one other own : List ℕ → Type 0) (ls : List (List ℕ)) (b : Bool) (p : Position) (e : core.Expression) (c : Code) (d : ℕ → Code) (j : ℕ) → Good one ls b j c → Good other ls b c.next (d c.next) → Good own ls b j (branches p e c d)
 branches-good one other own ls b p e c d j g h = good-one own ls b j (d c.next).next (core.if_of (Some p) e c.statements (d c.next).statements) (let a = g.onward in let k = h.onward in omega arith) (λ y i. i) (g.distinct, g.proper, h.distinct, h.proper)
+
+-- a block, and the handler of what it throws, which doesn't define the name of that: lists of their own
+pub tries-good : (one other own : List ℕ → Type 0) (ls : List (List ℕ)) (b : Bool) (p : Position) (x : List ℕ) (c : Code) (d : ℕ → Code) (j : ℕ) → Good one ls b j c → (other x → ⊥) → Good other ls b c.next (d c.next) → Good own ls b j (tries p x c d)
+tries-good one other own ls b p x c d j g fresh h = good-one own ls b j (d c.next).next (core.try_of (Some p) c.statements (core.named x) (d c.next).statements) (let a = g.onward in let k = h.onward in omega arith) (λ y i. i) (g.distinct, g.proper, (λ i. fresh (h.fresh (core.named x) i)), h.distinct, h.proper)
 
 -- `if (!c) { break; }` in front, inside a loop
 pub break-good : (own : List ℕ → Type 0) (ls : List (List ℕ)) (j : ℕ) (e : core.Expression) (c : Code) → Good own ls true j c → Good own ls true j (put_first (break_unless e) c)

@@ -12,17 +12,17 @@ use Rattle.sj_kept.proofs.Methods.{keep, distinct, body_once, body_keeps, params
 use Rattle.sj_kept.proofs.Types.{empty-is}
 use Rattle.sj_kept.specs.Kept.{KeepsTreeRules}
 use Rattle.sj_local.specs.Names.{is_empty_type}
-use Rattle.sj_local.specs.Nodes.{Context, node, inside, in_a_block, with_label, behind, below, statements_below, all_below, cases_below}
+use Rattle.sj_local.specs.Nodes.{Context, node, inside, in_a_block, with_label, with_local, caught, behind, below, statements_below, all_below, cases_below}
 use Rattle.sj_local.specs.Nodes as local
 use Rattle.sj_local.specs.TreeRules.{innermost, has_type, is_mutable, has_no_terms, outermost}
 use Rattle.sj_names.proofs.Same.{impossible}
 use Rattle.sj_names.specs.declared.method_names.Namespace.{Namespace}
-use Rattle.sj_kept.specs.Typing.{Scene, may_check, IsResult, in_label, Typed, TypedBlock, TypedAll, TypedCases}
+use Rattle.sj_kept.specs.Typing.{Scene, may_check, IsResult, catching, in_label, Typed, TypedBlock, TypedAll, TypedCases}
 use Rattle.sj_kept.specs.Locals.{local_of, HasValue}
 use Rattle.sj_kept.specs.Typing as scenes
 use Rattle.sj_kept.specs.Once.{Once, OnceAll, OnceCases}
 use Rattle.sj_kept.specs.Methods.{scene_of, KeepsRules}
-use Rattle.sj_trees.specs.Term.{Term, Terms, no_terms, more_terms, Cases, no_cases, more_cases, var_def, skip, block_of, labeled, assign, return_to, if_then, while_loop, do_while, throw, match_on, new_object, select, select_static, apply, apply_statically, apply_static, unary_op, binary_op, is_instance_of, as_instance_of, undefined_literal, null_literal, boolean_literal, char_literal, byte_literal, short_literal, int_literal, long_literal, string_literal, var_ref, this_ref, log_line}
+use Rattle.sj_trees.specs.Term.{Term, Terms, no_terms, more_terms, Cases, no_cases, more_cases, var_def, skip, block_of, labeled, assign, return_to, if_then, while_loop, do_while, throw, try_catch, match_on, new_object, select, select_static, apply, apply_statically, apply_static, unary_op, binary_op, is_instance_of, as_instance_of, undefined_literal, null_literal, boolean_literal, char_literal, byte_literal, short_literal, int_literal, long_literal, string_literal, var_ref, this_ref, log_line}
 use Rattle.sj_trees.specs.declared.classes.ClassDef.{ClassDef}
 use Rattle.sj_trees.specs.declared.classes.MethodDef.{MethodDef}
 use Rattle.sj_trees.specs.declared.classes.ParamDef.{ParamDef}
@@ -119,6 +119,14 @@ module _ (w : Classes) (has : Usable) where
         let later = keep-behind s.owner s.space (At x d) (At x e) h in
         let parts = and_parts (is_built has (may_check has s.sure) d) (is_built has (may_check has s.sure) e) built in
         (record { meets = own s.space s.labels n (do_while p d e) all; built = refl; finds = tt }, typed d x x s a (n + 1) refl c h.0 (keep-front s.owner s.space (below x d) (At x e) h.1) o.0 parts.0 listed.0 (one s.space s.labels (n + 1) d e met), typed e x x s a (n + 1 + size d) refl c later.0 later.1 o.1 parts.1 listed.1 (other s.space s.labels (n + 1) d e met))
+    typed (try_catch p e v d t) x y s a n z c k h o built listed all =
+        let met = inner s.space s.labels n (try_catch p e v d t) all in
+        let handler = with_local (caught v) x in
+        let first = keep-front s.owner s.space (At x e) (At handler d) h in
+        let later = keep-behind s.owner s.space (At x e) (At handler d) h in
+        let q = and_parts has.objects (is_built has (may_check has s.sure) e && is_built has (may_check has s.sure) d) built in
+        let parts = and_parts (is_built has (may_check has s.sure) e) (is_built has (may_check has s.sure) d) q.1 in
+        (record { meets = own s.space s.labels n (try_catch p e v d t) all; built = q.0; finds = o.1 }, typed e x x s a (n + 1) refl c first.0 first.1 o.2 parts.0 listed.0 (one s.space s.labels (n + 1) e d met), typed d handler handler (catching v s) a (n + 1 + size e) refl (scope-behind x.scope s.locals (record { name = v; «mutable» = false; tpe = Any }) c) later.0 later.1 o.3 parts.1 listed.2 (other s.space s.labels (n + 1) e d met))
     typed (match_on p e cs d t) x y s a n z c k h o built listed all =
         let met = inner s.space s.labels n (match_on p e cs d t) all in
         let i = n + 1 + size e in

@@ -1,6 +1,6 @@
 -- Receivers that are never null, and so have no null check.
 use Rattle.std.specs.Prelude.{ℕ, Bool, true, false, not, ◌&&◌, ◌||◌, List, [], ◌∷◌, ◌++◌}
-use Rattle.sj_trees.specs.Term.{Term, Terms, no_terms, more_terms, Cases, no_cases, more_cases, var_def, block_of, labeled, assign, return_to, if_then, while_loop, do_while, try_catch, try_finally, throw, match_on, new_object, load_module, store_module, select, apply, apply_statically, apply_static, unary_op, binary_op, new_array, array_value, array_length, array_select, is_instance_of, as_instance_of, var_ref, this_ref, log_line}
+use Rattle.sj_trees.specs.Term.{Term, Terms, no_terms, more_terms, Cases, no_cases, more_cases, var_def, block_of, labeled, assign, return_to, if_then, while_loop, do_while, try_catch, try_finally, throw, match_on, new_object, load_module, store_module, select, apply, apply_statically, apply_static, unary_op, binary_op, new_array, array_value, array_length, array_select, is_instance_of, as_instance_of, null_literal, var_ref, this_ref, log_line}
 use Rattle.sj_trees.specs.TypeOf.{type_of_term}
 use Rattle.sj_trees.specs.declared.types.IrType.{IrType}
 use Rattle.sj_trees.specs.Same.{is_same_text}
@@ -27,7 +27,7 @@ is_sure sure (load_module p c) = true
 is_sure sure (var_ref p x t) = sure x || is_sure_type t
 is_sure sure t = is_sure_type (type_of_term t)
 
--- the definition of a local: its name, whether it is mutable, and its right side
+-- the definition of a local: its name, whether it is mutable, and its right side; what is caught may be null
 pub record Definition : Type 0 where
   pub name : List ℕ
   pub is_mutable : Bool
@@ -44,7 +44,7 @@ abbrev mutual
   definitions (if_then p c a b t) = definitions c ++ definitions a ++ definitions b
   definitions (while_loop p c b) = definitions c ++ definitions b
   definitions (do_while p b c) = definitions b ++ definitions c
-  definitions (try_catch p e x d t) = definitions e ++ definitions d
+  definitions (try_catch p e x d t) = definitions e ++ record { name = x; is_mutable = false; value = null_literal p } ∷ definitions d
   definitions (try_finally p e d) = definitions e ++ definitions d
   definitions (throw p e) = definitions e
   definitions (match_on p e cs d t) = definitions e ++ definitions_of_cases cs ++ definitions d

@@ -45,6 +45,19 @@ statements_of-returns-in-If t c =
     let e_second : code_view c.in_ok-second-in-If.second ≡ into m s ls k c.in_ok-first-in-If.first.next (view n.no.value) = subst (λ (x : Tree). code_view c.in_ok-second-in-If.second ≡ into m s ls k c.in_ok-first-in-If.first.next (view x)) c.deref-in-If-3.ensures c.in_ok-second-in-If.ensures in
     subst (λ x. IfOk c.branched.result (λ w. code_view w ≡ x)) (sym (ap (into m s ls k a.next) v ∙ if-joins m s ls k a.next n.position (placed_view c.in_ok-test-in-If.test) (code_view c.in_ok-first-in-If.first) (code_view c.in_ok-second-in-If.second) (view n.condition.value) (view n.yes.value) (view n.no.value) n.field-4 e_test e_first e_second)) c.branched.ensures
 
+pub statements_of-returns-in-TryCatch : goal.statements_of-returns-in-TryCatch
+statements_of-returns-in-TryCatch t c =
+    let n = c.in-TryCatch in
+    let a = c.args in
+    let m = is_among a.locals.now.mutable.now in
+    let s = is_among a.locals.now.sure.now in
+    let ls = map target_view a.targets.now in
+    let k = destination_view a.destination.now in
+    let v : view a.tree.now ≡ try_catch n.position (view n.block.value) n.name (view n.handler.value) n.field-4 = ap view (n.is ∙ sym (rolls-TryCatch n.position n.block n.name n.handler n.field-4)) ∙ fold-roll-Tree Term Case view_step case_step (Tree-F.TryCatch n.position n.block n.name n.handler n.field-4) in
+    let e_first : code_view c.in_ok-first-in-TryCatch.first ≡ into m s ls k a.next (view n.block.value) = subst (λ (x : Tree). code_view c.in_ok-first-in-TryCatch.first ≡ into m s ls k a.next (view x)) c.deref-in-TryCatch.ensures c.in_ok-first-in-TryCatch.ensures in
+    let e_second : code_view c.in_ok-second-in-TryCatch.second ≡ into m s ls k c.in_ok-first-in-TryCatch.first.next (view n.handler.value) = subst (λ (x : Tree). code_view c.in_ok-second-in-TryCatch.second ≡ into m s ls k c.in_ok-first-in-TryCatch.first.next (view x)) c.deref-in-TryCatch-2.ensures c.in_ok-second-in-TryCatch.ensures in
+    subst (λ x. IfOk c.tried.result (λ w. code_view w ≡ x)) (sym (ap (into m s ls k a.next) v ∙ try-joins m s ls k a.next n.position (code_view c.in_ok-first-in-TryCatch.first) (code_view c.in_ok-second-in-TryCatch.second) (view n.block.value) n.name (view n.handler.value) n.field-4 e_first e_second)) c.tried.ensures
+
 pub statements_of-returns-in-UnaryOp : goal.statements_of-returns-in-UnaryOp
 statements_of-returns-in-UnaryOp t c =
     let n = c.in-UnaryOp in
