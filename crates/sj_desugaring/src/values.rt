@@ -1,5 +1,5 @@
 // Literals, locals, This, static fields and the one objects of classes as statements.
-ghost use Rattle.std.specs.Prelude.{◌≡◌, true, IfOk};
+ghost use Rattle.std.specs.Prelude.{◌≡◌, true, false, IfOk};
 ghost use Rattle.sj_core.specs.Terms as terms;
 ghost use Rattle.sj_desugar.specs.Desugar as desugar;
 ghost use Rattle.sj_desugaring.specs.Forms.{value_code};
