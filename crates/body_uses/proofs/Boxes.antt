@@ -23,7 +23,7 @@ use Rattle.sj_emit_expr.specs.Uses.{object_binding, function_binding, class_use,
 use Rattle.sj_names.proofs.Same.{impossible}
 use Rattle.sj_names.specs.declared.method_names.Namespace.TheVariants.{Constructor}
 use Rattle.sj_names.specs.declared.references.TypeRef.{TypeRef}
-use Rattle.sj_trees.specs.Term.{Term, Terms, no_terms, more_terms, Cases, no_cases, more_cases, var_def, block_of, labeled, assign, return_to, if_then, while_loop, do_while, match_on, throw, new_object, load_module, store_module, select, select_static, apply_statically, apply_static, unary_op, binary_op, is_instance_of, as_instance_of, char_literal, var_ref, this_ref, log_line, apply}
+use Rattle.sj_trees.specs.Term.{Term, Terms, no_terms, more_terms, Cases, no_cases, more_cases, var_def, block_of, labeled, assign, return_to, if_then, while_loop, do_while, try_catch, match_on, throw, new_object, load_module, store_module, select, select_static, apply_statically, apply_static, unary_op, binary_op, is_instance_of, as_instance_of, char_literal, var_ref, this_ref, log_line, apply}
 use Rattle.sj_trees.specs.TypeOf.{type_of_term, unary_result, binary_result}
 use Rattle.sj_trees.specs.Types.{class_type, reference_type}
 use Rattle.sj_trees.specs.declared.operators.BinaryOp.{BinaryOp}
@@ -261,6 +261,11 @@ module _ (U : Binding → Type 0) (runs : Lookup) where
             let parts = followed_parts U runs body.statements (followed s.statements (core.statement test core.no_statements)) (only U runs (core.loop_of (Some p) (followed body.statements (followed s.statements (core.statement test core.no_statements)))) h) in
             let last = followed_parts U runs s.statements (core.statement test core.no_statements) parts.1 in
             either (boxes (goals_of ts) Goal.given_up b) (operand_boxes (goals_of ts) c) i (tree b ts discard j parts.0) (act c (tree c) ts body.next last.0 (break_in U runs (first_of s.expressions) (only U runs test last.1)))
+        tree (try_catch p e x d t) ts k j h i =
+            let block : Code = into is_mutable sure ts k j e in
+            let handler : Code = into is_mutable sure ts k block.next d in
+            let inside = only U runs (core.try_of (Some p) block.statements (core.named x) handler.statements) h in
+            either (boxes (goals_of ts) (goal_of k) e) (boxes (goals_of ts) (goal_of k) d) i (tree e ts k j (front U runs (uses_of_all runs block.statements) (uses_of_all runs handler.statements) inside)) (tree d ts k block.next (back U runs (uses_of_all runs block.statements) (uses_of_all runs handler.statements) inside))
         tree (throw p e) ts k j h i =
             let s : Spilled = spill (one_of ts e) j in
             let last = core.throw_of (Some p) (coerced Any (type_of_term e) (first_of s.expressions)) in

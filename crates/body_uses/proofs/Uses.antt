@@ -34,7 +34,7 @@ use Rattle.sj_names.specs.declared.method_names.MethodName.{MethodName}
 use Rattle.sj_names.specs.declared.method_names.Namespace.{Namespace}
 use Rattle.sj_names.specs.declared.method_names.Namespace.TheVariants.{Public, Private, Constructor}
 use Rattle.sure_receivers.specs.Sure.{is_sure}
-use Rattle.sj_trees.specs.Term.{Term, Terms, no_terms, more_terms, Cases, no_cases, more_cases, var_def, skip, block_of, labeled, assign, return_to, if_then, while_loop, do_while, match_on, throw, new_object, load_module, store_module, select, select_static, apply_statically, apply_static, unary_op, binary_op, is_instance_of, as_instance_of, undefined_literal, null_literal, boolean_literal, char_literal, byte_literal, short_literal, int_literal, long_literal, string_literal, var_ref, this_ref, log_line, apply}
+use Rattle.sj_trees.specs.Term.{Term, Terms, no_terms, more_terms, Cases, no_cases, more_cases, var_def, skip, block_of, labeled, assign, return_to, if_then, while_loop, do_while, try_catch, match_on, throw, new_object, load_module, store_module, select, select_static, apply_statically, apply_static, unary_op, binary_op, is_instance_of, as_instance_of, undefined_literal, null_literal, boolean_literal, char_literal, byte_literal, short_literal, int_literal, long_literal, string_literal, var_ref, this_ref, log_line, apply}
 use Rattle.sj_trees.specs.TypeOf.{type_of_term, unary_result, binary_result}
 use Rattle.sj_trees.specs.Types.{class_type, reference_type}
 use Rattle.sj_trees.specs.declared.operators.BinaryOp.{BinaryOp}
@@ -381,6 +381,7 @@ module _ (U : Binding → Type 0) (runs : Lookup) where
     literal (assign p d e) q k l = impossible q
     literal (return_to p e n) q k l = impossible q
     literal (while_loop p c b) q k l = impossible q
+    literal (try_catch p e x d t) q k l = impossible q
     literal (do_while p b c) q k l = impossible q
     literal (match_on p e cs d t) q k l = impossible q
     literal (throw p e) q k l = impossible q
@@ -557,6 +558,7 @@ module _ (U : Binding → Type 0) (runs : Lookup) where
       plain (assign p d e) q k g h = impossible q
       plain (return_to p e l) q k g h = impossible q
       plain (while_loop p c b) q k g h = impossible q
+      plain (try_catch p e x d t) q k g h = impossible q
       plain (do_while p b c) q k g h = impossible q
       plain (match_on p e cs d t) q k g h = impossible q
       plain (log_line p e) q k g h = impossible q
@@ -684,6 +686,14 @@ module _ (U : Binding → Type 0) (runs : Lookup) where
             let last = followed_parts s.statements (core.statement test core.no_statements) parts.1 in
             let g0 = two b c (inner (do_while p b c) g) in
             and_from (new b) (new c) (tree b ts discard j r.0 g0.0 parts.0) (act c (tree c) ts body.next r.1 g0.1 last.0 (break_in (first_of s.expressions) (only test last.1)))
+        tree (try_catch p e x d t) ts k j q g h =
+            let k0 = and_parts (from.objects) (old e && old d) q in
+            let k1 = and_parts (old e) (old d) k0.1 in
+            let block : Code = into is_mutable sure ts k j e in
+            let handler : Code = into is_mutable sure ts k block.next d in
+            let inside = only (core.try_of (Some p) block.statements (core.named x) handler.statements) h in
+            let g0 = two e d (inner (try_catch p e x d t) g) in
+            and_from (has.objects) (new e && new d) (objects k0.0) (and_from (new e) (new d) (tree e ts k j k1.0 g0.0 (front (uses_of_all runs block.statements) (uses_of_all runs handler.statements) inside)) (tree d ts k block.next k1.1 g0.1 (back (uses_of_all runs block.statements) (uses_of_all runs handler.statements) inside)))
         tree (throw p e) ts k j q g h =
             let k0 = and_parts (from.objects) (old e) q in
             let s : Spilled = spill (one_of ts e) j in

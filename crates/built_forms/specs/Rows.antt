@@ -6,7 +6,7 @@ use Rattle.sj_names.specs.declared.method_names.Namespace.TheVariants.{Public, P
 use Rattle.sj_names.specs.declared.references.BaseRef.{BaseRef}
 use Rattle.sj_names.specs.declared.references.TypeRef.{TypeRef}
 use Rattle.sj_trees.specs.Erase.{nowhere}
-use Rattle.sj_trees.specs.Term.{Term, no_terms, more_terms, no_cases, more_cases, var_def, load_module, store_module, new_array, skip, block_of, labeled, assign, return_to, if_then, match_on, throw, new_object, select, select_static, apply, apply_statically, apply_static, this_ref, binary_op, is_instance_of, as_instance_of, char_literal, int_literal, long_literal, var_ref}
+use Rattle.sj_trees.specs.Term.{Term, no_terms, more_terms, no_cases, more_cases, var_def, load_module, store_module, new_array, skip, block_of, labeled, assign, return_to, if_then, try_catch, match_on, throw, new_object, select, select_static, apply, apply_statically, apply_static, this_ref, binary_op, is_instance_of, as_instance_of, char_literal, int_literal, long_literal, var_ref}
 use Rattle.sj_trees.specs.declared.classes.MethodDef.{MethodDef}
 use Rattle.sj_trees.specs.declared.operators.BinaryOp.{BinaryOp}
 use Rattle.sj_trees.specs.declared.operators.BinaryOp.TheVariants.{StrictEqual, StrictNotEqual, IntDivide, IntEqual, LongRemainder}
@@ -47,6 +47,13 @@ unbuilt = new_array nowhere (record { base = BaseRef.Int; dimensions = 1 }) (int
 -- the one object of the class is this value
 abbrev pub storing : Term → Term
 storing value = store_module nowhere (codes "A") value
+
+-- what the block throws is caught for the handler
+abbrev pub catching : Term → Term → Term
+catching block handler = try_catch nowhere block (codes "e") handler NoType
+
+abbrev pub catching_value : Term → Term → Term
+catching_value block handler = try_catch nowhere block (codes "e") handler Any
 
 -- a test and a cast of a value
 abbrev pub tested : IrType → Term → Term
@@ -154,6 +161,10 @@ pub record WorkedForms : Type 0 where
   pub reads_a_field : not_built (static (select nowhere object (codes "A") (codes "f") Int)) ≡ false
   pub reads_a_field_of_what_is_not_built : not_built (static (select nowhere unbuilt (codes "A") (codes "f") Int)) ≡ true
   pub throws : not_built (static (throw nowhere object)) ≡ false
+  pub catches : not_built (static (catching (throw nowhere object) nothing)) ≡ false
+  pub catches_in_what_is_not_built : not_built (static (catching unbuilt nothing)) ≡ true
+  pub catches_for_what_is_not_built : not_built (static (catching nothing unbuilt)) ≡ true
+  pub catches_without_objects : is_built anything (λ e. true) (catching nothing nothing) ≡ false
   pub throws_a_char : not_built (static (throw nowhere letter)) ≡ false
   pub calls_a_private_method : not_built (static (direct Private object NoType)) ≡ false
   pub calls_a_private_method_on_a_char : not_built (static (direct Private letter NoType)) ≡ false
@@ -226,6 +237,9 @@ pub record WorkedForms : Type 0 where
   pub first_is_a_char : makes_box Any (two letter (number 1)) ≡ false
   pub char_that_only_throws : makes_box Any (inside Char (throw nowhere object)) ≡ false
   pub char_that_throws_or_gives : makes_box Any (choice Char (throw nowhere object) letter) ≡ true
+  pub char_that_is_caught_for : makes_box Any (catching_value letter (number 1)) ≡ true
+  pub char_of_a_handler : makes_box Any (catching_value (number 1) letter) ≡ true
+  pub char_of_neither : makes_box Any (catching_value (number 1) (number 2)) ≡ false
   pub throws_a_char_itself : makes_box NoType (throw nowhere letter) ≡ true
   pub branch_is_a_char : makes_box Any (choice Any letter (number 1)) ≡ true
   pub branch_is_a_char_given_up : makes_box NoType (choice Any (two nothing letter) (number 1)) ≡ false

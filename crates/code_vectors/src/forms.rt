@@ -45,7 +45,8 @@ fn is_built_tree(tree: &Tree) -> bool
         Tree::Select(_, object, _, _, _) => is_object(object) && is_built_tree(object),
         Tree::Assign(_, first, second)
         | Tree::While(_, first, second)
-        | Tree::DoWhile(_, first, second) => is_built_tree(first) && is_built_tree(second),
+        | Tree::DoWhile(_, first, second)
+        | Tree::TryCatch(_, first, _, second, _) => is_built_tree(first) && is_built_tree(second),
         Tree::If(_, condition, yes, no, _) => {
             is_built_tree(condition) && is_built_tree(yes) && is_built_tree(no)
         }
@@ -69,8 +70,7 @@ fn is_built_tree(tree: &Tree) -> bool
         | Tree::StringLiteral(_, _)
         | Tree::VarRef(_, _, _)
         | Tree::This(_, _) => true,
-        Tree::TryCatch(_, _, _, _, _)
-        | Tree::TryFinally(_, _, _)
+        Tree::TryFinally(_, _, _)
         | Tree::Apply(_, _, _, _, _)
         | Tree::NewArray(_, _, _)
         | Tree::ArrayValue(_, _, _)

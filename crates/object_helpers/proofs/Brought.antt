@@ -23,7 +23,7 @@ use Rattle.sj_infos.specs.Infos.{is_other_than_zero}
 use Rattle.sj_names.proofs.Same.{impossible}
 use Rattle.sj_names.specs.declared.method_names.Namespace.TheVariants.{Constructor}
 use Rattle.sj_names.specs.declared.references.TypeRef.{TypeRef}
-use Rattle.sj_trees.specs.Term.{Term, Terms, no_terms, more_terms, Cases, no_cases, more_cases, var_def, block_of, labeled, assign, return_to, if_then, while_loop, do_while, match_on, throw, new_object, load_module, store_module, select, select_static, apply_statically, apply_static, unary_op, binary_op, is_instance_of, as_instance_of, undefined_literal, null_literal, boolean_literal, char_literal, byte_literal, short_literal, int_literal, long_literal, string_literal, var_ref, this_ref, log_line, apply}
+use Rattle.sj_trees.specs.Term.{Term, Terms, no_terms, more_terms, Cases, no_cases, more_cases, var_def, block_of, labeled, assign, return_to, if_then, while_loop, do_while, try_catch, match_on, throw, new_object, load_module, store_module, select, select_static, apply_statically, apply_static, unary_op, binary_op, is_instance_of, as_instance_of, undefined_literal, null_literal, boolean_literal, char_literal, byte_literal, short_literal, int_literal, long_literal, string_literal, var_ref, this_ref, log_line, apply}
 use Rattle.sj_trees.specs.TypeOf.{type_of_term, unary_result, binary_result}
 use Rattle.sj_trees.specs.Types.{class_type, reference_type}
 use Rattle.sj_trees.specs.declared.operators.BinaryOp.{BinaryOp}
@@ -321,6 +321,9 @@ module _ (Q : Binding → Type 0) (runs : Lookup) (box : Q (object_binding (code
     break_in e h = join (uses_in runs e ++ []) [] (join (uses_in runs e) [] h none) none
 
     -- a branch on what is first
+    try_in : (p : Position) (x : List ℕ) (first second : core.Statements) → Within first → Within second → Within (core.statement (core.try_of (Some p) first (core.named x) second) core.no_statements)
+    try_in p x first second h k = alone (core.try_of (Some p) first (core.named x) second) (join (uses_of_all runs first) (uses_of_all runs second) h k)
+
     branch_in : (p : Position) (e : Expression) (first second : core.Statements) → In e → Within first → Within second → Within (core.statement (core.if_of (Some p) e first second) core.no_statements)
     branch_in p e first second h k l = alone (core.if_of (Some p) e first second) (join (uses_in runs e ++ uses_of_all runs first) (uses_of_all runs second) (join (uses_in runs e) (uses_of_all runs first) h k) l)
 
@@ -375,6 +378,7 @@ module _ (Q : Binding → Type 0) (runs : Lookup) (box : Q (object_binding (code
             let body : Code = into is_mutable sure ts discard j b in
             let made : List Expression → ℕ → Code = (λ es. one (break_unless (first_of es))) in
             alone (core.loop_of (Some p) (followed body.statements (then_use (spill (operand_for ts c ∷ []) body.next) made).statements)) (followed_in body.statements (then_use (spill (operand_for ts c ∷ []) body.next) made).statements (tree b g0.0 ts discard j) (act_in c g0.1 (tree c g0.1) ts body.next made (λ x i f. alone (break_unless (first_of x)) (break_in (first_of x) f))))
+        tree (try_catch p e x d t) g ts k j = let g0 = two e d (inner (try_catch p e x d t) g) in try_in p x (into is_mutable sure ts k j e).statements (into is_mutable sure ts k (into is_mutable sure ts k j e).next d).statements (tree e g0.0 ts k j) (tree d g0.1 ts k (into is_mutable sure ts k j e).next)
         tree (match_on p e cs d t) g ts k j =
             let i0 : Each (written e ++ cases_written cs ++ written d) = inner (match_on p e cs d t) g in
             let i1 : Each (written e ++ cases_written cs) = ahead Brings (written e ++ cases_written cs) (written d) i0 in

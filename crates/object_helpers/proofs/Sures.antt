@@ -3,6 +3,7 @@ use Rattle.std.proofs.Common.{◌≡◌, ℕ, Bool, true, false, ◌&&◌, ◌||
 use Rattle.std.proofs.lemmas.Bool.{and_from}
 use Rattle.body_uses.proofs.Equal.{differs}
 use Rattle.body_uses.proofs.Uses.{or_first, or_second}
+use mathlib.Core.Path.{fun_ext}
 use Rattle.sj_infos.specs.Sure as infos
 use Rattle.sj_infos.specs.Sure.{with_name, with_local, sure_among}
 use Rattle.sj_infos.specs.Trees.{trees, all_below as all_trees, cases_below as case_trees}
@@ -19,7 +20,7 @@ use Rattle.sj_names.proofs.Same.{impossible, text-same, text-refl}
 use Rattle.sj_names.specs.Same.{is_same_text}
 use Rattle.sj_names.specs.declared.method_names.Namespace.{Namespace}
 use Rattle.body_uses.specs.Once.{IsAmong}
-use Rattle.sj_trees.specs.Term.{Term, Terms, Cases, no_terms, more_terms, no_cases, more_cases, var_def, block_of, labeled, assign, return_to, if_then, while_loop, do_while, try_catch, try_finally, throw, match_on, new_object, load_module, store_module, select, apply, apply_statically, apply_static, unary_op, binary_op, new_array, array_value, array_length, array_select, is_instance_of, as_instance_of, var_ref, this_ref, log_line}
+use Rattle.sj_trees.specs.Term.{Term, Terms, Cases, no_terms, more_terms, no_cases, more_cases, var_def, block_of, labeled, assign, return_to, if_then, while_loop, do_while, try_catch, try_finally, throw, match_on, new_object, load_module, store_module, select, apply, apply_statically, apply_static, unary_op, binary_op, new_array, array_value, array_length, array_select, is_instance_of, as_instance_of, var_ref, this_ref, null_literal, log_line}
 use Rattle.sj_trees.specs.TypeOf.{type_of_term}
 use Rattle.sj_trees.specs.declared.classes.ClassDef.{ClassDef}
 use Rattle.sj_trees.specs.declared.classes.MethodDef.{MethodDef}
@@ -204,6 +205,21 @@ defined_walk x e c hidden names sure out reads within y v is plain named h = go 
     go true is h = hidden_or is (named h)
     go false is h = ⊎_elim (λ i. inl (further i)) (λ i. inr i) (plain h)
 
+-- what is caught isn't sure, so it adds nothing to what is
+caught_adds : (sure : List ℕ → Bool) (p : Position) (x y : List ℕ) → one_more sure (record { name = x; is_mutable = false; value = null_literal p }) y ≡ sure y
+caught_adds sure p x y = go (sure y) (is_same_text y x)
+  where
+    go : (a b : Bool) → (a || (b && true && false)) ≡ a
+    go true b = refl
+    go false true = refl
+    go false false = refl
+
+caught_behind : (p : Position) (x : List ℕ) (sure : List ℕ → Bool) (ds es : List Definition) (y : List ℕ) → sure_behind sure (ds ++ record { name = x; is_mutable = false; value = null_literal p } ∷ es) y ≡ sure_behind sure (ds ++ es) y
+caught_behind p x sure ds es y = behind_append sure ds (record { name = x; is_mutable = false; value = null_literal p } ∷ es) y ∙ ap (λ (s : List ℕ → Bool). sure_behind s es y) (fun_ext (caught_adds (sure_behind sure ds) p x)) ∙ sym (behind_append sure ds es y)
+
+caught_walk : (p : Position) (x : List ℕ) (a b : Term) (sure : List ℕ → Bool) (hidden : List (List ℕ)) {names : List (List ℕ)} → ((y : List ℕ) → infos.is_among names y ≡ true → (sure_behind sure (definitions a ++ definitions b) y ≡ true) ⊎ IsAmong hidden y) → (y : List ℕ) → infos.is_among names y ≡ true → (sure_behind sure (definitions a ++ record { name = x; is_mutable = false; value = null_literal p } ∷ definitions b) y ≡ true) ⊎ IsAmong hidden y
+caught_walk p x a b sure hidden walked y h = ⊎_elim (λ i. inl (caught_behind p x sure (definitions a) (definitions b) y ∙ i)) (λ i. inr i) (walked y h)
+
 -- two trees one behind the other, and a receiver with arguments
 walk_two : (a b : Term) (c : Context) (hidden : List (List ℕ)) → New c (At c a ++ At c b) → (New c (At c a) → Step hidden (At c a) (trees a) (definitions a)) → (New c (At c b) → Step hidden (At c b) (trees b) (definitions b)) → Step hidden (At c a ++ At c b) (trees a ++ trees b) (definitions a ++ definitions b)
 walk_two a b c hidden new f g = two hidden (At c a) (At c b) (trees a) (trees b) (definitions a) (definitions b) (f (new_left c (At c a) (At c b) new)) (g (new_right c (At c a) (At c b) new))
@@ -226,7 +242,7 @@ mutual
   walk (do_while p a b) c hidden out new names sure free reads fresh within = walk_two a b c hidden new (walk a c hidden out) (walk b c hidden out) names sure free reads.1 fresh within
   walk (try_catch p a x b t) c hidden out new names sure free reads fresh within =
       let d : Context = with_caught (caught x) c in
-      two hidden (At c a) (At d b) (trees a) (trees b) (definitions a) (definitions b) (walk a c hidden out (λ z n. new z (inr (in-left (At c a) (At d b) (declaration.Local z) n)))) (walk b d hidden (λ z n. other_local c.scope (caught x) z (out z n) (λ e. free z n (inl (ap declaration.Local e)))) (λ z n. other_local c.scope (caught x) z (new z (inr (in-right (At c a) (At d b) (declaration.Local z) n))) (λ e. fresh.0 (subst (λ (v : List ℕ). Has (declares (At c a ++ At d b)) (declaration.Local v)) e (in-right (At c a) (At d b) (declaration.Local z) n))))) names sure (λ z n i. free z n (inr i)) reads.1 fresh.1 within
+      caught_walk p x a b sure hidden (two hidden (At c a) (At d b) (trees a) (trees b) (definitions a) (definitions b) (walk a c hidden out (λ z n. new z (inr (in-left (At c a) (At d b) (declaration.Local z) n)))) (walk b d hidden (λ z n. other_local c.scope (caught x) z (out z n) (λ e. free z n (inl (ap declaration.Local e)))) (λ z n. other_local c.scope (caught x) z (new z (inr (in-right (At c a) (At d b) (declaration.Local z) n))) (λ e. fresh.0 (subst (λ (v : List ℕ). Has (declares (At c a ++ At d b)) (declaration.Local v)) e (in-right (At c a) (At d b) (declaration.Local z) n))))) names sure (λ z n i. free z n (inr i)) reads.1 fresh.1 within)
   walk (try_finally p a b) c hidden out new names sure free reads fresh within = walk_two a b c hidden new (walk a c hidden out) (walk b c hidden out) names sure free reads.1 fresh within
   walk (throw p e) c hidden out new names sure free reads fresh within = walk e c hidden out new names sure free reads.1 fresh within
   walk (match_on p e cs d t) c hidden out new names sure free reads fresh within =

@@ -1,7 +1,7 @@
 -- Fields and calls on receivers and the one objects of classes, and what is written for them.
 use Rattle.std.specs.Prelude.{◌≡◌, ℕ, Bool, false, List, [], ◌∷◌, Some, codes, pos}
 use Rattle.sj_core.specs.Terms as core
-use Rattle.sj_core.specs.Terms.{Statements, statement, no_statements, named, numbered, variable_use, field_of, module_of, store_module_of, checked_value, receiver_call, number_value, expression, no_expressions, constant_of, assign_to, evaluate_of, return_of}
+use Rattle.sj_core.specs.Terms.{Statements, statement, no_statements, try_of, throw_of, named, numbered, variable_use, field_of, module_of, store_module_of, checked_value, receiver_call, number_value, expression, no_expressions, constant_of, assign_to, evaluate_of, return_of}
 use Rattle.sj_core.specs.declared.callees.Callee.TheVariants as callees
 use Rattle.sj_desugar.specs.Desugar.{into, member}
 use Rattle.sj_desugar.specs.Spill.{discard, to_result}
@@ -10,8 +10,8 @@ use Rattle.sj_core.specs.MethodName.{MethodName}
 use Rattle.sj_core.specs.NamespaceVariants.{Private}
 use Rattle.sj_core.specs.TypeRef.{TypeRef}
 use Rattle.sj_core.specs.Erase.{nowhere}
-use Rattle.sj_core.specs.Term.{Term, no_terms, more_terms, skip, block_of, load_module, store_module, select, apply_statically, int_literal, var_ref}
-use Rattle.sj_core.specs.IrTypeVariants.{Class, Int}
+use Rattle.sj_core.specs.Term.{Term, no_terms, more_terms, skip, block_of, try_catch, throw, load_module, store_module, select, apply_statically, int_literal, var_ref}
+use Rattle.sj_core.specs.IrTypeVariants.{Class, Int, NoType}
 
 -- the local `a` is never null, and `b` may be
 abbrev is_a : List ℕ → Bool
@@ -31,6 +31,10 @@ takes_int = record { simple = codes "m"; params = TypeRef.Int ∷ []; result = S
 abbrev block : Term
 block = block_of nowhere (more_terms (skip nowhere) (more_terms (int_literal nowhere (pos 4)) no_terms))
 
+-- the statements that throw the block's value, whose variable has this number
+abbrev thrown_block : ℕ → Statements
+thrown_block n = statement (core.declare_of (Some nowhere) (numbered n)) (statement (assign_to (Some nowhere) (numbered n) (number_value (pos 4))) (statement (throw_of (Some nowhere) (variable_use (numbered n))) no_statements))
+
 -- a receiver that is never null is read as it is, any other through its check, which comes in front of the arguments
 pub record ReceiversAreChecked : Type 0 where
   pub of_a : returned (select nowhere (use_of (codes "a")) (codes "A") (codes "f") Int) ≡ statement (return_of (Some nowhere) (field_of (variable_use (named (codes "a"))) (codes "A") (codes "f"))) no_statements
@@ -40,6 +44,12 @@ pub record ReceiversAreChecked : Type 0 where
 -- the statements of a tree whose value isn't used
 abbrev dropped : Term → Statements
 dropped t = (into (λ x. false) is_a [] discard 1 t).statements
+
+-- what a block throws is caught for a handler, and the value of either goes where that of the whole goes; behind the handler variables for operands are further ones
+pub record ThrowsAreCaught : Type 0 where
+  pub either_value : returned (try_catch nowhere (int_literal nowhere (pos 1)) (codes "e") (use_of (codes "e")) Int) ≡ statement (try_of (Some nowhere) (statement (return_of (Some nowhere) (number_value (pos 1))) no_statements) (named (codes "e")) (statement (return_of (Some nowhere) (variable_use (named (codes "e")))) no_statements)) no_statements
+  pub dropped_values : dropped (try_catch nowhere (int_literal nowhere (pos 1)) (codes "e") (throw nowhere (use_of (codes "e"))) NoType) ≡ statement (try_of (Some nowhere) no_statements (named (codes "e")) (statement (throw_of (Some nowhere) (variable_use (named (codes "e")))) no_statements)) no_statements
+  pub numbered_on : dropped (try_catch nowhere (throw nowhere block) (codes "e") (throw nowhere block) NoType) ≡ statement (try_of (Some nowhere) (thrown_block 1) (named (codes "e")) (thrown_block 2)) no_statements
 
 -- the one object of the class `A`
 abbrev loaded : Term

@@ -3,7 +3,7 @@
 //! `specs/` defines it. The functions here are laws.
 #![tactic(auto)]
 
-ghost use Rattle.sj_desugar.specs.Rows.{ReceiversAreChecked, ModulesAreLoaded};
+ghost use Rattle.sj_desugar.specs.Rows.{ReceiversAreChecked, ThrowsAreCaught, ModulesAreLoaded};
 
 /// Worked trees: a receiver that is never null isn't checked, and the check of any other comes in front of the arguments.
 pub fn worked_receivers()
@@ -13,4 +13,9 @@ pub fn worked_receivers()
 /// Worked trees: the one object of a class is loaded where its value isn't used too, and what is stored is evaluated in front of the store.
 pub fn worked_modules()
     ensures { ModulesAreLoaded }
+{}
+
+/// Worked trees: the value of a block and that of its handler go where the value of the whole goes.
+pub fn worked_tries()
+    ensures { ThrowsAreCaught }
 {}
