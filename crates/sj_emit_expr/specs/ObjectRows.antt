@@ -12,7 +12,7 @@ use Rattle.sj_mangling.specs.NamespaceVariants.{Public, PublicStatic, Private, P
 use Rattle.sj_mangling.specs.BaseRef.{BaseRef}
 use Rattle.sj_mangling.specs.TypeRef.{TypeRef}
 use Rattle.sj_desugar.specs.Erase.{nowhere}
-use Rattle.sj_desugar.specs.Term.{Term, Terms, no_terms, more_terms, var_def, skip, block_of, assign, throw, new_object, load_module, store_module, select, select_static, apply, apply_statically, int_literal, long_literal, var_ref, this_ref, binary_op}
+use Rattle.sj_desugar.specs.Term.{Term, Terms, no_terms, more_terms, var_def, skip, block_of, assign, throw, try_catch, new_object, load_module, store_module, select, select_static, apply, apply_statically, int_literal, long_literal, var_ref, this_ref, binary_op}
 use Rattle.sj_desugar.specs.ParamDef.{ParamDef}
 use Rattle.sj_desugar.specs.BinaryOpVariants.{IntAdd, IntDivide, LongRemainder}
 use Rattle.sj_desugar.specs.IrType.{IrType}
@@ -126,3 +126,7 @@ loads_piece = piece Constructor from_nothing [] Types.NoType (block (store_modul
   where
     loaded : Term
     loaded = load_module nowhere a_name
+
+-- what is thrown where a field of null is read is caught
+abbrev pub catches_piece : Piece
+catches_piece = piece PublicStatic (named (codes "catches") (TypeRef.Class a_name ∷ []) TypeRef.Int) (param (codes "q") a_class ∷ []) Types.Int (try_catch nowhere (field (use_of (codes "q") a_class)) (codes "e") (number 0) Types.Int)

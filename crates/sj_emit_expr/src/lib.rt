@@ -6,7 +6,7 @@
 ghost use Rattle.std.specs.Prelude.{◌≡◌, codes, [], ◌∷◌};
 ghost use Rattle.js_tree.specs.Texts.{piece_text};
 ghost use Rattle.js_tree.specs.declared.items.Binding.{Binding};
-ghost use Rattle.sj_emit_expr.specs.ObjectRows.{constructor_piece, field_piece, same_piece, sum_piece, sets_piece, gets_piece, others_piece, called_piece, looks_up_piece, loads_piece};
+ghost use Rattle.sj_emit_expr.specs.ObjectRows.{constructor_piece, field_piece, same_piece, sum_piece, sets_piece, gets_piece, others_piece, called_piece, looks_up_piece, loads_piece, catches_piece};
 ghost use Rattle.sj_emit_expr.specs.Rows.{piece_of, triple_method, triples, two_method, one_and_two};
 
 /// Two worked methods of the class `A`: `f` with the loop `while (p < 10) { p = p * 3 }; p`, and `two`, which adds what `one` gives to the value
@@ -39,5 +39,7 @@ pub fn worked_objects()
     ensures looks_up { piece_text looks_up_piece ≡ codes "function s_A__calls$$V() {\n  $nn(v_q).m_m$$V();\n  d_m$$V($nn(v_q));\n  f_java_lang_Integer__m$$V(v_q);\n  f_java_lang_Byte__m$$V($nn(v_q));\n  $nn(v_q).m_m$$V();\n  r_m$$R(new $C(v_q));\n  let $1;\n  let $2;\n  $2 = v_q;\n  $1 = $nn($2);\n  $1.m_m$$V();\n}\n" }
     ensures looks_up_uses { looks_up_piece.uses ≡ record { owner = codes "java.lang.Object"; name = codes "$nn" } ∷ record { owner = codes "java.lang.Object"; name = codes "d_m$$V" } ∷ record { owner = codes "java.lang.Integer"; name = codes "f_java_lang_Integer__m$$V" } ∷ record { owner = codes "java.lang.Byte"; name = codes "f_java_lang_Byte__m$$V" } ∷ record { owner = codes "java.lang.Object"; name = codes "r_m$$R" } ∷ record { owner = codes "java.lang.Object"; name = codes "$C" } ∷ [] }
     ensures loads { piece_text loads_piece ≡ codes "function ct_A__$3cinit$3e$$V($this) {\n  q_A($this);\n  let $1;\n  $1 = $this;\n  q_A($1);\n  $this.f_A__f = g_A().f_A__f;\n  g_A();\n  return $this;\n}\n" }
+    ensures catches { piece_text catches_piece ≡ codes "function s_A__catches$$LA$$I(v_q) {\n  try {\n    return $nn(v_q).f_A__f;\n  } catch (v_e) {\n    return 0;\n  }\n}\n" }
+    ensures catches_uses { catches_piece.uses ≡ record { owner = codes "java.lang.Object"; name = codes "$nn" } ∷ [] }
     ensures loads_uses { loads_piece.uses ≡ record { owner = codes "A"; name = codes "q_A" } ∷ record { owner = codes "A"; name = codes "g_A" } ∷ [] }
 {}

@@ -66,3 +66,11 @@ returns-clause-loads c = refl
 pub returns-clause-loads_uses : goal.returns-clause-loads_uses
 unfolding put digits
 returns-clause-loads_uses c = refl
+
+pub returns-clause-catches : goal.returns-clause-catches
+unfolding put digits
+returns-clause-catches c = refl
+
+pub returns-clause-catches_uses : goal.returns-clause-catches_uses
+unfolding put digits
+returns-clause-catches_uses c = refl
