@@ -19,11 +19,11 @@ use Rattle.sj_desugar.specs.Plain.{is_no_type, is_plain, are_plain}
 use Rattle.sj_desugar.specs.Spill.{Destination, discard, to_variable, to_result, Code, one, put_first, Operand, Spilled, spill, then_use}
 use Rattle.sj_desugar.specs.Texts.{operand_of}
 use Rattle.sj_emit_expr.specs.Templates.{check_name, is_nonzero_literal, called_member}
-use Rattle.sj_emit_expr.specs.Uses.{object_binding, function_binding, class_use, setter_use, helper_of, test_uses, cast_uses, uses_in, uses_in_all, uses_of, uses_of_all, uses_of_cases, call_uses}
+use Rattle.sj_emit_expr.specs.Uses.{object_binding, function_binding, class_use, setter_use, store_use, helper_of, test_uses, cast_uses, uses_in, uses_in_all, uses_of, uses_of_all, uses_of_cases, call_uses}
 use Rattle.sj_names.proofs.Same.{impossible}
 use Rattle.sj_names.specs.declared.method_names.Namespace.TheVariants.{Constructor}
 use Rattle.sj_names.specs.declared.references.TypeRef.{TypeRef}
-use Rattle.sj_trees.specs.Term.{Term, Terms, no_terms, more_terms, Cases, no_cases, more_cases, var_def, block_of, labeled, assign, return_to, if_then, while_loop, do_while, match_on, throw, new_object, select, select_static, apply_statically, apply_static, unary_op, binary_op, is_instance_of, as_instance_of, char_literal, var_ref, this_ref, log_line, apply}
+use Rattle.sj_trees.specs.Term.{Term, Terms, no_terms, more_terms, Cases, no_cases, more_cases, var_def, block_of, labeled, assign, return_to, if_then, while_loop, do_while, match_on, throw, new_object, load_module, store_module, select, select_static, apply_statically, apply_static, unary_op, binary_op, is_instance_of, as_instance_of, char_literal, var_ref, this_ref, log_line, apply}
 use Rattle.sj_trees.specs.TypeOf.{type_of_term, unary_result, binary_result}
 use Rattle.sj_trees.specs.Types.{class_type, reference_type}
 use Rattle.sj_trees.specs.declared.operators.BinaryOp.{BinaryOp}
@@ -323,6 +323,14 @@ module _ (U : Binding → Type 0) (runs : Lookup) where
             let written = spill_in U runs os j parts.0 (one_in U runs s.expressions (spill_count os j) (finished U runs k p t read s.next parts.1)) in
             either (is_boxed_at (goal_of k) t) (operand_boxes (goals_of ts) e) i (finish_box k p t false read s.next parts.1) (receiver_box e (tree e) ts written.0)
         tree (select_static p c f t) ts k j h i = finish_box k p t false (core.static_of c f) j h i
+        tree (load_module p c) ts k j h i = finish_box k p (class_type c) false (core.module_of c) j h i
+        tree (store_module p c e) ts k j h i =
+            let s : Spilled = spill (one_of ts e) j in
+            let value = coerced (class_type c) (type_of_term e) (first_of s.expressions) in
+            let last = core.store_module_of (Some p) c value in
+            let parts = followed_parts U runs s.statements (core.statement last core.no_statements) h in
+            let of_value = All-tail U (store_use c) (uses_in runs value) (only U runs last parts.1) in
+            either (is_boxed (class_type c) e) (operand_boxes (goals_of ts) e) i (coerced_box (class_type c) (type_of_term e) (first_of s.expressions) of_value) (act e (tree e) ts j parts.0 (uncoerced U runs (class_type c) (type_of_term e) (first_of s.expressions) of_value))
         tree (unary_op p o e) ts k j h i =
             let s : Spilled = spill (one_of ts e) j in
             let made = core.unary_of o (first_of s.expressions) in

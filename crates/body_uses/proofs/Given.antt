@@ -18,7 +18,7 @@ use Rattle.sj_names.specs.declared.method_names.Namespace.{Namespace}
 use Rattle.sj_names.specs.declared.method_names.Namespace.TheVariants.{Public, PublicStatic, Private, PrivateStatic, Constructor}
 use Rattle.object_folders.specs.Typing.{may_check, is_built_with}
 use Rattle.object_folders.specs.Built.{Usable, can_box, may_make, is_built, any_object, body_boxes, is_object_body}
-use Rattle.sj_trees.specs.Term.{Term, Terms, new_object, select, select_static, apply_statically, apply_static, is_instance_of, as_instance_of, binary_op, apply}
+use Rattle.sj_trees.specs.Term.{Term, Terms, new_object, load_module, store_module, select, select_static, apply_statically, apply_static, is_instance_of, as_instance_of, binary_op, apply}
 use Rattle.sj_trees.specs.declared.classes.MethodDef.{MethodDef}
 use Rattle.sj_trees.specs.declared.positions.Position.{Position}
 use Rattle.sj_trees.specs.declared.types.IrType.{IrType}
@@ -90,6 +90,8 @@ module _ (has : Usable) (used : List Binding) where
   gives (new_object p c m ts) g = λ h k f u. g k f u
   gives (select p e c f t) g = λ h. g
   gives (select_static p c f t) g = (λ h u. g.0 u, λ h u. g.1 u)
+  gives (load_module p c) g = λ h u. g u
+  gives (store_module p c e) g = λ h u. g u
   gives (is_instance_of p e t) g = g
   gives (as_instance_of p e t) g = g
   gives (binary_op p o e d) g = λ h. g

@@ -16,7 +16,7 @@ use Rattle.sj_names.specs.declared.method_names.Member.{Member}
 use Rattle.sj_names.specs.declared.method_names.MethodName.{MethodName}
 use Rattle.sj_names.specs.declared.method_names.Namespace.{Namespace}
 use Rattle.sj_names.specs.declared.method_names.Namespace.TheVariants.{Constructor, Public, Private}
-use Rattle.sj_trees.specs.Term.{Term, new_object, select, select_static, apply_statically, apply_static, is_instance_of, as_instance_of, binary_op, apply}
+use Rattle.sj_trees.specs.Term.{Term, new_object, load_module, store_module, select, select_static, apply_statically, apply_static, is_instance_of, as_instance_of, binary_op, apply}
 use Rattle.sure_receivers.specs.Sure.{is_sure}
 use Rattle.body_uses.proofs.Given.{all_from}
 use Rattle.body_uses.proofs.Uses.{Gives, GivesReceived, tree}
@@ -41,6 +41,8 @@ module _ (U : Binding → Type 0) (runs : Lookup) (linked_from linked_here : Mem
   gives (new_object p c m ts) = λ h k f u. impossible h
   gives (select p e c f t) = λ h. impossible h
   gives (select_static p c f t) = (λ h u. impossible h, λ h u. impossible h)
+  gives (load_module p c) = λ h u. impossible h
+  gives (store_module p c e) = λ h u. impossible h
   gives (is_instance_of p e t) = λ h u. impossible h
   gives (as_instance_of p e t) = λ h u. impossible h
   gives (binary_op p o e d) = λ h. no_division from (λ x. refl) o h

@@ -22,7 +22,7 @@ use Rattle.sj_desugar.specs.Spill.{Destination, discard, to_variable, to_result,
 use Rattle.sj_desugar.specs.Texts.{operand_of}
 use Rattle.sj_emit_expr.specs.Templates.{check_name, is_nonzero_literal, called_member}
 use Rattle.sj_emit_expr.specs.Tests.{same_name}
-use Rattle.sj_emit_expr.specs.Uses.{object_binding, function_binding, class_use, static_use, setter_use, helper_of, test_uses, cast_uses, uses_in, uses_in_all, uses_of, uses_of_all, uses_of_cases, call_uses}
+use Rattle.sj_emit_expr.specs.Uses.{object_binding, function_binding, class_use, static_use, setter_use, load_use, store_use, helper_of, test_uses, cast_uses, uses_in, uses_in_all, uses_of, uses_of_all, uses_of_cases, call_uses}
 use Rattle.sj_infos.specs.Trees.{trees, below, all_below, cases_below}
 use Rattle.sj_names.proofs.Same.{impossible, text-same}
 use Rattle.sj_names.specs.Same.{is_same_text}
@@ -34,7 +34,7 @@ use Rattle.sj_names.specs.declared.method_names.MethodName.{MethodName}
 use Rattle.sj_names.specs.declared.method_names.Namespace.{Namespace}
 use Rattle.sj_names.specs.declared.method_names.Namespace.TheVariants.{Public, Private, Constructor}
 use Rattle.sure_receivers.specs.Sure.{is_sure}
-use Rattle.sj_trees.specs.Term.{Term, Terms, no_terms, more_terms, Cases, no_cases, more_cases, var_def, skip, block_of, labeled, assign, return_to, if_then, while_loop, do_while, match_on, throw, new_object, select, select_static, apply_statically, apply_static, unary_op, binary_op, is_instance_of, as_instance_of, undefined_literal, null_literal, boolean_literal, char_literal, byte_literal, short_literal, int_literal, long_literal, string_literal, var_ref, this_ref, log_line, apply}
+use Rattle.sj_trees.specs.Term.{Term, Terms, no_terms, more_terms, Cases, no_cases, more_cases, var_def, skip, block_of, labeled, assign, return_to, if_then, while_loop, do_while, match_on, throw, new_object, load_module, store_module, select, select_static, apply_statically, apply_static, unary_op, binary_op, is_instance_of, as_instance_of, undefined_literal, null_literal, boolean_literal, char_literal, byte_literal, short_literal, int_literal, long_literal, string_literal, var_ref, this_ref, log_line, apply}
 use Rattle.sj_trees.specs.TypeOf.{type_of_term, unary_result, binary_result}
 use Rattle.sj_trees.specs.Types.{class_type, reference_type}
 use Rattle.sj_trees.specs.declared.operators.BinaryOp.{BinaryOp}
@@ -281,6 +281,8 @@ module _ (U : Binding → Type 0) (runs : Lookup) where
     Gives (new_object p c m ts) = from.made c ≡ true → from.built (member c Constructor m) ≡ true → U (function_binding (member c Constructor m)) → U (class_use c) → (has.built (member c Constructor m) ≡ true) × (has.made c ≡ true)
     Gives (select p e c f t) = from.field c f t ≡ true → has.field c f t ≡ true
     Gives (select_static p c f t) = (from.static_field c f t ≡ true → U (static_use c f) → has.static_field c f t ≡ true) × (from.static_setter c f t ≡ true → U (setter_use c f) → has.static_setter c f t ≡ true)
+    Gives (load_module p c) = from.modules c ≡ true → U (load_use c) → has.modules c ≡ true
+    Gives (store_module p c e) = from.stored c ≡ true → U (store_use c) → has.stored c ≡ true
     Gives (is_instance_of p e t) = from.tests t ≡ true → All U (test_uses t) → has.tests t ≡ true
     Gives (as_instance_of p e t) = from.casts t ≡ true → All U (cast_uses t) → has.casts t ≡ true
     Gives (binary_op p o e d) = divides from o ≡ true → FitsDivision o d
@@ -364,6 +366,8 @@ module _ (U : Binding → Type 0) (runs : Lookup) where
     literal (new_object p c m ts) q k l = impossible l
     literal (select p e c f t) q k l = impossible l
     literal (select_static p c f t) q k l = impossible l
+    literal (load_module p c) q k l = impossible l
+    literal (store_module p c e) q k l = impossible q
     literal (unary_op p o e) q k l = impossible l
     literal (binary_op p o e d) q k l = impossible l
     literal (is_instance_of p e t) q k l = impossible l
@@ -512,6 +516,8 @@ module _ (U : Binding → Type 0) (runs : Lookup) where
           let k0 = and_parts (stands from checked tree) (old e) k in
           and_from (stands has checks tree) (new e) (select_there c f t e (All-head Found tree (below tree) g) (checked_in (is_sure sure e) (expression_of sure e) h) k0.0) (plain e q k0.1 (inner tree g) (received_in (is_sure sure e) (expression_of sure e) h))
       plain (select_static p c f t) q k g h = (All-head Found (select_static p c f t) [] g).0 k (All-head U (static_use c f) [] h)
+      plain (load_module p c) q k g h = All-head Found (load_module p c) [] g k (All-head U (load_use c) [] h)
+      plain (store_module p c e) q k g h = impossible q
       plain (unary_op p o e) q k g h = plain e q k (inner (unary_op p o e) g) h
       plain (binary_op p o e d) q k g h =
           let q0 = and_parts (is_plain e) (is_plain d) q in
@@ -757,6 +763,16 @@ module _ (U : Binding → Type 0) (runs : Lookup) where
             let start = receiver_built e (tree e) ts k0.1 (inner own g) written.0 in
             and_from (has.field c f t && checks e) (new e) (select_there c f t e (All-head Found own (below own) g) start.1 k0.0) start.0
         tree (select_static p c f t) ts k j q g h = (All-head Found (select_static p c f t) [] g).0 q (All-head U (static_use c f) [] (finished k p t (core.static_of c f) j h))
+        tree (load_module p c) ts k j q g h = All-head Found (load_module p c) [] g q (All-head U (load_use c) [] (finished k p (class_type c) (core.module_of c) j h))
+        tree (store_module p c e) ts k j q g h =
+            let r = and_parts (from.stored c) (old e) q in
+            let s : Spilled = spill (one_of ts e) j in
+            let value = coerced (class_type c) (type_of_term e) (first_of s.expressions) in
+            let last = core.store_module_of (Some p) c value in
+            let parts = followed_parts s.statements (core.statement last core.no_statements) h in
+            let inside = only last parts.1 in
+            let there = All-head Found (store_module p c e) (trees e) g r.0 (All-head U (store_use c) (uses_in runs value) inside) in
+            and_from (has.stored c) (new e) there (act e (tree e) ts j r.1 (inner (store_module p c e) g) parts.0 (uncoerced (class_type c) (type_of_term e) (first_of s.expressions) (All-tail U (store_use c) (uses_in runs value) inside)))
         tree (this_ref p t) ts k j q g h = objects q
         tree (unary_op p o e) ts k j q g h =
             let s : Spilled = spill (one_of ts e) j in

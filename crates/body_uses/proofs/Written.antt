@@ -35,13 +35,13 @@ use Rattle.object_folders.specs.Rules.{Reads, of_call, of_new, asked_body, new_m
 use Rattle.sj_desugar.specs.Desugar.{member}
 use Rattle.sj_emit_expr.specs.Templates.{check_name}
 use Rattle.sj_emit_expr.specs.Tests.{test_name, cast_name, same_name}
-use Rattle.sj_emit_expr.specs.Uses.{object_binding, function_binding, class_use, static_use, setter_use, test_uses, cast_uses, looked_up_uses, is_same_binding}
+use Rattle.sj_emit_expr.specs.Uses.{object_binding, function_binding, class_use, static_use, setter_use, load_use, store_use, test_uses, cast_uses, looked_up_uses, is_same_binding}
 use Rattle.sj_infos.specs.Infos.{asks, asked_by_body, asked_in, of_receiver}
 use Rattle.sj_infos.specs.Sure.{sure_among}
 use Rattle.sj_infos.specs.Forms.{form_of, forms_in, of_call as form_call}
 use Rattle.sj_infos.specs.Trees.{trees}
 use Rattle.sj_infos.specs.declared.forms.BodyForm.{BodyForm}
-use Rattle.sj_infos.specs.declared.forms.BodyForm.TheVariants.{Test, Cast, Reflective}
+use Rattle.sj_infos.specs.declared.forms.BodyForm.TheVariants.{Test, Cast, Reflective, Load, Store}
 use Rattle.sj_infos.specs.declared.infos.Info.{Info}
 use Rattle.sj_infos.specs.declared.infos.Info.TheVariants.{New, Static, Field, Resolved, Called}
 use Rattle.object_folders.proofs.Found.{here}
@@ -60,7 +60,7 @@ use Rattle.object_folders.specs.Linked.{has_function}
 use Rattle.sj_trees.proofs.SameTypes.{type-refl}
 use Rattle.sj_trees.specs.SameTypes.{is_same_type}
 use Rattle.sj_trees.specs.declared.positions.Position.{Position}
-use Rattle.sj_trees.specs.Term.{Term, new_object, select, select_static, apply_statically, apply_static, binary_op, is_instance_of, as_instance_of, apply}
+use Rattle.sj_trees.specs.Term.{Term, new_object, load_module, store_module, select, select_static, apply_statically, apply_static, binary_op, is_instance_of, as_instance_of, apply}
 use Rattle.sj_trees.specs.declared.classes.ClassDef.{ClassDef}
 use Rattle.sj_trees.specs.declared.operators.BinaryOp.{BinaryOp}
 use Rattle.sj_trees.specs.declared.operators.BinaryOp.TheVariants.{IntDivide, IntRemainder, LongDivide, LongRemainder}
@@ -77,7 +77,7 @@ use Rattle.object_folders.specs.Accepted.{IsAccepted}
 use Rattle.object_folders.specs.Bodies.{AreBodies}
 use Rattle.object_folders.proofs.Calls.{needed}
 use Rattle.object_folders.proofs.Members.{has_function-from, defined}
-use Rattle.object_folders.specs.Used.{used_of, makes, calls_on, calls, uses_dispatch, tells_apart, is_among, is_its_field, has_field_in, is_its_static, has_static_in, needs_static, uses_static, uses_helper, is_reflective, is_called_by, uses_reflective, is_test_for, is_cast_to, is_tested, is_cast}
+use Rattle.object_folders.specs.Used.{used_of, makes, calls_on, calls, uses_dispatch, tells_apart, is_among, is_its_field, has_field_in, is_its_static, has_static_in, needs_static, uses_static, uses_helper, is_reflective, is_called_by, uses_reflective, is_test_for, is_cast_to, is_load_of, is_store_of, is_tested, is_cast, is_loaded, is_stored}
 use Rattle.body_uses.specs.Given.{Given, HelpersGiven, FitsDivision, HasType}
 use Rattle.body_uses.specs.Laws.{used_by, AcceptedBodiesUseWhatIsWritten}
 use Rattle.body_uses.specs.Written.{AreWrittenWith}
@@ -357,6 +357,8 @@ module _ (entries : List EntryPoint) (files : List SourceFile) (w : Classes) (fa
   tree_given (select_static p c f t) among s =
       let there = static_given c f t s.asked (asked (select_static p c f t) among (Field c f true) (here (Field c f true) [])) in
       (λ u. there (in_written (static_use c f) u), λ u. there (in_written (setter_use c f) u))
+  tree_given (load_module p c) among s = λ u. and_from (is_among written c) (is_loaded all c) (in_written (load_use c) u) (has_form (load_module p c) (Load c) (is_load_of c) among (here (Load c) []) (text-refl c))
+  tree_given (store_module p c d) among s = λ u. and_from (is_among written c) (is_stored all c) (in_written (store_use c) u) (has_form (store_module p c d) (Store c) (is_store_of c) among (here (Store c) []) (text-refl c))
   tree_given (is_instance_of p d t) among s = test_given p d t among
   tree_given (as_instance_of p d t) among s = cast_given p d t among
   tree_given (binary_op p o a b) among s = divisor w o a b s.asked

@@ -7,9 +7,9 @@ use Rattle.sj_core.specs.declared.callees.Callee.TheVariants as callees
 use Rattle.sj_desugar.specs.Desugar.{member, callee_of}
 use Rattle.sj_emit_expr.specs.Templates.{check_name}
 use Rattle.sj_emit_expr.specs.Tests.{same_name}
-use Rattle.sj_emit_expr.specs.Uses.{object_binding, function_binding, class_use, static_use, setter_use, test_uses, cast_uses, call_uses}
+use Rattle.sj_emit_expr.specs.Uses.{object_binding, function_binding, class_use, static_use, setter_use, load_use, store_use, test_uses, cast_uses, call_uses}
 use Rattle.sj_names.specs.declared.method_names.Namespace.TheVariants.{Private, Constructor, Public}
-use Rattle.sj_trees.specs.Term.{Term, new_object, select, select_static, apply_statically, apply_static, binary_op, is_instance_of, as_instance_of, apply}
+use Rattle.sj_trees.specs.Term.{Term, new_object, load_module, store_module, select, select_static, apply_statically, apply_static, binary_op, is_instance_of, as_instance_of, apply}
 use Rattle.sj_trees.specs.TypeOf.{type_of_term}
 use Rattle.sj_trees.specs.declared.operators.BinaryOp.{BinaryOp}
 use Rattle.sj_trees.specs.declared.operators.BinaryOp.TheVariants.{IntDivide, IntRemainder, LongDivide, LongRemainder}
@@ -34,8 +34,8 @@ body_helpers = check_name ∷ codes "$id" ∷ codes "$im" ∷ codes "$ld" ∷ co
 
 -- where these bindings are used
 module _ (has : Usable) (used : List Binding) where
-  -- a member whose function is used is there, of a public one, and of a method that a hijacked class decides on, the target, a method that is looked up, a constructor where it has no value, and so are a class that is used to make an object, each field, and a static field whose
-  -- variable or setter is used, and a test and a cast whose function is used; a divisor has its type
+  -- a member whose function is used is there, of a public one, and of a method that a hijacked class decides on, the target, a method that is looked up, a constructor where it has no value, and so are a class that is used to make an object, each field, a static field whose
+  -- variable or setter is used, a module whose function that loads or stores it is used, and a test and a cast whose function is used; a divisor has its type
   abbrev pub Given : Term → Type 0
   Given (apply_static p c n m ts t) = Contains used (function_binding (member c n m)) → has.linked (member c n m) ≡ true
   Given (apply p e m ts t) = ((c : List ℕ) → callee_of (type_of_term e) m ≡ callees.Member (member c Public m) → Contains used (function_binding (has.lookup.target (member c Public m))) → has.received (has.lookup.target (member c Public m)) ≡ true) × (((c : List ℕ) → callee_of (type_of_term e) m ≡ callees.LookedUp c m → can_look_up any_object c m ≡ true → All (Contains used) (call_uses has.lookup (callees.LookedUp c m)) → can_look_up has c m ≡ true) × ((has.objects ≡ true) × (m.result ≡ None → All (Contains used) (call_uses has.lookup (callees.Reflective m)) → has.reflected m ≡ true)))
@@ -45,6 +45,8 @@ module _ (has : Usable) (used : List Binding) where
   Given (new_object p c m ts) = has_no_value m.result ≡ true → Contains used (function_binding (member c Constructor m)) → Contains used (class_use c) → (has.built (member c Constructor m) ≡ true) × (has.made c ≡ true)
   Given (select p e c f t) = has.field c f t ≡ true
   Given (select_static p c f t) = (Contains used (static_use c f) → has.static_field c f t ≡ true) × (Contains used (setter_use c f) → has.static_setter c f t ≡ true)
+  Given (load_module p c) = Contains used (load_use c) → has.modules c ≡ true
+  Given (store_module p c e) = Contains used (store_use c) → has.stored c ≡ true
   Given (is_instance_of p e t) = is_testable t ≡ true → All (Contains used) (test_uses t) → has.tests t ≡ true
   Given (as_instance_of p e t) = is_testable t ≡ true → All (Contains used) (cast_uses t) → has.casts t ≡ true
   Given (binary_op p o e d) = FitsDivision o d

@@ -13,7 +13,7 @@ use Rattle.sj_names.specs.declared.references.TypeRef.TheVariants.{Void}
 use Rattle.sj_names.specs.declared.method_names.Member.{Member}
 use Rattle.sj_names.specs.declared.method_names.MethodName.{MethodName}
 use Rattle.sj_desugar.specs.Sure.{is_sure_type}
-use Rattle.sj_trees.specs.Term.{Term, Terms, no_terms, more_terms, Cases, no_cases, more_cases, var_def, skip, block_of, labeled, assign, return_to, if_then, while_loop, do_while, match_on, throw, new_object, select, select_static, apply, apply_statically, this_ref, apply_static, unary_op, binary_op, is_instance_of, as_instance_of, undefined_literal, null_literal, boolean_literal, char_literal, byte_literal, short_literal, int_literal, long_literal, string_literal, var_ref, log_line}
+use Rattle.sj_trees.specs.Term.{Term, Terms, no_terms, more_terms, Cases, no_cases, more_cases, var_def, skip, block_of, labeled, assign, return_to, if_then, while_loop, do_while, match_on, throw, new_object, load_module, store_module, select, select_static, apply, apply_statically, this_ref, apply_static, unary_op, binary_op, is_instance_of, as_instance_of, undefined_literal, null_literal, boolean_literal, char_literal, byte_literal, short_literal, int_literal, long_literal, string_literal, var_ref, log_line}
 use Rattle.sj_trees.specs.TypeOf.{type_of_term}
 use Rattle.sj_trees.specs.declared.classes.MethodDef.{MethodDef}
 use Rattle.sj_trees.specs.declared.operators.BinaryOp.{BinaryOp}
@@ -131,6 +131,8 @@ module _ (has : Usable) (checked : Term → Bool) where
   stands (throw p e) = has.objects
   stands (match_on p e cs d t) = true
   stands (new_object p c m ts) = has.made c && has.built (member c Constructor m)
+  stands (load_module p c) = has.modules c
+  stands (store_module p c e) = has.stored c
   stands (select p e c f t) = has.field c f t && checked e
   stands (select_static p c f t) = has.static_field c f t
   stands (apply_statically p e c Private m ts t) = has.received (member c Private m) && checked e
@@ -172,6 +174,7 @@ module _ (has : Usable) (checked : Term → Bool) where
     is_built (throw p e) = stands (throw p e) && is_built e
     is_built (match_on p e cs d t) = is_built e && (are_built_cases cs && is_built d)
     is_built (new_object p c m ts) = stands (new_object p c m ts) && are_built ts
+    is_built (store_module p c e) = stands (store_module p c e) && is_built e
     is_built (select p e c f t) = stands (select p e c f t) && is_built e
     is_built (apply_statically p e c n m ts t) = stands (apply_statically p e c n m ts t) && (is_built e && are_built ts)
     is_built (apply p e m ts t) = stands (apply p e m ts t) && (is_built e && are_built ts)

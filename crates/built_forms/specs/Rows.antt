@@ -6,7 +6,7 @@ use Rattle.sj_names.specs.declared.method_names.Namespace.TheVariants.{Public, P
 use Rattle.sj_names.specs.declared.references.BaseRef.{BaseRef}
 use Rattle.sj_names.specs.declared.references.TypeRef.{TypeRef}
 use Rattle.sj_trees.specs.Erase.{nowhere}
-use Rattle.sj_trees.specs.Term.{Term, no_terms, more_terms, no_cases, more_cases, var_def, load_module, skip, block_of, labeled, assign, return_to, if_then, match_on, throw, new_object, select, select_static, apply, apply_statically, apply_static, this_ref, binary_op, is_instance_of, as_instance_of, char_literal, int_literal, long_literal, var_ref}
+use Rattle.sj_trees.specs.Term.{Term, no_terms, more_terms, no_cases, more_cases, var_def, load_module, store_module, new_array, skip, block_of, labeled, assign, return_to, if_then, match_on, throw, new_object, select, select_static, apply, apply_statically, apply_static, this_ref, binary_op, is_instance_of, as_instance_of, char_literal, int_literal, long_literal, var_ref}
 use Rattle.sj_trees.specs.declared.classes.MethodDef.{MethodDef}
 use Rattle.sj_trees.specs.declared.operators.BinaryOp.{BinaryOp}
 use Rattle.sj_trees.specs.declared.operators.BinaryOp.TheVariants.{StrictEqual, StrictNotEqual, IntDivide, IntEqual, LongRemainder}
@@ -40,9 +40,13 @@ number n = int_literal nowhere (pos n)
 abbrev pub object : Term
 object = new_object nowhere (codes "A") (method_name TypeRef.Int) no_terms
 
--- a class whose one object is loaded, which isn't built
+-- a new array, which isn't built
 abbrev pub unbuilt : Term
-unbuilt = load_module nowhere (codes "A")
+unbuilt = new_array nowhere (record { base = BaseRef.Int; dimensions = 1 }) (int_literal nowhere (pos 1))
+
+-- the one object of the class is this value
+abbrev pub storing : Term → Term
+storing value = store_module nowhere (codes "A") value
 
 -- a test and a cast of a value
 abbrev pub tested : IrType → Term → Term
@@ -91,6 +95,13 @@ with_tests = record with_fields { tests = λ t. true }
 abbrev pub with_casts : Usable
 with_casts = record with_fields { casts = λ t. true }
 
+-- each class can be loaded, and the one object of each can be stored
+abbrev pub with_modules : Usable
+with_modules = record with_fields { modules = λ c. true }
+
+abbrev pub with_stores : Usable
+with_stores = record with_fields { stored = λ c. true }
+
 -- objects that hold chars can be made
 abbrev pub with_boxes : Usable
 with_boxes = record { linked = λ m. true; lookup = own_targets; received = λ m. false; looked_up = λ c m. false; dispatched = λ m. false; reflected = λ m. false; built = λ m. false; made = λ c. false; live = λ c. false; field = λ c f t. true; static_field = λ c f t. false; static_setter = λ c f t. false; modules = λ c. false; stored = λ c. false; tests = λ t. false; casts = λ t. false; helper = λ x. true; objects = false }
@@ -133,6 +144,13 @@ pub record WorkedForms : Type 0 where
   pub sets_a_static_field_to_what_is_not_built : not_built (static (assign nowhere (select_static nowhere (codes "A") (codes "f") Any) unbuilt)) ≡ true
   pub reads_a_static_field : not_built (static (select_static nowhere (codes "A") (codes "f") Int)) ≡ false
   pub reads_a_static_field_it_can_not_use : is_built with_fields (λ e. true) (select_static nowhere (codes "A") (codes "f") Int) ≡ false
+  pub loads_a_module : not_built (static (load_module nowhere (codes "A"))) ≡ false
+  pub loads_a_module_it_can_not_use : is_built with_fields (λ e. true) (load_module nowhere (codes "A")) ≡ false
+  pub loads_a_module_it_can_use : is_built with_modules (λ e. true) (load_module nowhere (codes "A")) ≡ true
+  pub stores_a_module : not_built (static (storing object)) ≡ false
+  pub stores_a_module_of_what_is_not_built : not_built (static (storing unbuilt)) ≡ true
+  pub stores_a_module_it_can_not_use : is_built with_modules (λ e. true) (storing (number 1)) ≡ false
+  pub stores_a_module_it_can_use : is_built with_stores (λ e. true) (storing (number 1)) ≡ true
   pub reads_a_field : not_built (static (select nowhere object (codes "A") (codes "f") Int)) ≡ false
   pub reads_a_field_of_what_is_not_built : not_built (static (select nowhere unbuilt (codes "A") (codes "f") Int)) ≡ true
   pub throws : not_built (static (throw nowhere object)) ≡ false
@@ -226,6 +244,10 @@ pub record WorkedForms : Type 0 where
   pub char_in_a_field : makes_box NoType (setting Any letter) ≡ true
   pub char_in_a_field_of_chars : makes_box NoType (setting Char letter) ≡ false
   pub char_in_a_static_field : makes_box NoType (assign nowhere (select_static nowhere (codes "A") (codes "f") Any) letter) ≡ true
+  pub char_in_a_module : makes_box NoType (storing letter) ≡ true
+  pub object_in_a_module : makes_box NoType (storing object) ≡ false
+  pub char_in_pieces_in_a_module : makes_box NoType (storing (two (call TypeRef.Int letter) object)) ≡ true
+  pub module_as_a_value : makes_box Any (load_module nowhere (codes "A")) ≡ false
   pub plain_value_of_a_local : makes_box NoType (local Any letter) ≡ true
   pub value_of_a_local_that_throws : makes_box NoType (local Any (inside Char (throw nowhere object))) ≡ false
   pub value_of_a_local_in_pieces : makes_box NoType (local Any (two nothing letter)) ≡ true

@@ -27,11 +27,13 @@ pub fn is_built(tree: &Tree) -> bool
         | Tree::StringLiteral(_, _)
         | Tree::VarRef(_, _, _)
         | Tree::SelectStatic(_, _, _, _)
+        | Tree::LoadModule(_, _)
         | Tree::This(_, _) => true,
         Tree::VarDef(_, _, _, _, value)
         | Tree::Labeled(_, _, _, value)
         | Tree::Return(_, value, _)
         | Tree::Throw(_, value)
+        | Tree::StoreModule(_, _, value)
         | Tree::UnaryOp(_, _, value)
         | Tree::Log(_, value)
         | Tree::Select(_, value, _, _, _) => is_built(value),
@@ -63,8 +65,6 @@ pub fn is_built(tree: &Tree) -> bool
         Tree::AsInstanceOf(_, value, tpe) => can_cast(tpe) && is_built(value),
         Tree::TryCatch(_, _, _, _, _)
         | Tree::TryFinally(_, _, _)
-        | Tree::LoadModule(_, _)
-        | Tree::StoreModule(_, _, _)
         | Tree::NewArray(_, _, _)
         | Tree::ArrayValue(_, _, _)
         | Tree::ArrayLength(_, _)

@@ -9,7 +9,7 @@ use Rattle.object_helpers.proofs.Members.{defined}
 use Rattle.object_helpers.specs.Bodies.{AreBodies}
 use Rattle.file_declarations.specs.Classes.{HasForm}
 use Rattle.object_helpers.specs.Emitted.{EmittedMethod}
-use Rattle.object_helpers.specs.Used.{is_test_for, is_cast_to, is_tested, is_cast}
+use Rattle.object_helpers.specs.Used.{is_test_for, is_cast_to, is_load_of, is_store_of, is_tested, is_cast, is_loaded, is_stored}
 use Rattle.sj_infos.specs.Forms.{form_of, of_base, of_call, of_test, of_cast, forms_in, forms_by_body}
 use Rattle.sj_infos.specs.Infos.{asks, asked_by_body, of_type, is_any, class_cast}
 use Rattle.sj_infos.specs.Sure.{sure_among}
@@ -115,6 +115,14 @@ cast_is : (c : Name) (f : BodyForm) → is_cast_to c f ≡ true → f ≡ forms.
 cast_is c (forms.Cast d) h = ap forms.Cast (sym (text-same c d h))
 cast_is c _ h = impossible h
 
+load_is : (c : Name) (f : BodyForm) → is_load_of c f ≡ true → f ≡ forms.Load c
+load_is c (forms.Load d) h = ap forms.Load (sym (text-same c d h))
+load_is c _ h = impossible h
+
+store_is : (c : Name) (f : BodyForm) → is_store_of c f ≡ true → f ≡ forms.Store c
+store_is c (forms.Store d) h = ap forms.Store (sym (text-same c d h))
+store_is c _ h = impossible h
+
 -- a form that bodies have is one of a body that is needed, where the facts tell of these
 module _ (w : Classes) (entries : List EntryPoint) (facts : List Fact) (all : List EmittedMethod) (bodies : AreBodies w entries all) (listed : (e : EmittedMethod) → Contains all e → Contains facts (Body e.member)) where
   form_there : (test : BodyForm → Bool) (form : BodyForm) → ((f : BodyForm) → test f ≡ true → f ≡ form) → list_any (λ (e : EmittedMethod). list_any test (forms_in e.its_body)) all ≡ true → HasForm w facts form
@@ -136,3 +144,9 @@ module _ (w : Classes) (entries : List EntryPoint) (facts : List Fact) (all : Li
 
   pub cast_form : (c : Name) → is_cast all c ≡ true → HasForm w facts (forms.Cast c)
   cast_form c = form_there (is_cast_to c) (forms.Cast c) (cast_is c)
+
+  pub load_form : (c : Name) → is_loaded all c ≡ true → HasForm w facts (forms.Load c)
+  load_form c = form_there (is_load_of c) (forms.Load c) (load_is c)
+
+  pub store_form : (c : Name) → is_stored all c ≡ true → HasForm w facts (forms.Store c)
+  store_form c = form_there (is_store_of c) (forms.Store c) (store_is c)

@@ -1,5 +1,6 @@
 pub mod Below
 pub mod Blocks
+pub mod Cells
 pub mod Chains
 pub mod Covered
 pub mod Fields

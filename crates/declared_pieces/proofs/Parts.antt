@@ -6,7 +6,7 @@ use Rattle.object_helpers.proofs.Given.{IsKept, kept}
 use Rattle.helper_rules.specs.Words.{class_name, bound, all_kinds}
 use Rattle.js_tree.specs.Terms.{Name, Piece}
 use Rattle.js_tree.specs.declared.items.Binding.{Binding}
-use Rattle.file_declarations.specs.Pieces.{Parts, pieces, when, constants_piece, class_piece, own_constants, uses_of_entries, parent_uses, class_uses, constants_of, class_of, all_statics, variable_piece, setter_piece, module_of, test_piece, kind_of_class, cast_piece, tests_of}
+use Rattle.file_declarations.specs.Pieces.{Parts, pieces, when, constants_piece, class_piece, own_constants, uses_of_entries, parent_uses, class_uses, constants_of, class_of, all_statics, variable_piece, setter_piece, cell_piece, load_piece, store_piece, cell_pieces, module_of, test_piece, kind_of_class, cast_piece, tests_of}
 use Rattle.sj_emit_expr.specs.Uses.{once_each}
 use Rattle.sj_names.proofs.Same.{impossible}
 use Rattle.file_declarations.specs.Classes.{AreReached, none_yet, reached, other}
@@ -50,6 +50,22 @@ cast_among p h =
     let test : Piece = test_piece p.class.name p.instances (kind_of_class p.class.name all_kinds) in
     let casts : Piece = cast_piece p.class.name in
     Contains-append_right (before_tests p) (tests_of p) casts (Contains-append_right (when (p.is_tested || p.is_cast) (test ∷ [])) (when p.is_cast (casts ∷ [])) casts (subst (λ (t : Bool). Contains (when t (casts ∷ [])) casts) (sym h) (at_first casts [])))
+
+-- the cell of a module that is loaded or stored, the function that stores it, and for one that is loaded the function that loads it
+pub cell_among : (p : Parts) → (p.is_loaded || p.is_stored) ≡ true → (q : Piece) → Contains (cell_pieces p.class.name p.is_loaded) q → Contains (pieces p) q
+cell_among p h q i =
+    Contains-append_left (constants_of p ++ class_of p ++ all_statics p.class.name p.statics ++ module_of p) (tests_of p) q
+    (Contains-append_right (constants_of p ++ class_of p ++ all_statics p.class.name p.statics) (module_of p) q
+    (subst (λ (t : Bool). Contains (when t (cell_pieces p.class.name p.is_loaded)) q) (sym h) i))
+
+pub cell_there : (c : Name) (loaded : Bool) → Contains (cell_pieces c loaded) (cell_piece c)
+cell_there c loaded = at_first (cell_piece c) (when loaded (load_piece c ∷ []) ++ store_piece c ∷ [])
+
+pub storer_there : (c : Name) (loaded : Bool) → Contains (cell_pieces c loaded) (store_piece c)
+storer_there c loaded = further (cell_piece c) (store_piece c) (when loaded (load_piece c ∷ []) ++ store_piece c ∷ []) (Contains-append_right (when loaded (load_piece c ∷ [])) (store_piece c ∷ []) (store_piece c) (at_first (store_piece c) []))
+
+pub loader_there : (c : Name) (loaded : Bool) → loaded ≡ true → Contains (cell_pieces c loaded) (load_piece c)
+loader_there c loaded h = subst (λ (t : Bool). Contains (cell_pieces c t) (load_piece c)) (sym h) (further (cell_piece c) (load_piece c) (load_piece c ∷ store_piece c ∷ []) (at_first (load_piece c) (store_piece c ∷ [])))
 
 -- and so are the variables of the static fields that are reached, and the functions that set them
 pub statics_among : (p : Parts) (q : Piece) → Contains (all_statics p.class.name p.statics) q → Contains (pieces p) q

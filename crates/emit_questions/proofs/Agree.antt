@@ -7,12 +7,12 @@ use Rattle.js_tree.specs.declared.operators.HostFunction.TheVariants.{StringFrom
 use Rattle.sj_emit_expr.specs.Lookup.{Lookup}
 use Rattle.sj_emit_expr.specs.Callee.{Callee}
 use Rattle.sj_emit_expr.specs.CalleeVariants as callees
-use Rattle.sj_emit_expr.specs.Terms.{Expression, boxed_char, char_text, value_text, choice_of, static_call, field_of, checked_value, made_of, receiver_call, test_of, cast_of, unary_of, binary_of, Expressions, no_expressions, expression, Statement, constant_of, define_of, declare_of, assign_to, evaluate_of, return_of, log_of, assign_field, assign_static, throw_of, leave_label, break_nearest, if_of, while_of, loop_of, labeled_of, switch_of, Statements, no_statements, statement, Cases, no_cases, switch_case, Method}
+use Rattle.sj_emit_expr.specs.Terms.{Expression, boxed_char, char_text, value_text, choice_of, static_call, field_of, checked_value, made_of, receiver_call, test_of, cast_of, unary_of, binary_of, Expressions, no_expressions, expression, Statement, constant_of, define_of, declare_of, assign_to, evaluate_of, return_of, log_of, assign_field, assign_static, store_module_of, throw_of, leave_label, break_nearest, if_of, while_of, loop_of, labeled_of, switch_of, Statements, no_statements, statement, Cases, no_cases, switch_case, Method}
 use Rattle.sj_emit_expr.specs.Members.{function_parameters}
 use Rattle.sj_emit_expr.specs.Names.{variable_name, label_name}
-use Rattle.sj_emit_expr.specs.Templates.{called_member, looked_up_template, call_template, as_text, unary_template, binary_template, is_nonzero_literal, member_name, class_name, property_name, setter_name, check_name, choice_template, expression_template, expression_templates, statement_template, statement_templates, case_templates}
+use Rattle.sj_emit_expr.specs.Templates.{called_member, looked_up_template, call_template, as_text, unary_template, binary_template, is_nonzero_literal, member_name, class_name, property_name, setter_name, store_name, check_name, choice_template, expression_template, expression_templates, statement_template, statement_templates, case_templates}
 use Rattle.sj_emit_expr.specs.Tests.{test_template, cast_template}
-use Rattle.sj_emit_expr.specs.Uses.{looked_up_uses, call_uses, object_binding, function_binding, class_use, setter_use, helper_of, test_uses, cast_uses, uses_in, uses_in_all, uses_of, uses_of_all, uses_of_cases, once_each}
+use Rattle.sj_emit_expr.specs.Uses.{looked_up_uses, call_uses, object_binding, function_binding, class_use, setter_use, store_use, helper_of, test_uses, cast_uses, uses_in, uses_in_all, uses_of, uses_of_all, uses_of_cases, once_each}
 use Rattle.sj_mangling.specs.Bindings.{method_binding}
 use Rattle.sj_mangling.specs.declared.bindings.MethodBinding.TheVariants.{Reflective}
 use Rattle.sj_names.specs.declared.method_names.Member.{Member}
@@ -123,6 +123,7 @@ module _ (f g : Lookup) where
         let b = same_in d (back (calls_in e) (calls_in d) h) in
         (λ i. assign_property (a.0 i) (property_name c x) (b.0 i), λ i. a.1 i ++ b.1 i)
     same_of (assign_static p c x e) h = let a = same_in e h in (λ i. expression_statement (call_of (setter_name c x) (js.expression (a.0 i) js.no_expressions)), λ i. setter_use c x ∷ a.1 i)
+    same_of (store_module_of p c e) h = let a = same_in e h in (λ i. expression_statement (call_of (store_name c) (js.expression (a.0 i) js.no_expressions)), λ i. store_use c ∷ a.1 i)
     same_of (throw_of p e) h = let a = same_in e h in (λ i. js.throw_of (a.0 i), a.1)
     same_of (leave_label p l) h = (refl, refl)
     same_of (break_nearest p) h = (refl, refl)

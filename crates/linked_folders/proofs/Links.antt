@@ -27,12 +27,13 @@ use Rattle.declared_pieces.specs.BodySoundnessLaws.{IsClassBelow, made_below, ki
 use Rattle.declared_pieces.specs.ClassTestsKinds.{is_told}
 use Rattle.declared_pieces.specs.Dispatch.{IsReachedTarget, IsReflectedTarget}
 use Rattle.declared_pieces.specs.Targets.{has_hijacked_in}
-use Rattle.declared_pieces.proofs.Forms.{body_tells, cast_form}
+use Rattle.declared_pieces.proofs.Forms.{body_tells, cast_form, load_form}
 use Rattle.declared_pieces.proofs.Parts.{cast_among}
 use Rattle.declared_pieces.proofs.Plain.{class_found}
 use Rattle.declared_pieces.specs.Closed.{IsClosed}
 use Rattle.declared_pieces.specs.FileDeclarations.{is_covered}
 use Rattle.declared_pieces.specs.Entries.{AreEntries, IsLive}
+use Rattle.declared_pieces.specs.Files.{HasFunction}
 use Rattle.file_listings.specs.Listed.{AreBytes}
 use Rattle.helper_rules.specs.Helpers.{failure_class, helper_name, helper_piece, init_name, of, used_helpers}
 use Rattle.helper_rules.specs.Words.{bound, class_name, helper, kind_class}
@@ -47,7 +48,7 @@ use Rattle.ir_mean.specs.Meaning.{no_such_method}
 use Rattle.ir_mean.specs.Shows.{initializers}
 use Rattle.js_tree.specs.Terms.{Piece}
 use Rattle.declared_pieces.specs.Pieces.{piece_of_member, pieces_of_block, by_piece, by_helper, AreLinkedPieces}
-use Rattle.declared_pieces.specs.Used.{used_of, makes, calls_on, tells_apart, is_among, is_cast}
+use Rattle.declared_pieces.specs.Used.{used_of, makes, calls_on, tells_apart, is_among, is_cast, is_loaded}
 use Rattle.declared_pieces.proofs.Made as made
 use Rattle.declared_pieces.specs.Running.{CanBeThrown, CanRun}
 use Rattle.declared_pieces.proofs.Pieces.{of_objects, reached}
@@ -55,7 +56,7 @@ use Rattle.declared_pieces.specs.Helpers.{is_object_helper}
 use Rattle.declared_pieces.specs.ProperPiecesLaws.{AreNamed}
 use Rattle.declared_pieces.proofs.Derivations.{closed}
 use Rattle.declared_pieces.specs.Reachable.{Reachable}
-use Rattle.declared_pieces.specs.Rules.{on_hijacked, public_member, message_constructor, the_object, class_named as class_named_by}
+use Rattle.declared_pieces.specs.Rules.{Reads, on_hijacked, public_member, message_constructor, plain_constructor, the_object, class_named as class_named_by, load_made, asked_body, of_load}
 use Rattle.declared_pieces.specs.PieceRulesPieces.{cast_piece}
 use Rattle.declared_pieces.proofs.Found.{OwnerOf, owner_of}
 use Rattle.declared_pieces.proofs.Classes.{class-keeps}
@@ -63,6 +64,7 @@ use Rattle.declared_pieces.proofs.Methods.{body_keeps}
 use Rattle.sj_names.proofs.Same.{impossible}
 use Rattle.sj_names.specs.Same.{is_same_text}
 use Rattle.sj_infos.specs.declared.forms.BodyForm.TheVariants as forms
+use Rattle.sj_infos.specs.declared.infos.Info.TheVariants.{Load}
 use Rattle.sj_mangling.specs.Bindings.{class_binding}
 use Rattle.sj_mangling.specs.declared.bindings.ClassBinding.TheVariants.{IsInstance}
 use Rattle.sj_names.specs.WellKnown.{object}
@@ -190,6 +192,13 @@ module _ (entries : List EntryPoint) (files : List SourceFile) (l : Linked) (all
       let used : Contains q.uses (helper (helper_name (helpers.Throws CastFails))) = further (bound its.parts.class.name (class_binding IsInstance its.parts.class.name)) (helper (codes "$cce")) (helper (codes "$cce") ∷ []) (at_first (helper (codes "$cce")) []) in
       (owned q (its.there q among_its) (subst (Contains written) (sym named) here) (helper (codes "$cce")) used, (p.are_helpers.exact (helpers.Throws CastFails)).1 (by_piece q (helpers.Throws CastFails) (Contains-append_left own_pieces_there p.told q (its.in_blocks q among_its)) used))
 
+  -- a module that bodies load is made, and so is its constructor
+  loaded : (c : Name) → is_loaded all c ≡ true → Contains l.facts (Made c) × HasFunction all (plain_constructor c)
+  loaded c h =
+      let form = load_form w entries l.facts all bodies listed c h in
+      let reads : Reads w entries (Reachable w entries) (Load c) = record { member = form.member; needed = holds (Body form.member) form.needed; definition = form.definition; defined = form.defined; asked = body_tells form.definition.body (forms.Load c) form.has } in
+      ((exact (Made c)).1 (closed w entries (Made c) (load_made c reads)), (bodies.exact (plain_constructor c)).1 (closed w entries (Body (plain_constructor c)) (asked_body (plain_constructor c) (of_load c reads))))
+
   abbrev Target : Name → MethodName → Type 0
   Target d m = HasTarget entries files l all written ps bytes a bodies p methods exact owned d m
 
@@ -287,12 +296,12 @@ module _ (entries : List EntryPoint) (files : List SourceFile) (l : Linked) (all
   run = record {
     reached = holds;
     whole = λ f. (exact f).1;
-    are_live = λ c. (lives c).0;
     are_built = λ e i here. accepted_bodies entries files w l.facts all its_live p.helpers written a bodies uses e i here (objects e i);
     closed = λ h g i u. (p.are_helpers.exact g).1 (by_helper h g ((p.are_helpers.exact h).0 i) u);
     thrown = thrown;
     listed = listed;
     casts = cast_throws;
+    loads = loaded;
     looked = answers;
     reflected = named_answers;
   }

@@ -10,7 +10,7 @@ use Rattle.helper_rules.specs.declared.kinds.Helper.{Helper}
 use Rattle.sj_sound.specs.Tests.{test_name, cast_name}
 use Rattle.sj_infos.specs.Forms.{forms_in}
 use Rattle.sj_infos.specs.declared.forms.BodyForm.{BodyForm}
-use Rattle.sj_infos.specs.declared.forms.BodyForm.TheVariants.{Test, Cast, Reflective}
+use Rattle.sj_infos.specs.declared.forms.BodyForm.TheVariants.{Test, Cast, Load, Store, Reflective}
 use Rattle.sj_names.specs.WellKnown.{object}
 use Rattle.sj_names.specs.Same.{is_same_text, is_same_method}
 use Rattle.sj_names.specs.declared.method_names.Member.{Member}
@@ -89,6 +89,21 @@ is_tested all c = list_any (λ (e : EmittedMethod). list_any (is_test_for c) (fo
 abbrev pub is_cast : List EmittedMethod → Name → Bool
 is_cast all c = list_any (λ (e : EmittedMethod). list_any (is_cast_to c) (forms_in e.its_body)) all
 
+-- one of these bodies loads the module; one stores it
+abbrev pub is_load_of : Name → BodyForm → Bool
+is_load_of c (Load d) = is_same_text c d
+is_load_of c _ = false
+
+abbrev pub is_store_of : Name → BodyForm → Bool
+is_store_of c (Store d) = is_same_text c d
+is_store_of c _ = false
+
+abbrev pub is_loaded : List EmittedMethod → Name → Bool
+is_loaded all c = list_any (λ (e : EmittedMethod). list_any (is_load_of c) (forms_in e.its_body)) all
+
+abbrev pub is_stored : List EmittedMethod → Name → Bool
+is_stored all c = list_any (λ (e : EmittedMethod). list_any (is_store_of c) (forms_in e.its_body)) all
+
 -- the test of a class that is written, for which bodies test or to which they cast, and that of a primitive type among the helpers
 abbrev pub uses_test : List EmittedMethod → List Helper → List Name → IrType → Bool
 uses_test all helpers written (Class c) = is_among written c && (is_tested all c || is_cast all c)
@@ -138,7 +153,7 @@ abbrev pub calls_by_name : Classes → List EmittedMethod → List Name → Meth
 calls_by_name w all written p = is_called_by all p && list_any (uses_reflective w written p) all
 
 -- what the code can use, of a world with these facts, methods, live classes and helpers, where the pieces of these classes are written: their members, a call of a public one running
--- its target, the methods that are called on their objects, where no hijacked class stands there or below or the function that tells primitive receivers apart is written, the reflective names of which the function is written, and their constructors that have no value, their objects, each instance field of the world, their static fields that are needed, the helpers, and the tests of primitive
+-- its target, the methods that are called on their objects, where no hijacked class stands there or below or the function that tells primitive receivers apart is written, the reflective names of which the function is written, and their constructors that have no value, their objects, each instance field of the world, their static fields that are needed, those that a body loads as modules or stores, the helpers, and the tests of primitive
 -- types and the casts to them that are among them, and those of these classes
 abbrev pub used_of : Classes → List Fact → List EmittedMethod → List Name → List Helper → List Name → Usable
 used_of w facts all live helpers written = record {
@@ -154,6 +169,8 @@ used_of w facts all live helpers written = record {
   field = λ c f t. has_field_in (class_of w c) f t;
   static_field = uses_static w facts written;
   static_setter = uses_static w facts written;
+  modules = λ c. is_among written c && is_loaded all c;
+  stored = λ c. is_among written c && is_stored all c;
   tests = uses_test all helpers written;
   casts = uses_cast all helpers written;
   helper = uses_helper helpers written;

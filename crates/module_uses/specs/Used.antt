@@ -5,7 +5,7 @@ use Rattle.running_modules.specs.Built.{Usable}
 use Rattle.js_tree.specs.Terms.{Piece}
 use Rattle.js_tree.specs.declared.items.Binding.{Binding}
 use Rattle.module_rules.specs.Modules.{file_with, is_owned_in, uses_of, called_in}
-use Rattle.sj_emit_expr.specs.Uses.{object_binding, function_binding, class_use, static_use, setter_use, test_uses, cast_uses, looked_up_uses, call_uses, is_same_binding}
+use Rattle.sj_emit_expr.specs.Uses.{object_binding, function_binding, class_use, static_use, setter_use, load_use, store_use, test_uses, cast_uses, looked_up_uses, call_uses, is_same_binding}
 use Rattle.sj_desugar.specs.CalleeVariants as callees
 use Rattle.sj_split.specs.Orders.{Bytes}
 use Rattle.sj_split.specs.declared.plans.PlannedModule.{PlannedModule}
@@ -25,6 +25,8 @@ restricted has uses = record {
   field = has.field;
   static_field = λ c f t. has.static_field c f t && uses (static_use c f);
   static_setter = λ c f t. has.static_setter c f t && uses (setter_use c f);
+  modules = λ c. has.modules c && uses (load_use c);
+  stored = λ c. has.stored c && uses (store_use c);
   tests = λ t. has.tests t && list_all uses (test_uses t);
   casts = λ t. has.casts t && list_all uses (cast_uses t);
   helper = λ x. has.helper x && uses (object_binding x);

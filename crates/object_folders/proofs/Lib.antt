@@ -1,6 +1,7 @@
 pub mod Fields
 pub mod Made
 pub mod Methods
+pub mod Stores
 pub mod Throwing
 pub mod Worlds
 pub use Rattle.linked_entries.proofs.Members

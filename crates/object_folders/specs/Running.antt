@@ -3,15 +3,14 @@ use Rattle.std.specs.Prelude.{◌≡◌, true, List}
 use Rattle.std.specs.List.{Contains}
 use Rattle.linked_entries.specs.Typing.{is_built_with}
 use Rattle.linked_entries.specs.BodySoundnessLaws.{IsClassBelow, Answers, AnswersByName}
-use Rattle.linked_entries.specs.Entries.{IsLive}
 use Rattle.helper_rules.specs.Helpers.{failure_class, used_helpers}
 use Rattle.helper_rules.specs.declared.kinds.Failure.{Failure}
 use Rattle.helper_rules.specs.declared.kinds.Failure.TheVariants.{Cast}
 use Rattle.helper_rules.specs.declared.kinds.Helper.{Helper}
 use Rattle.helper_rules.specs.declared.kinds.Helper.TheVariants.{Throws}
-use Rattle.linked_entries.specs.Used.{used_of, is_cast}
+use Rattle.linked_entries.specs.Used.{used_of, is_cast, is_loaded}
 use Rattle.linked_entries.specs.Reachable.{Reachable}
-use Rattle.linked_entries.specs.ReachRulesRules.{message_constructor}
+use Rattle.linked_entries.specs.ReachRulesRules.{message_constructor, plain_constructor}
 use Rattle.linked_entries.specs.Files.{HasFunction}
 use Rattle.sj_names.specs.WellKnown.{object}
 use Rattle.sj_names.specs.declared.entry_points.EntryPoint.{EntryPoint}
@@ -27,17 +26,18 @@ pub record CanBeThrown (facts : List Fact) (all : List EmittedMethod) (written :
   pub is_written : Contains written c
   pub constructor : HasFunction all (message_constructor c)
 
--- Of the facts that are reachable, these classes are live; each written method is built with what can be used; a helper has those that it uses; and where helpers
--- are written, what a helper throws can be made. The facts tell of the methods; where a class is written to which bodies cast, so is what its cast throws; and where a method
+-- The facts are those that are reachable; each written method is built with what can be used; a helper has those that it uses; and where helpers
+-- are written, what a helper throws can be made. The facts tell of the methods; where a class is written to which bodies cast, so is what its cast throws; a class that bodies load as a module
+-- is made, and has its constructor; and where a method
 -- can be looked up, each class below has a target that is written, and a reflective name by which receivers are called has an answer in each class.
 pub record CanRun (w : Classes) (entries : List EntryPoint) (facts : List Fact) (all : List EmittedMethod) (live : List Name) (helpers : List Helper) (written : List Name) : Type 0 where
   pub reached : (f : Fact) → Contains facts f → Reachable w entries f
   pub whole : (f : Fact) → Reachable w entries f → Contains facts f
-  pub are_live : (c : Name) → Contains live c → IsLive w facts c
   pub are_built : (e : EmittedMethod) → Contains all e → Contains written e.member.class → is_built_with (used_of w facts all live helpers written) e.definition e.its_body ≡ true
   pub closed : (h g : Helper) → Contains helpers h → Contains (used_helpers h) g → Contains helpers g
   pub thrown : (f : Failure) → Contains helpers (Throws f) → Contains written object → CanBeThrown facts all written (failure_class f)
   pub listed : (e : EmittedMethod) → Contains all e → Contains facts (Body e.member)
   pub casts : (c : Name) → Contains written c → is_cast all c ≡ true → Contains written object × Contains helpers (Throws Cast)
+  pub loads : (c : Name) → is_loaded all c ≡ true → Contains facts (Made c) × HasFunction all (plain_constructor c)
   pub looked : (c : Name) (m : MethodName) → (used_of w facts all live helpers written).looked_up c m ≡ true → (d : Name) → IsClassBelow w (used_of w facts all live helpers written) c d → Answers w (used_of w facts all live helpers written) c d m
   pub reflected : (p : MethodName) → (used_of w facts all live helpers written).reflected p ≡ true → (d : Name) → IsClassBelow w (used_of w facts all live helpers written) object d → AnswersByName w (used_of w facts all live helpers written) d p

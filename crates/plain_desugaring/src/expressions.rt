@@ -62,6 +62,7 @@ pub fn expression_of(
             field_of(alloc, object, class, field)
         }
         Tree::SelectStatic(_, class, field, _) => static_field(class, field),
+        Tree::LoadModule(_, class) => module_of(class),
         Tree::UnaryOp(_, op, operand) => {
             Ok(CoreExpression::Unary(*op, boxed_expression(alloc, sure, operand)?))
         }
@@ -99,7 +100,6 @@ pub fn expression_of(
         | Tree::TryFinally(_, _, _)
         | Tree::Throw(_, _)
         | Tree::Match(_, _, _, _, _)
-        | Tree::LoadModule(_, _)
         | Tree::StoreModule(_, _, _)
         | Tree::NewArray(_, _, _)
         | Tree::ArrayValue(_, _, _)
@@ -353,6 +353,13 @@ pub fn static_field(class: &ClassName, field: &FieldName) -> Result<CoreExpressi
 {
     let class = class.copied()?;
     Ok(CoreExpression::StaticField(class, field.copied()?))
+}
+
+/// The one object of a class.
+pub fn module_of(class: &ClassName) -> Result<CoreExpression, NoMemory>
+    ensures { IfOk result (λ e. expression_view e ≡ terms.module_of class.now) }
+{
+    Ok(CoreExpression::Module(class.copied()?))
 }
 
 /// A local by its name.

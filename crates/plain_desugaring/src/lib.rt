@@ -16,8 +16,8 @@ mod texts;
 pub use callees::{callee_on, member_called};
 pub use coercions::{coerced, coerced_argument};
 pub use expressions::{
-    cast, checked, coerced_receiver, expression_of, field_of, local_use, made, receiver_call,
-    static_call, static_field, tested, without_first,
+    cast, checked, coerced_receiver, expression_of, field_of, local_use, made, module_of,
+    receiver_call, static_call, static_field, tested, without_first,
 };
 pub use locals::mutable_locals;
 pub use plain::{are_plain, is_fixed, is_no_type, is_plain};

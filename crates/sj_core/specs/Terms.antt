@@ -15,7 +15,7 @@ pub data Variable : Type 0 where
   receiver : Variable
 
 mutual
-  -- among them a field of an object, a static field, a value that isn't null, an object of the member's class on which that constructor ran, a call of the
+  -- among them a field of an object, a static field, the one object of a class, a value that isn't null, an object of the member's class on which that constructor ran, a call of the
   -- callee on a receiver, whether a value is of a type, and a value cast to a type
   pub data Expression : Type 0 where
     undefined_value : Expression
@@ -32,6 +32,7 @@ mutual
     static_call : Member → Expressions → Expression
     field_of : Expression → List ℕ → List ℕ → Expression
     static_of : List ℕ → List ℕ → Expression
+    module_of : List ℕ → Expression
     checked_value : Expression → Expression
     made_of : Member → Expressions → Expression
     receiver_call : Callee → Expression → Expressions → Expression
@@ -59,6 +60,7 @@ mutual
     log_of : Origin → Expression → Statement
     assign_field : Origin → Expression → List ℕ → List ℕ → Expression → Statement
     assign_static : Origin → List ℕ → List ℕ → Expression → Statement
+    store_module_of : Origin → List ℕ → Expression → Statement
     throw_of : Origin → Expression → Statement
     leave_label : Origin → List ℕ → Statement
     break_nearest : Origin → Statement

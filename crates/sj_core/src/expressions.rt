@@ -40,6 +40,8 @@ pub enum CoreExpression {
     Field(Box<CoreExpression>, ClassName, FieldName),
     /// A static field.
     StaticField(ClassName, FieldName),
+    /// The one object of a class, which is made where it is asked for first.
+    Module(ClassName),
     /// A value that is checked not to be null.
     Checked(Box<CoreExpression>),
     /// A new object of the member's class, on which the member, a constructor, runs with these arguments.
@@ -72,6 +74,7 @@ impl Drop for CoreExpression {
             CoreExpression::StaticCall(_one, _two) => {}
             CoreExpression::Field(_one, _two, _three) => {}
             CoreExpression::StaticField(_one, _two) => {}
+            CoreExpression::Module(_one) => {}
             CoreExpression::Checked(_one) => {}
             CoreExpression::Made(_one, _two) => {}
             CoreExpression::ReceiverCall(_one, _two, _three) => {}

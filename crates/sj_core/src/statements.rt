@@ -23,6 +23,8 @@ pub enum CoreStatement {
     AssignField(Option<Position>, CoreExpression, ClassName, FieldName, CoreExpression),
     /// A static field is set.
     AssignStatic(Option<Position>, ClassName, FieldName, CoreExpression),
+    /// The one object of a class is stored.
+    StoreModule(Option<Position>, ClassName, CoreExpression),
     Throw(Option<Position>, CoreExpression),
     /// The labelled block ends.
     Leave(Option<Position>, LabelName),
@@ -53,6 +55,7 @@ impl Drop for CoreStatement {
             CoreStatement::Log(_, _one) => {}
             CoreStatement::AssignField(_, _one, _two, _three, _four) => {}
             CoreStatement::AssignStatic(_, _one, _two, _three) => {}
+            CoreStatement::StoreModule(_, _one, _two) => {}
             CoreStatement::Throw(_, _one) => {}
             CoreStatement::Leave(_, _one) => {}
             CoreStatement::Break(_) => {}

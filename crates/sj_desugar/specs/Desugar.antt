@@ -17,7 +17,7 @@ use Rattle.sj_core.specs.Position.{Position}
 use Rattle.sj_core.specs.IrType.{IrType}
 use Rattle.sj_core.specs.IrTypeVariants.{Any, Array, Nothing, Undefined, Boolean, Char, Byte, Short, Int, Long, String, Null, NoType}
 use Rattle.sj_core.specs.Terms as core
-use Rattle.sj_core.specs.Terms.{named, Expression, field_of, static_of, made_of, receiver_call, test_of, cast_of, checked_value, undefined_value, null_value, boolean_value, number_value, long_value, text_value, variable_use, choice_of, static_call, unary_of, binary_of, Statement, define_of, declare_of, assign_to, evaluate_of, return_of, log_of, assign_field, assign_static, throw_of, leave_label, break_nearest, if_of, while_of, loop_of, labeled_of, switch_of, Statements, no_statements, statement, followed, Method}
+use Rattle.sj_core.specs.Terms.{named, Expression, field_of, static_of, module_of, made_of, receiver_call, test_of, cast_of, checked_value, undefined_value, null_value, boolean_value, number_value, long_value, text_value, variable_use, choice_of, static_call, unary_of, binary_of, Statement, define_of, declare_of, assign_to, evaluate_of, return_of, log_of, assign_field, assign_static, store_module_of, throw_of, leave_label, break_nearest, if_of, while_of, loop_of, labeled_of, switch_of, Statements, no_statements, statement, followed, Method}
 use Rattle.sj_core.specs.Views.{expressions_of}
 use Rattle.sj_core.specs.declared.callees.Callee.{Callee}
 use Rattle.sj_core.specs.declared.callees.Callee.TheVariants as callees
@@ -135,6 +135,7 @@ module _ (sure : List ℕ → Bool) where
     expression_of (new_object p c m ts) = made_of (member c Constructor m) (expressions_of (coerced_arguments m.params (types_of ts) (all_expressions ts)))
     expression_of (select p e c f t) = field_of (received_text (is_sure sure e) (expression_of e)) c f
     expression_of (select_static p c f t) = static_of c f
+    expression_of (load_module p c) = module_of c
     expression_of (unary_op p o e) = unary_of o (expression_of e)
     expression_of (is_instance_of p e t) = test_of t (coerced Any (type_of_term e) (expression_of e))
     expression_of (as_instance_of p e t) = cast_of t (coerced Any (type_of_term e) (expression_of e))
@@ -253,6 +254,8 @@ module _ (is_mutable sure : List ℕ → Bool) where
     into ls k j (new_object p c m ts) = then_use (spill (operands ls ts) j) (λ es. finish k p (class_type c) false (made_of (member c Constructor m) (expressions_of (coerced_arguments m.params (types_of ts) es))))
     into ls k j (select p e c f t) = then_use (spill (receiver e (λ k j. into ls k j e) ∷ []) j) (λ es. finish k p t false (field_of (first_of es) c f))
     into ls k j (select_static p c f t) = finish k p t false (static_of c f) j
+    into ls k j (load_module p c) = finish k p (class_type c) false (module_of c) j
+    into ls k j (store_module p c e) = then_use (spill (operand e (λ k j. into ls k j e) ∷ []) j) (λ es. one (store_module_of (Some p) c (coerced (class_type c) (type_of_term e) (first_of es))))
     into ls k j (unary_op p o e) = then_use (spill (operand e (λ k j. into ls k j e) ∷ []) j) (λ es. finish k p (unary_result o) false (unary_of o (first_of es)))
     into ls k j (is_instance_of p e t) = then_use (spill (operand e (λ k j. into ls k j e) ∷ []) j) (λ es. finish k p Boolean false (test_of t (coerced Any (type_of_term e) (first_of es))))
     into ls k j (as_instance_of p e t) = then_use (spill (operand e (λ k j. into ls k j e) ∷ []) j) (λ es. finish k p t false (cast_of t (coerced Any (type_of_term e) (first_of es))))

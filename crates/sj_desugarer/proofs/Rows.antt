@@ -17,8 +17,9 @@ use Rattle.sj_desugarer.proofs.Spilling.{use-one, use-two, use-first}
 use Rattle.sj_desugarer.proofs.Runs.{operands-plain}
 use Rattle.sj_names.specs.declared.method_names.MethodName.{MethodName}
 use Rattle.sj_names.specs.declared.method_names.Namespace.{Namespace}
-use Rattle.sj_trees.specs.Term.{Term, Terms, Cases, apply_static, throw, select, select_static, assign, var_ref, if_then, while_loop, do_while, match_on, unary_op, binary_op, is_instance_of, as_instance_of, log_line}
+use Rattle.sj_trees.specs.Term.{Term, Terms, Cases, apply_static, throw, store_module, select, select_static, assign, var_ref, if_then, while_loop, do_while, match_on, unary_op, binary_op, is_instance_of, as_instance_of, log_line}
 use Rattle.sj_trees.specs.TypeOf.{type_of_term, unary_result, binary_result}
+use Rattle.sj_trees.specs.Types.{class_type}
 use Rattle.sj_trees.specs.declared.operators.BinaryOp.{BinaryOp}
 use Rattle.sj_trees.specs.declared.operators.UnaryOp.{UnaryOp}
 use Rattle.sj_trees.specs.declared.positions.Position.{Position}
@@ -113,6 +114,10 @@ module _ (m s : List ℕ → Bool) (ls : Targets) (k : Destination) (j : ℕ) (p
   pub throw-joins : (o : Placed) (e : Term) → o ≡ comes_to m s ls true j e → into m s ls k j (throw p e) ≡ behind o (λ g. one (core.throw_of (Some p) (coerced Any (type_of_term e) g)))
   unfolding comes_to
   throw-joins o e h = use-one (operand m s e (λ k j. into m s ls k j e)) j (λ es. one (core.throw_of (Some p) (coerced Any (type_of_term e) (first_of es)))) ∙ (λ i. behind (sym h i) (λ g. one (core.throw_of (Some p) (coerced Any (type_of_term e) g))))
+
+  pub store-joins : (o : Placed) (c : List ℕ) (e : Term) → o ≡ comes_to m s ls true j e → into m s ls k j (store_module p c e) ≡ behind o (λ g. one (core.store_module_of (Some p) c (coerced (class_type c) (type_of_term e) g)))
+  unfolding comes_to
+  store-joins o c e h = use-one (operand m s e (λ k j. into m s ls k j e)) j (λ es. one (core.store_module_of (Some p) c (coerced (class_type c) (type_of_term e) (first_of es)))) ∙ (λ i. behind (sym h i) (λ g. one (core.store_module_of (Some p) c (coerced (class_type c) (type_of_term e) g))))
 
   pub test-joins : (o : Placed) (e : Term) (t : IrType) → o ≡ comes_to m s ls true j e → into m s ls k j (is_instance_of p e t) ≡ behind o (λ g. finish k p Boolean false (core.test_of t (coerced Any (type_of_term e) g)))
   unfolding comes_to

@@ -17,7 +17,7 @@ use sj_desugaring::{
     checked, checked_operand, coerced_argument, declared, defined, expression_of, field_set,
     field_value, in_place, is_fixed, is_plain, is_sure, joined, kept, labeled, leaving,
     local_destination, logged, looked_up_value, looped, looped_behind, made_value, member_value,
-    nothing, number_behind, operand_destination, position_of, static_set, switched, target_of,
+    module_stored, nothing, number_behind, operand_destination, position_of, static_set, switched, target_of,
     tested_loop, tested_value, thrown, unary_value, value_of, with_label, without_first,
 };
 use sj_names::{LocalName, NoMemory, TypeRef};
@@ -164,6 +164,10 @@ pub fn statements_of(
             let object = operand_of(alloc, locals, targets, true, next, value)?;
             thrown(alloc, *position, value, object)
         }
+        Tree::StoreModule(position, class, value) => {
+            let object = operand_of(alloc, locals, targets, true, next, value)?;
+            module_stored(alloc, *position, class, value, object)
+        }
         Tree::UnaryOp(position, op, value) => {
             let operand = operand_of(alloc, locals, targets, true, next, value)?;
             unary_value(alloc, destination, *position, *op, operand)
@@ -202,12 +206,11 @@ pub fn statements_of(
         | Tree::StringLiteral(_, _)
         | Tree::VarRef(_, _, _)
         | Tree::This(_, _)
-        | Tree::SelectStatic(_, _, _, _) => value_of(alloc, destination, next, tree),
+        | Tree::SelectStatic(_, _, _, _)
+        | Tree::LoadModule(_, _) => value_of(alloc, destination, next, tree),
         Tree::Skip(_)
         | Tree::TryCatch(_, _, _, _, _)
         | Tree::TryFinally(_, _, _)
-        | Tree::LoadModule(_, _)
-        | Tree::StoreModule(_, _, _)
         | Tree::NewArray(_, _, _)
         | Tree::ArrayValue(_, _, _)
         | Tree::ArrayLength(_, _)

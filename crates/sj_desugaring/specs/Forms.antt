@@ -1,11 +1,12 @@
 -- What is written for a form behind its operands.
 use Rattle.std.specs.Prelude.{ℕ, true, false, List, [], ◌∷◌, pos}
-use Rattle.sj_core.specs.Terms.{named, receiver, Expression, static_of, undefined_value, null_value, boolean_value, number_value, long_value, text_value, variable_use}
+use Rattle.sj_core.specs.Terms.{named, receiver, Expression, static_of, module_of, undefined_value, null_value, boolean_value, number_value, long_value, text_value, variable_use}
 use Rattle.sj_core.specs.Views.{Case, cases_onto}
 use Rattle.sj_desugar.specs.Desugar.{Branches, finish}
 use Rattle.sj_desugar.specs.Spill.{Destination, Code, no_code, joined}
 use Rattle.sj_desugaring.specs.Placing.{Placed}
-use Rattle.sj_trees.specs.Term.{Term, undefined_literal, null_literal, boolean_literal, char_literal, byte_literal, short_literal, int_literal, long_literal, string_literal, var_ref, this_ref, select_static}
+use Rattle.sj_trees.specs.Term.{Term, undefined_literal, null_literal, boolean_literal, char_literal, byte_literal, short_literal, int_literal, long_literal, string_literal, var_ref, this_ref, select_static, load_module}
+use Rattle.sj_trees.specs.Types.{class_type}
 use Rattle.sj_trees.specs.declared.types.IrType.TheVariants.{Undefined, Boolean, Char, Byte, Short, Int, Long, String, Null}
 
 -- behind an operand, what is written with its expression
@@ -21,7 +22,7 @@ abbrev pub for_last : {A B : Type 0} → List A → B → B → B
 for_last [] last other = last
 for_last (x ∷ xs) last other = other
 
--- the statements of a literal, a local, This or a static field; none of any other tree
+-- the statements of a literal, a local, This, a static field or the one object of a class; none of any other tree
 abbrev pub value_code : Destination → ℕ → Term → Code
 value_code k j (undefined_literal p) = finish k p Undefined true undefined_value j
 value_code k j (null_literal p) = finish k p Null true null_value j
@@ -35,4 +36,5 @@ value_code k j (string_literal p us) = finish k p String true (text_value us) j
 value_code k j (var_ref p x t) = finish k p t true (variable_use (named x)) j
 value_code k j (this_ref p t) = finish k p t true (variable_use receiver) j
 value_code k j (select_static p c f t) = finish k p t false (static_of c f) j
+value_code k j (load_module p c) = finish k p (class_type c) false (module_of c) j
 value_code k j _ = no_code j

@@ -19,7 +19,7 @@ pub use forms::{
 pub use jumps::{labeled, leaving};
 pub use objects::{
     FieldPlace, cast_value, checked_operand, field_set, field_value, looked_up_value, made_value,
-    member_value, static_set, tested_value, thrown,
+    member_value, module_stored, static_set, tested_value, thrown,
 };
 pub use placing::{
     Placed, PlacedAll, brought, in_place, kept, local_destination, number_behind,

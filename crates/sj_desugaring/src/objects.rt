@@ -100,6 +100,26 @@ pub fn static_set(
     joined(front, one(alloc, statement, operand.next)?)
 }
 
+/// The one object of the class is what this tree comes to as an operand.
+pub fn module_stored(
+    alloc: Global,
+    position: Position,
+    class: &ClassName,
+    value: &Tree,
+    operand: Placed,
+) -> Result<Written, NoMemory>
+    ensures { IfOk result (λ w. code_view w ≡ behind (placed_view operand) (λ e. spill.one (terms.store_module_of (Some position) class.now (coercions.coerced (class_type class.now) (type_of_term (view value.now)) e)))) }
+{
+    let expected = IrType::of_class(class.copied()?);
+    let object = coerced_value(alloc, &expected, value, operand.expression)?;
+    let statement = CoreStatement::StoreModule(Some(position), class.copied()?, object);
+    let front = Written {
+        statements: operand.statements,
+        next: operand.next,
+    };
+    joined(front, one(alloc, statement, operand.next)?)
+}
+
 /// What this tree comes to as an operand is thrown.
 pub fn thrown(
     alloc: Global,

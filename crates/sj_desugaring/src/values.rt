@@ -1,23 +1,24 @@
-// Literals, locals, This and static fields as statements.
+// Literals, locals, This, static fields and the one objects of classes as statements.
 ghost use Rattle.std.specs.Prelude.{◌≡◌, true, IfOk};
 ghost use Rattle.sj_core.specs.Terms as terms;
 ghost use Rattle.sj_desugar.specs.Desugar as desugar;
 ghost use Rattle.sj_desugaring.specs.Forms.{value_code};
 ghost use Rattle.sj_desugaring.specs.Views.{destination_view, code_view};
+ghost use Rattle.sj_trees.specs.Types.{class_type};
 ghost use Rattle.sj_trees.specs.View.{view};
 ghost use Rattle.sj_trees.specs.declared.types.IrType.TheVariants.{String};
 
 use crate::destinations::Destination;
 use crate::forms::finish;
 use crate::writing::{Written, nothing};
-use plain_desugaring::{local_use, static_field};
+use plain_desugaring::{local_use, module_of, static_field};
 use sj_core::{CoreExpression, CoreVariable};
-use sj_names::{LocalName, NoMemory};
+use sj_names::{ClassName, LocalName, NoMemory};
 use sj_trees::{IrType, Position, Tree};
 use sj_units::Units;
 use std::alloc::Global;
 
-/// The statements that bring the value of a literal, a local, This or a static field to a destination. No statements for any other tree.
+/// The statements that bring the value of a literal, a local, This, a static field or the one object of a class to a destination. No statements for any other tree.
 pub fn value_of(
     alloc: Global,
     destination: &Destination,
@@ -137,6 +138,9 @@ pub fn value_of(
             let value = static_field(class, field)?;
             finish(alloc, destination, *position, tpe, false, value, next)
         }
+        Tree::LoadModule(position, class) => {
+            module_value(alloc, destination, next, *position, class)
+        }
         _ => Ok(nothing(alloc, next)),
     }
 }
@@ -160,6 +164,20 @@ fn text_value(
         text,
         next,
     )
+}
+
+fn module_value(
+    alloc: Global,
+    destination: &Destination,
+    next: u64,
+    position: Position,
+    class: &ClassName,
+) -> Result<Written, NoMemory>
+    ensures { IfOk result (λ w. code_view w ≡ desugar.finish (destination_view destination.now) position (class_type class.now) false (terms.module_of class.now) next) }
+{
+    let value = module_of(class)?;
+    let tpe = IrType::of_class(class.copied()?);
+    finish(alloc, destination, position, &tpe, false, value, next)
 }
 
 fn local_value(

@@ -12,7 +12,7 @@ use Rattle.sj_mangling.specs.NamespaceVariants.{Public, PublicStatic, Private, P
 use Rattle.sj_mangling.specs.BaseRef.{BaseRef}
 use Rattle.sj_mangling.specs.TypeRef.{TypeRef}
 use Rattle.sj_desugar.specs.Erase.{nowhere}
-use Rattle.sj_desugar.specs.Term.{Term, Terms, no_terms, more_terms, var_def, skip, block_of, assign, throw, new_object, select, select_static, apply, apply_statically, int_literal, long_literal, var_ref, this_ref, binary_op}
+use Rattle.sj_desugar.specs.Term.{Term, Terms, no_terms, more_terms, var_def, skip, block_of, assign, throw, new_object, load_module, store_module, select, select_static, apply, apply_statically, int_literal, long_literal, var_ref, this_ref, binary_op}
 use Rattle.sj_desugar.specs.ParamDef.{ParamDef}
 use Rattle.sj_desugar.specs.BinaryOpVariants.{IntAdd, IntDivide, LongRemainder}
 use Rattle.sj_desugar.specs.IrType.{IrType}
@@ -119,3 +119,10 @@ looks_up_piece = piece_by (record { target = inherited; has_hijacked = is_same_t
 
     proxy : MethodName
     proxy = record { simple = codes "m"; params = []; result = None }
+
+-- the one object of the class: it is stored, a field of it is read without a null check, and it is loaded for itself
+abbrev pub loads_piece : Piece
+loads_piece = piece Constructor from_nothing [] Types.NoType (block (store_module nowhere a_name this ∷ store_module nowhere a_name (block (skip nowhere ∷ this ∷ [])) ∷ assign nowhere (field this) (field loaded) ∷ loaded ∷ []))
+  where
+    loaded : Term
+    loaded = load_module nowhere a_name

@@ -14,7 +14,7 @@ use Rattle.sj_desugar.specs.CalleeVariants as callees
 use Rattle.sj_emit_expr.specs.Names.{variable_name, label_name}
 use Rattle.sj_emit_expr.specs.Tests.{test_template, cast_template, same_template}
 use Rattle.sj_mangling.specs.Bindings.{function_name, class_binding, field_binding, method_binding}
-use Rattle.sj_mangling.specs.declared.bindings.ClassBinding.TheVariants.{Class}
+use Rattle.sj_mangling.specs.declared.bindings.ClassBinding.TheVariants.{Class, LoadModule, StoreModule}
 use Rattle.sj_mangling.specs.declared.bindings.FieldBinding.TheVariants.{Property, Variable as StaticField, Setter}
 use Rattle.sj_mangling.specs.declared.bindings.MethodBinding.TheVariants.{Entry, Dispatch, Reflective}
 use Rattle.sj_mangling.specs.Member.{Member}
@@ -140,6 +140,13 @@ static_name c f = field_binding StaticField c f
 abbrev pub setter_name : List ℕ → List ℕ → Name
 setter_name c f = field_binding Setter c f
 
+-- the function that loads the one object of a class, and the one that stores it
+abbrev pub load_name : List ℕ → Name
+load_name c = class_binding LoadModule c
+
+abbrev pub store_name : List ℕ → Name
+store_name c = class_binding StoreModule c
+
 -- the helper that hands on what isn't null
 abbrev pub check_name : Name
 check_name = codes "$nn"
@@ -184,6 +191,7 @@ module _ (name : Variable → Name) (label : List ℕ → Name) (known : Lookup)
     expression_template (static_call m es) = call_of (member_name m) (expression_templates es)
     expression_template (field_of e c f) = property_of (expression_template e) (property_name c f)
     expression_template (static_of c f) = name_use (static_name c f)
+    expression_template (core.module_of c) = call_of (load_name c) js.no_expressions
     expression_template (checked_value e) = call_of check_name (js.expression (expression_template e) js.no_expressions)
     expression_template (made_of m es) = call_of (member_name m) (js.expression (new_of (class_name m.class) js.no_expressions) (expression_templates es))
     expression_template (receiver_call k e es) = call_template known k (expression_template e) (expression_templates es)
@@ -207,6 +215,7 @@ module _ (name : Variable → Name) (label : List ℕ → Name) (known : Lookup)
     statement_template (log_of p e) = expression_statement (host_call ConsoleLog (expression_template e))
     statement_template (assign_field p e c f g) = assign_property (expression_template e) (property_name c f) (expression_template g)
     statement_template (assign_static p c f e) = expression_statement (call_of (setter_name c f) (js.expression (expression_template e) js.no_expressions))
+    statement_template (core.store_module_of p c e) = expression_statement (call_of (store_name c) (js.expression (expression_template e) js.no_expressions))
     statement_template (core.throw_of p e) = js.throw_of (expression_template e)
     statement_template (leave_label p l) = break_to (label l)
     statement_template (core.break_nearest p) = js.break_nearest

@@ -6,9 +6,9 @@ use Rattle.js_tree.specs.declared.items.Binding.{Binding}
 use Rattle.sj_desugar.specs.Lookup.{Lookup}
 use Rattle.sj_desugar.specs.Callee.{Callee}
 use Rattle.sj_desugar.specs.CalleeVariants as callees
-use Rattle.sj_desugar.specs.Terms.{Expression, boxed_char, char_text, value_text, choice_of, static_call, field_of, static_of, checked_value, made_of, receiver_call, test_of, cast_of, unary_of, binary_of, Expressions, no_expressions, expression, Statement, constant_of, define_of, declare_of, assign_to, evaluate_of, return_of, log_of, assign_field, assign_static, throw_of, leave_label, break_nearest, if_of, while_of, loop_of, labeled_of, switch_of, Statements, no_statements, statement, Cases, no_cases, switch_case}
+use Rattle.sj_desugar.specs.Terms.{Expression, boxed_char, char_text, value_text, choice_of, static_call, field_of, static_of, module_of, checked_value, made_of, receiver_call, test_of, cast_of, unary_of, binary_of, Expressions, no_expressions, expression, Statement, constant_of, define_of, declare_of, assign_to, evaluate_of, return_of, log_of, assign_field, assign_static, store_module_of, throw_of, leave_label, break_nearest, if_of, while_of, loop_of, labeled_of, switch_of, Statements, no_statements, statement, Cases, no_cases, switch_case}
 use Rattle.sj_emit_expr.specs.Tests.{test_name, cast_name, same_name}
-use Rattle.sj_emit_expr.specs.Templates.{called_member, member_name, class_name, static_name, setter_name, check_name, is_nonzero_literal}
+use Rattle.sj_emit_expr.specs.Templates.{called_member, member_name, class_name, static_name, setter_name, load_name, store_name, check_name, is_nonzero_literal}
 use Rattle.sj_mangling.specs.Bindings.{method_binding}
 use Rattle.sj_mangling.specs.declared.bindings.MethodBinding.TheVariants.{Dispatch, Reflective}
 use Rattle.sj_mangling.specs.Member.{Member}
@@ -32,6 +32,12 @@ static_use c f = record { owner = c; name = static_name c f }
 
 abbrev pub setter_use : List ℕ → List ℕ → Binding
 setter_use c f = record { owner = c; name = setter_name c f }
+
+abbrev pub load_use : List ℕ → Binding
+load_use c = record { owner = c; name = load_name c }
+
+abbrev pub store_use : List ℕ → Binding
+store_use c = record { owner = c; name = store_name c }
 
 -- the helper that an operator calls
 abbrev pub helper_of : Bool → BinaryOp → List Binding
@@ -79,6 +85,7 @@ module _ (known : Lookup) where
     uses_in (static_call m es) = function_binding m ∷ uses_in_all es
     uses_in (field_of e c f) = uses_in e
     uses_in (static_of c f) = static_use c f ∷ []
+    uses_in (module_of c) = load_use c ∷ []
     uses_in (checked_value e) = object_binding check_name ∷ uses_in e
     uses_in (made_of m es) = function_binding m ∷ class_use m.class ∷ uses_in_all es
     uses_in (receiver_call k e es) = call_uses known k ++ uses_in e ++ uses_in_all es
@@ -103,6 +110,7 @@ module _ (known : Lookup) where
     uses_of (log_of p e) = uses_in e
     uses_of (assign_field p e c f g) = uses_in e ++ uses_in g
     uses_of (assign_static p c f e) = setter_use c f ∷ uses_in e
+    uses_of (store_module_of p c e) = store_use c ∷ uses_in e
     uses_of (throw_of p e) = uses_in e
     uses_of (leave_label p l) = []
     uses_of (break_nearest p) = []

@@ -6,7 +6,7 @@
 ghost use Rattle.std.specs.Prelude.{◌≡◌, codes, [], ◌∷◌};
 ghost use Rattle.js_tree.specs.Texts.{piece_text};
 ghost use Rattle.js_tree.specs.declared.items.Binding.{Binding};
-ghost use Rattle.sj_emit_expr.specs.ObjectRows.{constructor_piece, field_piece, same_piece, sum_piece, sets_piece, gets_piece, others_piece, called_piece, looks_up_piece};
+ghost use Rattle.sj_emit_expr.specs.ObjectRows.{constructor_piece, field_piece, same_piece, sum_piece, sets_piece, gets_piece, others_piece, called_piece, looks_up_piece, loads_piece};
 ghost use Rattle.sj_emit_expr.specs.Rows.{piece_of, triple_method, triples, two_method, one_and_two};
 
 /// Two worked methods of the class `A`: `f` with the loop `while (p < 10) { p = p * 3 }; p`, and `two`, which adds what `one` gives to the value
@@ -20,7 +20,8 @@ pub fn worked_functions()
 /// first parameter. A receiver has its null check, but where it
 /// is This, or an immutable local that is defined as a new object; where a later operand isn't plain, the check comes in front of it; and a receiver
 /// that isn't plain is spilled for its check. A call of a public method runs the function of its target, and any other the one that it names.
-/// A method that is looked up is the entry of an object, also of an array, or a function that tells values apart where primitive ones are among them; a hijacked class has its own function; and a reflective call has one by its name. `uses` names the functions, classes, static fields and
+/// A method that is looked up is the entry of an object, also of an array, or a function that tells values apart where primitive ones are among them; a hijacked class has its own function; and a reflective call has one by its name.
+/// The one object of a class is loaded and stored by functions of its own. `uses` names the functions, classes, static fields and
 /// helpers of a text in its order.
 pub fn worked_objects()
     ensures constructor { piece_text constructor_piece ≡ codes "function ct_A__$3cinit$3e$$I$$V($this, v_x) {\n  ct_java_lang_Object__$3cinit$3e$$V($this);\n  $this.f_A__f = v_x;\n  return $this;\n}\n" }
@@ -37,4 +38,6 @@ pub fn worked_objects()
     ensures called_uses { called_piece.uses ≡ record { owner = codes "A"; name = codes "f_A__m$$V" } ∷ record { owner = codes "java.lang.Object"; name = codes "$nn" } ∷ record { owner = codes "C"; name = codes "f_C__m$$V" } ∷ record { owner = codes "B"; name = codes "p_B__m$$V" } ∷ [] }
     ensures looks_up { piece_text looks_up_piece ≡ codes "function s_A__calls$$V() {\n  $nn(v_q).m_m$$V();\n  d_m$$V($nn(v_q));\n  f_java_lang_Integer__m$$V(v_q);\n  f_java_lang_Byte__m$$V($nn(v_q));\n  $nn(v_q).m_m$$V();\n  r_m$$R(new $C(v_q));\n  let $1;\n  let $2;\n  $2 = v_q;\n  $1 = $nn($2);\n  $1.m_m$$V();\n}\n" }
     ensures looks_up_uses { looks_up_piece.uses ≡ record { owner = codes "java.lang.Object"; name = codes "$nn" } ∷ record { owner = codes "java.lang.Object"; name = codes "d_m$$V" } ∷ record { owner = codes "java.lang.Integer"; name = codes "f_java_lang_Integer__m$$V" } ∷ record { owner = codes "java.lang.Byte"; name = codes "f_java_lang_Byte__m$$V" } ∷ record { owner = codes "java.lang.Object"; name = codes "r_m$$R" } ∷ record { owner = codes "java.lang.Object"; name = codes "$C" } ∷ [] }
+    ensures loads { piece_text loads_piece ≡ codes "function ct_A__$3cinit$3e$$V($this) {\n  q_A($this);\n  let $1;\n  $1 = $this;\n  q_A($1);\n  $this.f_A__f = g_A().f_A__f;\n  g_A();\n  return $this;\n}\n" }
+    ensures loads_uses { loads_piece.uses ≡ record { owner = codes "A"; name = codes "q_A" } ∷ record { owner = codes "A"; name = codes "g_A" } ∷ [] }
 {}

@@ -73,6 +73,13 @@ pub fn emit_expression(
             class,
             field,
         )?)),
+        CoreExpression::Module(class) => {
+            let function = class_binding(alloc, ClassBinding::LoadModule, class)?;
+            Ok(JsExpr::Call {
+                function,
+                arguments: Vec::new(alloc),
+            })
+        }
         CoreExpression::Checked(operand) => {
             let check = Text::from_str(alloc, "$nn")?;
             let operand = emit_expression(alloc, known, operand)?;

@@ -72,7 +72,8 @@ fn add_calls_in(expression: &CoreExpression, inquiries: &mut Vec<Inquiry>) -> Re
         | CoreExpression::Long(_)
         | CoreExpression::Text(_)
         | CoreExpression::Variable(_)
-        | CoreExpression::StaticField(_, _) => Ok(()),
+        | CoreExpression::StaticField(_, _)
+        | CoreExpression::Module(_) => Ok(()),
     }
 }
 
@@ -101,6 +102,7 @@ fn add_calls_of(statement: &CoreStatement, inquiries: &mut Vec<Inquiry>) -> Resu
         | CoreStatement::Return(_, value)
         | CoreStatement::Log(_, value)
         | CoreStatement::AssignStatic(_, _, _, value)
+        | CoreStatement::StoreModule(_, _, value)
         | CoreStatement::Throw(_, value) => add_calls_in(value, inquiries),
         CoreStatement::Declare(_, _) | CoreStatement::Leave(_, _) | CoreStatement::Break(_) => {
             Ok(())

@@ -15,7 +15,7 @@ use crate::names::{label_name, variable_name};
 use crate::operators::host_call;
 use js_tree::{HostFunction, JsExpr, JsStmt, SwitchCase};
 use sj_core::{CoreCase, CoreExpression, CoreStatement, CoreVariable};
-use sj_mangling::{FieldBinding, field_binding};
+use sj_mangling::{ClassBinding, FieldBinding, class_binding, field_binding};
 use sj_names::{Items, NoMemory, Text};
 use std::alloc::Global;
 
@@ -94,6 +94,11 @@ fn emit_statement(
             let setter = field_binding(alloc, FieldBinding::Setter, class, field)?;
             let value = emit_expression(alloc, known, value)?;
             Ok(JsStmt::Expression(call_of_one(alloc, setter, value)?))
+        }
+        CoreStatement::StoreModule(_, class, value) => {
+            let store = class_binding(alloc, ClassBinding::StoreModule, class)?;
+            let value = emit_expression(alloc, known, value)?;
+            Ok(JsStmt::Expression(call_of_one(alloc, store, value)?))
         }
         CoreStatement::Throw(_, value) => Ok(JsStmt::Throw(emit_expression(alloc, known, value)?)),
         CoreStatement::Leave(_, label) => Ok(JsStmt::BreakTo(label_name(alloc, label)?)),

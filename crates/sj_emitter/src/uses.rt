@@ -99,6 +99,22 @@ fn setter_use(alloc: Global, class: &ClassName, field: &FieldName) -> Result<Bin
     Ok(Binding { owner, name })
 }
 
+fn load_use(alloc: Global, class: &ClassName) -> Result<Binding, NoMemory>
+    ensures { IfOk result (λ b. b ≡ uses.load_use class.now) }
+{
+    let name = class_binding(alloc, ClassBinding::LoadModule, class)?;
+    let owner = class.copied()?;
+    Ok(Binding { owner, name })
+}
+
+fn store_use(alloc: Global, class: &ClassName) -> Result<Binding, NoMemory>
+    ensures { IfOk result (λ b. b ≡ uses.store_use class.now) }
+{
+    let name = class_binding(alloc, ClassBinding::StoreModule, class)?;
+    let owner = class.copied()?;
+    Ok(Binding { owner, name })
+}
+
 // Adds the helper that an operator calls.
 fn add_helper(
     alloc: Global,
@@ -230,6 +246,7 @@ fn add_uses_in(
         CoreExpression::StaticField(class, field) => {
             add(bindings, static_use(alloc, class, field)?)
         }
+        CoreExpression::Module(class) => add(bindings, load_use(alloc, class)?),
         CoreExpression::Checked(operand) => {
             add(bindings, object_binding(alloc, "$nn")?)?;
             add_uses_in(alloc, known, operand, bindings)
@@ -314,6 +331,10 @@ fn add_uses_of(
         }
         CoreStatement::AssignStatic(_, class, field, value) => {
             add(bindings, setter_use(alloc, class, field)?)?;
+            add_uses_in(alloc, known, value, bindings)
+        }
+        CoreStatement::StoreModule(_, class, value) => {
+            add(bindings, store_use(alloc, class)?)?;
             add_uses_in(alloc, known, value, bindings)
         }
         CoreStatement::If(_, test, yes, no) => {

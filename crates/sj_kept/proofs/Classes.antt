@@ -50,6 +50,7 @@ class-keeps c h m i = record {
   variable = none-first _ (method-keeps c rule.Variable (kept rule.Variable in_twelfth) m i);
   jump = none-first _ (method-keeps c rule.ReturnLabel (kept rule.ReturnLabel in_thirteenth) m i);
   this = none-first _ (method-keeps c rule.This (kept rule.This in_fourteenth) m i);
+  stored = none-first _ (method-keeps c rule.StoreModule (kept rule.StoreModule in_fifteenth) m i);
 }
   where
     kept : (r : Rule) → Contains all_rules r → Breaks c r None
@@ -69,6 +70,9 @@ class-keeps c h m i = record {
 
     in_fourteenth : Contains all_rules rule.This
     in_fourteenth = (13, omega arith, refl)
+
+    in_fifteenth : Contains all_rules rule.StoreModule
+    in_fifteenth = (14, omega arith, refl)
 
 place-unless : (b : Bool) → None ≡ unless b → b ≡ true
 place-unless true e = refl

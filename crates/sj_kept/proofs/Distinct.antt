@@ -8,7 +8,7 @@ use Rattle.sj_local.specs.declared.walks.Declaration.TheVariants as declaration
 use Rattle.sj_local.specs.Nodes.{Context, Node, node, inside, in_a_block, with_label, behind, below, statements_below, all_below, cases_below}
 use Rattle.sj_local.specs.TreeRules.{declarations}
 use Rattle.sj_names.specs.declared.method_names.Namespace.{Namespace}
-use Rattle.sj_trees.specs.Term.{Term, Terms, no_terms, more_terms, Cases, no_cases, more_cases, var_def, skip, block_of, labeled, assign, return_to, if_then, while_loop, do_while, throw, match_on, new_object, select, apply, apply_statically, apply_static, unary_op, binary_op, is_instance_of, as_instance_of, log_line}
+use Rattle.sj_trees.specs.Term.{Term, Terms, no_terms, more_terms, Cases, no_cases, more_cases, var_def, skip, block_of, labeled, assign, return_to, if_then, while_loop, do_while, throw, match_on, new_object, store_module, select, apply, apply_statically, apply_static, unary_op, binary_op, is_instance_of, as_instance_of, log_line}
 use Rattle.sj_proper.specs.Locals.{Own, OwnAll, OwnCases}
 use Rattle.sj_proper.proofs.Equal.{is-equal}
 use Rattle.sj_names.proofs.Same.{impossible}
@@ -72,6 +72,7 @@ mutual
   own-declares (assign p (select q d c f t) e) x y (inr o) = in-right (At x (select q d c f t)) (At x e) (declaration.Local y) (own-declares e x y o)
   own-declares (assign p a e) x y o = in-right (At x a) (At x e) (declaration.Local y) (own-declares e x y o)
   own-declares (throw p e) x y o = own-declares e x y o
+  own-declares (store_module p c e) x y o = own-declares e x y o
   own-declares (return_to p e l) x y o = own-declares e x y o
   own-declares (if_then p c a b t) x y (inl o) = in-left (At x c ++ At x a) (At x b) (declaration.Local y) (in-left (At x c) (At x a) (declaration.Local y) (own-declares c x y o))
   own-declares (if_then p c a b t) x y (inr (inl o)) = in-left (At x c ++ At x a) (At x b) (declaration.Local y) (in-right (At x c) (At x a) (declaration.Local y) (own-declares a x y o))
@@ -171,6 +172,7 @@ module _ (owner : List ℕ) (space : Namespace) where
         (once d x x a refl l v.1.0 v.1.1 g.0 (out-left a (At x (select q d c r t)) (At x e) o), once e x x a refl l m.0 m.1 g.1 (out-right a (At x (select q d c r t)) (At x e) o), apart (Own d) (Own e) (At x (select q d c r t)) (At x e) (own-declares d x) (own-declares e x) g.2)
     once (assign p d e) x y a z l k h f o = let m = keep-behind owner space (At x d) (At x e) h in once e x x a refl l m.0 m.1 (parts (At x d) (At x e) f).1 (out-right a (At x d) (At x e) o)
     once (throw p e) x y a z l k h f o = once e x x a refl l h.0 h.1 f o
+    once (store_module p c e) x y a z l k h f o = once e x x a refl l h.0 h.1 f o
     once (return_to p e q) x y a z l k h f o = (l.known q (not_false (list_any (pointwise nat_eq q) x.labels) (subst (λ r. not (list_any (pointwise nat_eq q) r) ≡ false) z k.jump)), once e x x a refl l h.0 h.1 f o)
     once (if_then p c d e t) x y a z l k h f o =
         let g = parts (At x c ++ At x d) (At x e) f in

@@ -29,7 +29,7 @@ use Rattle.sj_pieces.specs.Fits.{RunsFit, TargetsFit}
 use Rattle.sj_pieces.specs.Keys.{IsKeyed, AreKeyed, HaveKeys, HasKeys}
 use Rattle.sj_pieces.specs.Owners.{MayCall, HasOwners, HaveOwners, IsOwned, AreOwned, CasesOwned, FieldsHaveOwners}
 use Rattle.sj_pieces.specs.Ranges.{AreBytes, FitsType, FitsMethodName, FitsMember, FitsCallee, FitsExpression, FitExpressions, FitsStatement, FitStatements, FitCases, FitsMethod}
-use Rattle.sj_pieces.proofs.Names.{variable-named, label-named, member-named, method-named, entry-named, class-named, test-named, cast-named, property-named, static-named, setter-named}
+use Rattle.sj_pieces.proofs.Names.{variable-named, label-named, member-named, method-named, entry-named, class-named, test-named, cast-named, property-named, static-named, setter-named, load-named, store-named}
 use Rattle.sj_pieces.proofs.Runs.{two, three, run-fits}
 use Rattle.sj_pieces.proofs.Uses.{uses-named}
 
@@ -128,6 +128,7 @@ module _ (known : Lookup) where
     expression-kept (core.static_call m es) h o r = (member-named m h.0, expressions-kept es h.1 o r)
     expression-kept (core.field_of e c f) h o r = (o.0 known, expression-kept e h.0 o.1 r, property-named c f h.1 h.2)
     expression-kept (core.static_of c f) h o r = static-named c f h.0 h.1
+    expression-kept (core.module_of c) h o r = (load-named c h, tt)
     expression-kept (core.checked_value e) h o r = (refl, (expression-kept e h o r, tt))
     expression-kept (core.made_of m es) h o r = (member-named m h.0, ((class-named m.class h.0.0, tt), expressions-kept es h.1 o r))
     expression-kept (core.receiver_call k e es) h o r = let q = three known (calls_in e) (calls_in_all es) (own_call k) r in call-kept k e (expression_templates variable_name label_name known es) h.0 o.0 q.2 (expression-kept e h.1 o.1 q.0) (expressions-kept es h.2 o.2 q.1)
@@ -152,6 +153,7 @@ module _ (known : Lookup) where
     statement-kept (core.log_of p e) h k o r = expression-kept e h o r
     statement-kept (core.assign_field p e c f g) h k o r = let q = two known (calls_in e) (calls_in g) r in (o.0 known, expression-kept e h.0 o.1 q.0, property-named c f h.1 h.2, expression-kept g h.3 o.2 q.1)
     statement-kept (core.assign_static p c f e) h k o r = (setter-named c f h.0 h.1, (expression-kept e h.2 o r, tt))
+    statement-kept (core.store_module_of p c e) h k o r = (store-named c h.0, (expression-kept e h.1 o r, tt))
     statement-kept (core.throw_of p e) h k o r = expression-kept e h o r
     statement-kept (core.leave_label p l) h k o r = label-named l h
     statement-kept (core.break_nearest p) h k o r = tt

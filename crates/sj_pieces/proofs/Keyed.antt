@@ -9,7 +9,7 @@ use Rattle.sj_desugar.specs.Desugar.{operand, into, block, operands, cases, fini
 use Rattle.sj_desugar.specs.Plain.{is_plain}
 use Rattle.sj_desugar.specs.Spill.{Destination, discard, to_variable, to_result, Code, one, put_first, Operand, all_plain, Spilled, spill, spill_case, then_use}
 use Rattle.sj_desugar.specs.Texts.{operand_of}
-use Rattle.sj_trees.specs.Term.{Term, Terms, no_terms, more_terms, Cases, no_cases, more_cases, var_def, block_of, labeled, assign, return_to, if_then, while_loop, do_while, match_on, throw, new_object, select, select_static, apply, apply_statically, apply_static, unary_op, binary_op, is_instance_of, as_instance_of, undefined_literal, null_literal, boolean_literal, char_literal, byte_literal, short_literal, int_literal, long_literal, string_literal, var_ref, this_ref, log_line}
+use Rattle.sj_trees.specs.Term.{Term, Terms, no_terms, more_terms, Cases, no_cases, more_cases, var_def, block_of, labeled, assign, return_to, if_then, while_loop, do_while, match_on, throw, new_object, load_module, store_module, select, select_static, apply, apply_statically, apply_static, unary_op, binary_op, is_instance_of, as_instance_of, undefined_literal, null_literal, boolean_literal, char_literal, byte_literal, short_literal, int_literal, long_literal, string_literal, var_ref, this_ref, log_line}
 use Rattle.sj_trees.specs.TypeOf.{type_of_term, unary_result, binary_result}
 use Rattle.sj_trees.specs.declared.classes.MethodDef.{MethodDef}
 use Rattle.sj_trees.specs.Types.{class_type}
@@ -114,6 +114,8 @@ module _ (is_mutable sure : List ℕ → Bool) where
     keyed (new_object p c m es) = λ ts k j. use-keyed (operands is_mutable sure ts es) (keyed_operands es ts) j (λ xs. finish k p (class_type c) false (core.made_of (member c Constructor m) (expressions_of (coerced_arguments m.params (types_of es) xs)))) (λ xs i. finish-keyed k p (class_type c) false (core.made_of (member c Constructor m) (expressions_of (coerced_arguments m.params (types_of es) xs))) i)
     keyed (select p e c f t) = λ ts k j. use-keyed (owner_of ts e ∷ []) (owner_keyed e (keyed e) ts, tt) j (λ es. finish k p t false (core.field_of (first_of es) c f)) (λ es i. finish-keyed k p t false (core.field_of (first_of es) c f) i)
     keyed (select_static p c f t) = λ ts k j. finish-keyed k p t false (core.static_of c f) j
+    keyed (load_module p c) = λ ts k j. finish-keyed k p (class_type c) false (core.module_of c) j
+    keyed (store_module p c e) = λ ts k j. act_keyed e (keyed e) ts j (λ es. one (core.store_module_of (Some p) c (coerced (class_type c) (type_of_term e) (first_of es)))) (λ es i. (tt, tt))
     keyed (unary_op p o e) = λ ts k j. act_keyed e (keyed e) ts j (λ es. finish k p (unary_result o) false (core.unary_of o (first_of es))) (λ es i. finish-keyed k p (unary_result o) false (core.unary_of o (first_of es)) i)
     keyed (is_instance_of p e t) = λ ts k j. act_keyed e (keyed e) ts j (λ es. finish k p Boolean false (core.test_of t (coerced Any (type_of_term e) (first_of es)))) (λ es i. finish-keyed k p Boolean false (core.test_of t (coerced Any (type_of_term e) (first_of es))) i)
     keyed (as_instance_of p e t) = λ ts k j. act_keyed e (keyed e) ts j (λ es. finish k p t false (core.cast_of t (coerced Any (type_of_term e) (first_of es)))) (λ es i. finish-keyed k p t false (core.cast_of t (coerced Any (type_of_term e) (first_of es))) i)

@@ -12,7 +12,7 @@ use Rattle.js_tree.specs.Names.{is_name_character}
 use Rattle.js_tree.specs.Rules.{IsName, IsProperty}
 use Rattle.sj_core.specs.Terms.{Variable, named, numbered, receiver}
 use Rattle.sj_emit_expr.specs.Names.{variable_name, label_name}
-use Rattle.sj_emit_expr.specs.Templates.{member_name, class_name, property_name, static_name, setter_name}
+use Rattle.sj_emit_expr.specs.Templates.{member_name, class_name, property_name, static_name, setter_name, load_name, store_name}
 use Rattle.sj_emit_expr.specs.Tests.{test_name, cast_name}
 use Rattle.sj_mangling.specs.Bindings.{function_name, method_binding}
 use Rattle.sj_mangling.specs.declared.bindings.MethodBinding.{MethodBinding}
@@ -135,6 +135,12 @@ function-named Constructor class method bytes others = rw (function-rest class m
 
 pub class-named : (c : List ℕ) → AreBytes c → IsName (class_name c)
 class-named c bytes = rw (mangled-characters c bytes) refl
+
+pub load-named : (c : List ℕ) → AreBytes c → IsName (load_name c)
+load-named c bytes = rw (mangled-characters c bytes) refl
+
+pub store-named : (c : List ℕ) → AreBytes c → IsName (store_name c)
+store-named c bytes = rw (mangled-characters c bytes) refl
 
 pub test-named : (t : IrType) → FitsType t → IsName (test_name t)
 test-named Undefined h = refl

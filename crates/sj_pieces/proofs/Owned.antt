@@ -21,7 +21,7 @@ use Rattle.sj_names.specs.declared.method_names.MethodName.{MethodName}
 use Rattle.sj_names.specs.declared.method_names.Namespace.{Namespace}
 use Rattle.sj_names.specs.declared.method_names.Namespace.TheVariants.{Public, PublicStatic, Private, PrivateStatic, Constructor}
 use Rattle.sj_names.specs.declared.references.TypeRef.{TypeRef}
-use Rattle.sj_trees.specs.Term.{Term, Terms, no_terms, more_terms, Cases, no_cases, more_cases, var_def, block_of, labeled, assign, return_to, if_then, while_loop, do_while, match_on, throw, new_object, select, select_static, apply, apply_statically, apply_static, unary_op, binary_op, is_instance_of, as_instance_of, undefined_literal, null_literal, boolean_literal, char_literal, byte_literal, short_literal, int_literal, long_literal, string_literal, var_ref, this_ref, log_line}
+use Rattle.sj_trees.specs.Term.{Term, Terms, no_terms, more_terms, Cases, no_cases, more_cases, var_def, block_of, labeled, assign, return_to, if_then, while_loop, do_while, match_on, throw, new_object, load_module, store_module, select, select_static, apply, apply_statically, apply_static, unary_op, binary_op, is_instance_of, as_instance_of, undefined_literal, null_literal, boolean_literal, char_literal, byte_literal, short_literal, int_literal, long_literal, string_literal, var_ref, this_ref, log_line}
 use Rattle.sj_trees.specs.TypeOf.{type_of_term, unary_result, binary_result}
 use Rattle.sj_trees.specs.Types.{class_type, reference_type}
 use Rattle.sj_trees.specs.declared.classes.MethodDef.{MethodDef}
@@ -325,6 +325,8 @@ module _ (is_mutable sure : List ℕ → Bool) where
     owned (new_object p c m es) h = λ ts k j. use-owned (operands is_mutable sure ts es) (owned_operands es h ts) j (λ xs. finish k p (class_type c) false (core.made_of (member c Constructor m) (expressions_of (coerced_arguments m.params (types_of es) xs)))) (λ xs i f. finish-owned k p (class_type c) false (core.made_of (member c Constructor m) (expressions_of (coerced_arguments m.params (types_of es) xs))) i (arguments-owned m.params (types_of es) xs f))
     owned (select p e c f t) h = λ ts k j. use-object (owner_in ts e) [] (owner_owns e h.0 ts) (owner_owned e h.1 (owned e h.1) ts, tt) j (λ es. finish k p t false (core.field_of (first_of es) c f)) (λ es i m g. finish-owned k p t false (core.field_of (first_of es) c f) i (m, first-owned es g))
     owned (select_static p c f t) h = λ ts k j. finish-owned k p t false (core.static_of c f) j tt
+    owned (load_module p c) h = λ ts k j. finish-owned k p (class_type c) false (core.module_of c) j tt
+    owned (store_module p c e) h = λ ts k j. act_owned e h (owned e h) ts j (λ es. one (core.store_module_of (Some p) c (coerced (class_type c) (type_of_term e) (first_of es)))) (λ es i g. (coerced-owned (class_type c) (type_of_term e) (first_of es) g, tt))
     owned (unary_op p o e) h = λ ts k j. act_owned e h (owned e h) ts j (λ es. finish k p (unary_result o) false (core.unary_of o (first_of es))) (λ es i f. finish-owned k p (unary_result o) false (core.unary_of o (first_of es)) i f)
     owned (is_instance_of p e t) h = λ ts k j. act_owned e h (owned e h) ts j (λ es. finish k p Boolean false (core.test_of t (coerced Any (type_of_term e) (first_of es)))) (λ es i f. finish-owned k p Boolean false (core.test_of t (coerced Any (type_of_term e) (first_of es))) i (coerced-owned Any (type_of_term e) (first_of es) f))
     owned (as_instance_of p e t) h = λ ts k j. act_owned e h (owned e h) ts j (λ es. finish k p t false (core.cast_of t (coerced Any (type_of_term e) (first_of es)))) (λ es i f. finish-owned k p t false (core.cast_of t (coerced Any (type_of_term e) (first_of es))) i (coerced-owned Any (type_of_term e) (first_of es) f))

@@ -12,7 +12,7 @@ use Rattle.sj_core.specs.declared.callees.Callee.{Callee}
 use Rattle.sj_core.specs.declared.callees.Callee.TheVariants as callees
 use Rattle.sj_emit_expr.specs.Templates.{check_name, is_nonzero_literal, called_member}
 use Rattle.sj_emit_expr.specs.Tests.{test_name, cast_name, same_name}
-use Rattle.sj_emit_expr.specs.Uses.{looked_up_uses, call_uses, object_binding, function_binding, class_use, static_use, setter_use, helper_of, test_uses, cast_uses, uses_in, uses_in_all, uses_of, uses_of_all, uses_of_cases, is_same_binding, once_each, uses}
+use Rattle.sj_emit_expr.specs.Uses.{looked_up_uses, call_uses, object_binding, function_binding, class_use, static_use, setter_use, load_use, store_use, helper_of, test_uses, cast_uses, uses_in, uses_in_all, uses_of, uses_of_all, uses_of_cases, is_same_binding, once_each, uses}
 use Rattle.sj_mangling.specs.Bindings.{method_binding}
 use Rattle.sj_mangling.specs.declared.bindings.MethodBinding.TheVariants.{Dispatch, Reflective}
 use Rattle.sj_names.specs.declared.method_names.MethodName.{MethodName}
@@ -23,7 +23,7 @@ use Rattle.sj_trees.specs.declared.types.IrType.TheVariants.{Any, Class, Array}
 use Rattle.sj_pieces.specs.Fits.{RunsFit}
 use Rattle.sj_pieces.specs.Ranges.{FitsType, FitsMethodName, FitsCallee, FitsExpression, FitExpressions, FitsStatement, FitStatements, FitCases}
 use Rattle.sj_pieces.proofs.Runs.{two, three, run-fits}
-use Rattle.sj_pieces.proofs.Names.{member-named, method-named, class-named, test-named, cast-named, static-named, setter-named}
+use Rattle.sj_pieces.proofs.Names.{member-named, method-named, class-named, test-named, cast-named, static-named, setter-named, load-named, store-named}
 
 abbrev Named : List Binding → Type 0
 Named bs = All IsBinding bs
@@ -75,6 +75,7 @@ module _ (known : Lookup) where
     in-named (core.static_call m es) h f = All-cons IsBinding (function_binding m) (uses_in_all known es) (member-named m h.0) (all-named es h.1 f)
     in-named (core.field_of e c f) h g = in-named e h.0 g
     in-named (core.static_of c f) h g = All-cons IsBinding (static_use c f) [] (static-named c f h.0 h.1) none
+    in-named (core.module_of c) h g = All-cons IsBinding (load_use c) [] (load-named c h) none
     in-named (core.checked_value e) h f = All-cons IsBinding (object_binding check_name) (uses_in known e) refl (in-named e h f)
     in-named (core.made_of m es) h f = All-cons IsBinding (function_binding m) (class_use m.class ∷ uses_in_all known es) (member-named m h.0) (All-cons IsBinding (class_use m.class) (uses_in_all known es) (class-named m.class h.0.0) (all-named es h.1 f))
     in-named (core.receiver_call k e es) h f = let p = three known (calls_in e) (calls_in_all es) (own_call k) f in after (call_uses known k ++ uses_in known e) (uses_in_all known es) (after (call_uses known k) (uses_in known e) (call-named known k h.0 p.2) (in-named e h.1 p.0)) (all-named es h.2 p.1)
@@ -99,6 +100,7 @@ module _ (known : Lookup) where
     of-named (core.log_of p e) h f = in-named e h f
     of-named (core.assign_field p e c x g) h f = let q = two known (calls_in e) (calls_in g) f in after (uses_in known e) (uses_in known g) (in-named e h.0 q.0) (in-named g h.3 q.1)
     of-named (core.assign_static p c x e) h f = All-cons IsBinding (setter_use c x) (uses_in known e) (setter-named c x h.0 h.1) (in-named e h.2 f)
+    of-named (core.store_module_of p c e) h f = All-cons IsBinding (store_use c) (uses_in known e) (store-named c h.0) (in-named e h.1 f)
     of-named (core.throw_of p e) h f = in-named e h f
     of-named (core.leave_label p l) h f = none
     of-named (core.break_nearest p) h f = none

@@ -7,7 +7,7 @@ use Rattle.sj_core.specs.declared.callees.Callee.{Callee}
 use Rattle.sj_core.specs.declared.callees.Callee.TheVariants as callees
 use Rattle.sj_emit_expr.specs.Names.{variable_name, label_name}
 use Rattle.sj_emit_expr.specs.Templates.{expression_template}
-use Rattle.sj_trees.specs.Term.{Term, Terms, no_terms, more_terms, Cases, no_cases, more_cases, var_def, block_of, labeled, assign, return_to, if_then, while_loop, do_while, throw, match_on, new_object, select, select_static, apply, apply_statically, apply_static, unary_op, binary_op, is_instance_of, as_instance_of, var_ref, log_line}
+use Rattle.sj_trees.specs.Term.{Term, Terms, no_terms, more_terms, Cases, no_cases, more_cases, var_def, block_of, labeled, assign, return_to, if_then, while_loop, do_while, throw, match_on, new_object, store_module, select, select_static, apply, apply_statically, apply_static, unary_op, binary_op, is_instance_of, as_instance_of, var_ref, log_line}
 use Rattle.sj_trees.specs.TypeOf.{type_of_term}
 use Rattle.sure_receivers.specs.Sure.{is_sure_type}
 
@@ -55,6 +55,7 @@ abbrev mutual
   IsOwned (core.log_of p e) = HasOwners e
   IsOwned (core.assign_field p e c f g) = MayOwn e × HasOwners e × HasOwners g
   IsOwned (core.assign_static p c f e) = HasOwners e
+  IsOwned (core.store_module_of p c e) = HasOwners e
   IsOwned (core.throw_of p e) = HasOwners e
   IsOwned (core.leave_label p l) = Unit {0}
   IsOwned (core.break_nearest p) = Unit {0}
@@ -89,6 +90,7 @@ abbrev mutual
   OnObjects (if_then p c a b t) = OnObjects c × OnObjects a × OnObjects b
   OnObjects (while_loop p c b) = OnObjects c × OnObjects b
   OnObjects (do_while p b c) = OnObjects b × OnObjects c
+  OnObjects (store_module p c e) = OnObjects e
   OnObjects (throw p e) = OnObjects e
   OnObjects (match_on p e cs d t) = OnObjects e × CasesOnObjects cs × OnObjects d
   OnObjects (new_object p c m ts) = AllOnObjects ts

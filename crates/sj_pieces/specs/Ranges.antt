@@ -3,7 +3,7 @@ use Rattle.std.specs.Prelude.{◌<◌, ◌^◌, ℕ, List, All, IfSome}
 use Rattle.js_tree.specs.Rules.{IsNumber, IsBig, IsUnit}
 use Rattle.sj_core.specs.declared.callees.Callee.{Callee}
 use Rattle.sj_core.specs.declared.callees.Callee.TheVariants as callees
-use Rattle.sj_core.specs.Terms.{Variable, named, numbered, receiver, Expression, number_value, long_value, text_value, variable_use, boxed_char, char_text, value_text, choice_of, static_call, field_of, static_of, checked_value, made_of, receiver_call, test_of, cast_of, unary_of, binary_of, Expressions, no_expressions, expression, Statement, constant_of, define_of, declare_of, assign_to, evaluate_of, return_of, log_of, assign_field, assign_static, throw_of, leave_label, break_nearest, if_of, while_of, loop_of, labeled_of, switch_of, Statements, no_statements, statement, Cases, no_cases, switch_case, Method}
+use Rattle.sj_core.specs.Terms.{Variable, named, numbered, receiver, Expression, number_value, long_value, text_value, variable_use, boxed_char, char_text, value_text, choice_of, static_call, field_of, static_of, module_of, checked_value, made_of, receiver_call, test_of, cast_of, unary_of, binary_of, Expressions, no_expressions, expression, Statement, constant_of, define_of, declare_of, assign_to, evaluate_of, return_of, log_of, assign_field, assign_static, store_module_of, throw_of, leave_label, break_nearest, if_of, while_of, loop_of, labeled_of, switch_of, Statements, no_statements, statement, Cases, no_cases, switch_case, Method}
 use Rattle.sj_names.specs.declared.method_names.Member.{Member}
 use Rattle.sj_names.specs.declared.method_names.MethodName.{MethodName}
 use Rattle.sj_names.specs.declared.references.BaseRef.{BaseRef}
@@ -60,6 +60,7 @@ abbrev mutual
   FitsExpression (static_call m es) = FitsMember m × FitExpressions es
   FitsExpression (field_of e c f) = FitsExpression e × AreBytes c × AreBytes f
   FitsExpression (static_of c f) = AreBytes c × AreBytes f
+  FitsExpression (module_of c) = AreBytes c
   FitsExpression (checked_value e) = FitsExpression e
   FitsExpression (made_of m es) = FitsMember m × FitExpressions es
   FitsExpression (receiver_call k e es) = FitsCallee k × FitsExpression e × FitExpressions es
@@ -84,6 +85,7 @@ abbrev mutual
   FitsStatement (log_of p e) = FitsExpression e
   FitsStatement (assign_field p e c f g) = FitsExpression e × AreBytes c × AreBytes f × FitsExpression g
   FitsStatement (assign_static p c f e) = AreBytes c × AreBytes f × FitsExpression e
+  FitsStatement (store_module_of p c e) = AreBytes c × FitsExpression e
   FitsStatement (throw_of p e) = FitsExpression e
   FitsStatement (leave_label p l) = AreBytes l
   FitsStatement (break_nearest p) = Unit {0}

@@ -136,6 +136,7 @@ fn expression_fits(expression: &CoreExpression)
             text_fits(class.text());
             text_fits(name.text());
         }
+        CoreExpression::Module(class) => text_fits(class.text()),
         CoreExpression::ReceiverCall(callee, object, arguments) => {
             callee_fits(callee);
             expression_fits(object);
@@ -195,6 +196,10 @@ fn statement_fits(statement: &CoreStatement)
         CoreStatement::AssignStatic(_, class, name, value) => {
             text_fits(class.text());
             text_fits(name.text());
+            expression_fits(value);
+        }
+        CoreStatement::StoreModule(_, class, value) => {
+            text_fits(class.text());
             expression_fits(value);
         }
         CoreStatement::Leave(_, label) => text_fits(label.text()),

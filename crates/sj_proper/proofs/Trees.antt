@@ -10,7 +10,7 @@ use Rattle.body_rules.specs.Desugar.{callee_of, receiver, received, rest_of, ope
 use Rattle.body_rules.specs.Plain.{is_plain}
 use Rattle.body_rules.specs.Texts.{operand_of}
 use Rattle.body_rules.specs.Spill.{Destination, discard, to_variable, to_result, Code, Operand, no_code, one, put_first, then_code, spill, then_use}
-use Rattle.sj_trees.specs.Term.{Term, Terms, no_terms, more_terms, Cases, no_cases, more_cases, var_def, block_of, labeled, assign, return_to, if_then, while_loop, do_while, throw, match_on, new_object, select, select_static, apply, apply_statically, apply_static, unary_op, binary_op, is_instance_of, as_instance_of, undefined_literal, null_literal, boolean_literal, char_literal, byte_literal, short_literal, int_literal, long_literal, string_literal, var_ref, this_ref, log_line}
+use Rattle.sj_trees.specs.Term.{Term, Terms, no_terms, more_terms, Cases, no_cases, more_cases, var_def, block_of, labeled, assign, return_to, if_then, while_loop, do_while, throw, match_on, new_object, load_module, store_module, select, select_static, apply, apply_statically, apply_static, unary_op, binary_op, is_instance_of, as_instance_of, undefined_literal, null_literal, boolean_literal, char_literal, byte_literal, short_literal, int_literal, long_literal, string_literal, var_ref, this_ref, log_line}
 use Rattle.sj_names.specs.declared.method_names.Namespace.TheVariants.{Constructor}
 use Rattle.sj_trees.specs.Types.{class_type}
 use Rattle.body_rules.specs.Sure.{is_sure}
@@ -151,6 +151,8 @@ module _ (is_mutable sure : List ℕ → Bool) where
     good (new_object p c m es) = λ around ts ls b k j h em. good-use (OwnAll es) no_name (OwnAll es) ls b (operands is_mutable sure ts es) (λ xs. finish k p (class_type c) false (core.made_of (member c Constructor m) (expressions_of (coerced_arguments m.params (types_of es) xs)))) j (good_operands es around ts ls b h em j) (λ xs i. finish-good no_name ls b k p (class_type c) false (core.made_of (member c Constructor m) (expressions_of (coerced_arguments m.params (types_of es) xs))) i) (nothing_apart (OwnAll es)) (all_part (OwnAll es)) (no_part (OwnAll es))
     good (select p e c f t) = λ around ts ls b k j h em. good-use (Own e) no_name (Own e) ls b (receiver_in e ts ∷ []) (λ es. finish k p t false (core.field_of (first_of es) c f)) j (receiver_first e (good e) no_name (Own e) [] (nothing_apart (Own e)) (all_part (Own e)) (no_part (Own e)) around ts ls b h em (λ j. good-none no_name ls b j) j) (λ es i. finish-good no_name ls b k p t false (core.field_of (first_of es) c f) i) (nothing_apart (Own e)) (all_part (Own e)) (no_part (Own e))
     good (select_static p c f t) = λ around ts ls b k j h em. finish-good no_name ls b k p t false (core.static_of c f) j
+    good (load_module p c) = λ around ts ls b k j h em. finish-good no_name ls b k p (class_type c) false (core.module_of c) j
+    good (store_module p c e) = λ around ts ls b k j h em. act_good e (good e) (Own e) (all_part (Own e)) around ts ls b j (λ es. one (core.store_module_of (Some p) c (coerced (class_type c) (type_of_term e) (first_of es)))) h em (λ es i. good-one no_name ls b i i (core.store_module_of (Some p) c (coerced (class_type c) (type_of_term e) (first_of es))) (omega arith) (λ y d. d) tt)
     good (this_ref p t) = λ around ts ls b k j h em. finish-good no_name ls b k p t true (core.variable_use core.receiver) j
     good (unary_op p o e) = λ around ts ls b k j h em. act_good e (good e) (Own e) (all_part (Own e)) around ts ls b j (λ es. finish k p (unary_result o) false (core.unary_of o (first_of es))) h em (λ es i. finish-good no_name ls b k p (unary_result o) false (core.unary_of o (first_of es)) i)
     good (is_instance_of p e t) = λ around ts ls b k j h em. act_good e (good e) (Own e) (all_part (Own e)) around ts ls b j (λ es. finish k p Boolean false (core.test_of t (coerced Any (type_of_term e) (first_of es)))) h em (λ es i. finish-good no_name ls b k p Boolean false (core.test_of t (coerced Any (type_of_term e) (first_of es))) i)

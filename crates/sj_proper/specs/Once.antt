@@ -2,7 +2,7 @@
 use Rattle.std.specs.Prelude.{◌≡◌, ℕ, List, [], ◌∷◌, ◌⊎◌}
 use Rattle.body_rules.specs.Desugar.{names_of}
 use Rattle.sj_trees.specs.declared.classes.MethodDef.{MethodDef}
-use Rattle.sj_trees.specs.Term.{Term, Terms, no_terms, more_terms, Cases, no_cases, more_cases, var_def, block_of, labeled, assign, return_to, if_then, while_loop, do_while, throw, match_on, new_object, select, apply, apply_statically, apply_static, unary_op, binary_op, is_instance_of, as_instance_of, log_line}
+use Rattle.sj_trees.specs.Term.{Term, Terms, no_terms, more_terms, Cases, no_cases, more_cases, var_def, block_of, labeled, assign, return_to, if_then, while_loop, do_while, throw, match_on, new_object, store_module, select, apply, apply_statically, apply_static, unary_op, binary_op, is_instance_of, as_instance_of, log_line}
 use Rattle.body_rules.specs.Locals.{Own, OwnAll, OwnCases, IsParameter}
 use Rattle.body_rules.specs.Sure.{Definition, definitions}
 
@@ -23,6 +23,7 @@ abbrev mutual
   Once ls (assign p (select q d c f t) e) = Once ls d × Once ls e × Apart (Own d) (Own e)
   Once ls (assign p d e) = Once ls e
   Once ls (throw p e) = Once ls e
+  Once ls (store_module p c e) = Once ls e
   Once ls (return_to p e l) = IsAmong ls l × Once ls e
   Once ls (if_then p c a b t) = Once ls c × Once ls a × Once ls b × Apart (Own c) (Own a) × Apart (Own c) (Own b) × Apart (Own a) (Own b)
   Once ls (while_loop p c b) = Once ls c × Once ls b × Apart (Own c) (Own b)

@@ -22,7 +22,7 @@ use Rattle.sj_kept.specs.Locals.{local_of, HasValue}
 use Rattle.sj_kept.specs.Typing as scenes
 use Rattle.sj_kept.specs.Once.{Once, OnceAll, OnceCases}
 use Rattle.sj_kept.specs.Methods.{scene_of, KeepsRules}
-use Rattle.sj_trees.specs.Term.{Term, Terms, no_terms, more_terms, Cases, no_cases, more_cases, var_def, skip, block_of, labeled, assign, return_to, if_then, while_loop, do_while, throw, match_on, new_object, select, select_static, apply, apply_statically, apply_static, unary_op, binary_op, is_instance_of, as_instance_of, undefined_literal, null_literal, boolean_literal, char_literal, byte_literal, short_literal, int_literal, long_literal, string_literal, var_ref, this_ref, log_line}
+use Rattle.sj_trees.specs.Term.{Term, Terms, no_terms, more_terms, Cases, no_cases, more_cases, var_def, skip, block_of, labeled, assign, return_to, if_then, while_loop, do_while, throw, match_on, new_object, load_module, store_module, select, select_static, apply, apply_statically, apply_static, unary_op, binary_op, is_instance_of, as_instance_of, undefined_literal, null_literal, boolean_literal, char_literal, byte_literal, short_literal, int_literal, long_literal, string_literal, var_ref, this_ref, log_line}
 use Rattle.sj_trees.specs.declared.classes.ClassDef.{ClassDef}
 use Rattle.sj_trees.specs.declared.classes.MethodDef.{MethodDef}
 use Rattle.sj_trees.specs.declared.classes.ParamDef.{ParamDef}
@@ -170,6 +170,10 @@ module _ (w : Classes) (has : Usable) where
     typed (long_literal p u) x y s a n z c k h o built listed all = record { meets = tt; built = refl; finds = fits_long u listed }
     typed (string_literal p us) x y s a n z c k h o built listed all = record { meets = tt; built = refl; finds = tt }
     typed (var_ref p v t) x y s a n z c k h o built listed all = record { meets = tt; built = refl; finds = local-is s v t (innermost x.scope v) (local_of s.locals v) refl (c.same v) (not_false (has_type t (innermost x.scope v)) (subst (λ i. not (has_type t (innermost i v)) ≡ false) z k.variable)) }
+    typed (load_module p cn) x y s a n z c k h o built listed all = record { meets = own s.space s.labels n (load_module p cn) all; built = built; finds = tt }
+    typed (store_module p cn e) x y s a n z c k h o built listed all =
+        let q = and_parts (has.stored cn) (is_built has (may_check has s.sure) e) built in
+        (record { meets = own s.space s.labels n (store_module p cn e) all; built = q.0; finds = tt }, typed e x x s a (n + 1) refl c h.0 h.1 o q.1 listed.1 (inner s.space s.labels n (store_module p cn e) all))
     typed (select_static p cn f t) x y s a n z c k h o built listed all = record { meets = own s.space s.labels n (select_static p cn f t) all; built = built; finds = tt }
     typed (this_ref p t) x y s a n z c k h o built listed all = record { meets = tt; built = built; finds = k.this }
     typed (log_line p e) x y s a n z c k h o built listed all = (record { meets = own s.space s.labels n (log_line p e) all; built = refl; finds = tt }, typed e x x s a (n + 1) refl c h.0 h.1 o built listed (inner s.space s.labels n (log_line p e) all))

@@ -58,3 +58,11 @@ returns-clause-looks_up c = refl
 pub returns-clause-looks_up_uses : goal.returns-clause-looks_up_uses
 unfolding put digits
 returns-clause-looks_up_uses c = refl
+
+pub returns-clause-loads : goal.returns-clause-loads
+unfolding put digits
+returns-clause-loads c = refl
+
+pub returns-clause-loads_uses : goal.returns-clause-loads_uses
+unfolding put digits
+returns-clause-loads_uses c = refl

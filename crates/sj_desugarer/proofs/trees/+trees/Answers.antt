@@ -13,7 +13,7 @@ use Rattle.sj_desugar.specs.Spill.{Code, discard, one, put_first, spill, then_us
 use Rattle.sj_desugar.specs.Texts.{operand_of}
 use Rattle.sj_desugaring.specs.Arguments.{coerced_argument, with_arguments}
 use Rattle.sj_desugaring.specs.Forms.{behind, for_last}
-use Rattle.sj_desugarer.proofs.Rows.{assignment-row, if-joins, log-joins, test-joins, cast-joins, unary-joins, binary-joins, match-joins, turn-joins, loop-joins, received-sure, received-checked, checked-brought, receive-joins, field-joins, throw-joins}
+use Rattle.sj_desugarer.proofs.Rows.{assignment-row, if-joins, log-joins, test-joins, cast-joins, unary-joins, binary-joins, match-joins, turn-joins, loop-joins, received-sure, received-checked, checked-brought, receive-joins, field-joins, throw-joins, store-joins}
 use Rattle.sj_desugarer.proofs.Runs.{slice-rest, block-step, arguments-step, cases-take}
 use Rattle.sj_desugarer.proofs.trees.+trees.Goals as goal
 use Rattle.sj_desugarer.specs.Operands.{comes_to, comes_received, owner_place, assigned_code}
@@ -21,14 +21,15 @@ use Rattle.sj_desugaring.specs.Views.{destination_view, target_view, code_view, 
 use Rattle.sj_trees.proofs.trees.Tree.TheLaws.{the_size}
 use Rattle.sj_desugaring.specs.Placing.{brought}
 use Rattle.sj_trees.specs.declared.types.IrType.TheVariants.{Any, Boolean}
-use Rattle.sj_trees.specs.Term.{Term, select, select_static, apply, apply_statically, throw, var_ref, assign, if_then, while_loop, do_while, match_on, unary_op, binary_op, is_instance_of, as_instance_of, log_line}
+use Rattle.sj_trees.specs.Types.{class_type}
+use Rattle.sj_trees.specs.Term.{Term, select, select_static, apply, apply_statically, throw, store_module, var_ref, assign, if_then, while_loop, do_while, match_on, unary_op, binary_op, is_instance_of, as_instance_of, log_line}
 use Rattle.sj_trees.specs.TypeOf.{type_of_term, binary_result}
 use Rattle.sj_trees.specs.View.{view, terms_view, cases_view, view_case, view_step, case_step, Case}
 use Rattle.sj_trees.specs.declared.trees.Tree.{Tree}
 use Rattle.sj_trees.specs.declared.trees.Tree.TheFolds.{fold-roll-Tree, fold_out-MatchCase}
 use Rattle.sj_trees.specs.declared.trees.Tree.TheOpen.{Tree-F}
 use Rattle.sj_trees.specs.declared.trees.Tree.TheViews.{sized-Match}
-use Rattle.sj_trees.specs.declared.trees.Tree.TheVariants.{rolls-Assign, rolls-Select, rolls-SelectStatic, rolls-Apply, rolls-ApplyStatically, rolls-Throw, rolls-VarRef, rolls-If, rolls-While, rolls-DoWhile, rolls-Match, rolls-UnaryOp, rolls-BinaryOp, rolls-IsInstanceOf, rolls-AsInstanceOf, rolls-Log}
+use Rattle.sj_trees.specs.declared.trees.Tree.TheVariants.{rolls-Assign, rolls-Select, rolls-SelectStatic, rolls-Apply, rolls-ApplyStatically, rolls-Throw, rolls-StoreModule, rolls-VarRef, rolls-If, rolls-While, rolls-DoWhile, rolls-Match, rolls-UnaryOp, rolls-BinaryOp, rolls-IsInstanceOf, rolls-AsInstanceOf, rolls-Log}
 
 pub statements_of-returns-in-If : goal.statements_of-returns-in-If
 statements_of-returns-in-If t c =
@@ -258,6 +259,19 @@ statements_of-returns-in-Throw t c =
     let o = placed_view c.in_ok-object-in-Throw.object in
     let e_object : o ≡ comes_to m s ls true a.next (view n.value.value) = subst (λ (x : Tree). o ≡ comes_to m s ls true a.next (view x)) c.deref-in-Throw.ensures c.in_ok-object-in-Throw.ensures in
     subst (λ x. IfOk c.thrown.result (λ w. code_view w ≡ x)) (sym (ap (into m s ls k a.next) v ∙ throw-joins m s ls k a.next n.position o (view n.value.value) e_object ∙ sym (ap (λ (x : Tree). behind o (λ g. one (core.throw_of (Some n.position) (coerced Any (type_of_term (view x)) g)))) c.deref-in-Throw-2.ensures))) c.thrown.ensures
+
+pub statements_of-returns-in-StoreModule : goal.statements_of-returns-in-StoreModule
+statements_of-returns-in-StoreModule t c =
+    let n = c.in-StoreModule in
+    let a = c.args in
+    let m = is_among a.locals.now.mutable.now in
+    let s = is_among a.locals.now.sure.now in
+    let ls = map target_view a.targets.now in
+    let k = destination_view a.destination.now in
+    let v : view a.tree.now ≡ store_module n.position n.class (view n.value.value) = ap view (n.is ∙ sym (rolls-StoreModule n.position n.class n.value)) ∙ fold-roll-Tree Term Case view_step case_step (Tree-F.StoreModule n.position n.class n.value) in
+    let o = placed_view c.in_ok-object-in-StoreModule.object in
+    let e_object : o ≡ comes_to m s ls true a.next (view n.value.value) = subst (λ (x : Tree). o ≡ comes_to m s ls true a.next (view x)) c.deref-in-StoreModule.ensures c.in_ok-object-in-StoreModule.ensures in
+    subst (λ x. IfOk c.module_stored.result (λ w. code_view w ≡ x)) (sym (ap (into m s ls k a.next) v ∙ store-joins m s ls k a.next n.position o n.class (view n.value.value) e_object ∙ sym (ap (λ (x : Tree). behind o (λ g. one (core.store_module_of (Some n.position) n.class (coerced (class_type n.class) (type_of_term (view x)) g)))) c.deref-in-StoreModule-2.ensures))) c.module_stored.ensures
 
 pub statements_of-returns-in-IsInstanceOf : goal.statements_of-returns-in-IsInstanceOf
 statements_of-returns-in-IsInstanceOf t c =
