@@ -14,7 +14,7 @@ use Rattle.js_mean.specs.States.{Value, undefined, null, boolean, function, clas
 use Rattle.js_mean.specs.Meaning.{Low, binary, below, binding, top_cell, name_value, in_order, call, construct_value, evaluate, execute_all, code_among, code_call, function_scope, assign_top, is_own, in_block, enter, leave, leaving, taken, nothing, start, returned}
 use Rattle.entry_search.specs.Words.{class_name, is_null}
 use Rattle.entry_search.specs.Pieces.{init_name, made_instance, new_instance}
-use Rattle.class_code.specs.Modules.{cell_name, loader_name, storer_name, loader_code, storer_code, with_top, given_in_top, set_top, ModulesHaveCodes, StoresTell, MakesModule, constructed, LoadsTell, ShortModulesGo}
+use Rattle.class_code.specs.Modules.{cell_name, load_name, store_name, loader_code, storer_code, with_top, given_in_top, set_top, ModulesHaveCodes, StoresTell, MakesModule, constructed, LoadsTell, ShortModulesGo}
 use Rattle.class_code.proofs.Bridge.{same_text, name_at_top, call_given, return_hands_on}
 
 -- what an outcome is handed to, one behind the other
@@ -128,4 +128,4 @@ pub short_modules_go : ShortModulesGo
 short_modules_go = record { loader = λ p g c vs s. refl; storer = λ p g c vs s. refl }
 
 pub modules_have_codes : ModulesHaveCodes
-modules_have_codes = record { loader = λ c items. ap (λ (b : Bool). cond b (Some (loader_code c)) (code_among items (loader_name c))) (same_text (loader_name c)); storer = λ c items. ap (λ (b : Bool). cond b (Some (storer_code c)) (code_among items (storer_name c))) (same_text (storer_name c)) }
+modules_have_codes = record { loader = λ c items. ap (λ (b : Bool). cond b (Some (loader_code c)) (code_among items (load_name c))) (same_text (load_name c)); storer = λ c items. ap (λ (b : Bool). cond b (Some (storer_code c)) (code_among items (store_name c))) (same_text (store_name c)) }

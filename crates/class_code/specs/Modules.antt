@@ -22,11 +22,11 @@ use Rattle.class_code.specs.Bridges.{IsTopFunction}
 abbrev pub cell_name : Name → Name
 cell_name = class_binding Instance
 
-abbrev pub loader_name : Name → Name
-loader_name = class_binding LoadModule
+abbrev pub load_name : Name → Name
+load_name = class_binding LoadModule
 
-abbrev pub storer_name : Name → Name
-storer_name = class_binding StoreModule
+abbrev pub store_name : Name → Name
+store_name = class_binding StoreModule
 
 abbrev pub loader_code : Name → Code
 loader_code c = record { parameters = []; body = statements_of (load_body c) }
@@ -52,8 +52,8 @@ set_top file x v given s = given_in_top file x v s (s.tops file x) given
 
 -- the pieces have the code that these laws speak of
 pub record ModulesHaveCodes : Type 0 where
-  pub loader : (c : Name) (items : List Item) → code_among ((load_piece c).item ∷ items) (loader_name c) ≡ Some (loader_code c)
-  pub storer : (c : Name) (items : List Item) → code_among ((store_piece c).item ∷ items) (storer_name c) ≡ Some (storer_code c)
+  pub loader : (c : Name) (items : List Item) → code_among ((load_piece c).item ∷ items) (load_name c) ≡ Some (loader_code c)
+  pub storer : (c : Name) (items : List Item) → code_among ((store_piece c).item ∷ items) (store_name c) ≡ Some (storer_code c)
 
 -- `q_C` costs one unit, and puts its argument into the variable that its file has for its own
 abbrev pub StoresTell : Type 0
@@ -94,7 +94,7 @@ abbrev are_same : Expression → Expression → Item
 are_same e f = shows (conditional_of (binary_of e StrictEqual f) (text_literal (codes "yes")) (text_literal (codes "no")))
 
 abbrev loaded_l : Expression
-loaded_l = call_of (loader_name (codes "L")) no_expressions
+loaded_l = call_of (load_name (codes "L")) no_expressions
 
 -- the constructor shows a line behind these statements
 abbrev constructor_with : List Statement → Item
@@ -106,7 +106,7 @@ program_with ss = main_file (
     ++ items_of (parts_of (codes "L") (Some object_class) true true)
     ++ constructor_with ss
     ∷ are_same loaded_l loaded_l
-    ∷ expression_item (call1 (storer_name (codes "L")) null_literal)
+    ∷ expression_item (call1 (store_name (codes "L")) null_literal)
     ∷ shows (conditional_of (binary_of (name_use (cell_name (codes "L"))) StrictEqual null_literal) (text_literal (codes "none")) (text_literal (codes "one")))
     ∷ [])
 
@@ -115,7 +115,7 @@ abbrev pub worked_plain : Program
 worked_plain = program_with []
 
 abbrev pub worked_stored : Program
-worked_stored = program_with (expression_statement (call1 (storer_name (codes "L")) (name_use (codes "$this"))) ∷ expression_statement loaded_l ∷ [])
+worked_stored = program_with (expression_statement (call1 (store_name (codes "L")) (name_use (codes "$this"))) ∷ expression_statement loaded_l ∷ [])
 
 abbrev pub worked_again : Program
 worked_again = program_with (expression_statement loaded_l ∷ [])

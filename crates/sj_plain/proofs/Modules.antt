@@ -10,11 +10,11 @@ use Rattle.js_mean.specs.States as js
 use Rattle.js_tree.specs.Terms as tree
 use Rattle.sj_core.specs.Terms as core
 use Rattle.body_rules.specs.Standing.{Fits}
-use Rattle.body_rules.specs.Templates.{expression_template}
+use Rattle.body_rules.specs.Templates.{load_name, store_name, expression_template}
 use Rattle.sj_trees.specs.Types.{class_type}
 use Rattle.sj_trees.specs.declared.types.IrType.{IrType}
 use Rattle.sj_trees.specs.declared.types.IrType.TheVariants.{NoType}
-use Rattle.sj_plain.specs.Settings.{Setting, shown, usable, SameState, Valued, Based, Lawful, Inside, a_loader, a_storer, loader_name, storer_name, top_function}
+use Rattle.sj_plain.specs.Settings.{Setting, shown, usable, SameState, Valued, Based, Lawful, Inside, a_loader, a_storer, top_function}
 use Rattle.sj_plain.proofs.Orders.{ActsAlike, OperandsAlike, in_order_alike, valued-weaken}
 use Rattle.sj_plain.proofs.Tops.{top_seen}
 use Rattle.sj_plain.proofs.Worlds.{World, grows-refl, no_values, one_more, value-fits}
@@ -22,7 +22,7 @@ use Rattle.sj_plain.proofs.Worlds.{World, grows-refl, no_values, one_more, value
 module _ (z : Setting) (lawful : Lawful z) (c : List ℕ) (there : (usable z).modules c ≡ true) where
   -- the call of the function that loads it
   abbrev pub loader_text : js.Evaluation
-  loader_text = js_meaning.evaluate z.place.program z.js_low (tree.call_of (loader_name c) tree.no_expressions)
+  loader_text = js_meaning.evaluate z.place.program z.js_low (tree.call_of (load_name c) tree.no_expressions)
 
   pub load_alike : (w : World) (env : ir.Env) (s : ir.State) (sc : js.Scope) (u : js.State) → Inside z.place z.code sc → SameState z.place w s u → Sim z.direction (Valued z.place w env (class_type c)) (ir_meaning.load z.place.classes z.low c (s.cells c) env s) (loader_text sc u)
   load_alike w env s sc u inside same = subst (λ q. Sim z.direction (Valued z.place w env (class_type c)) (ir_meaning.load z.place.classes z.low c (s.cells c) env s) q) (sym js_is) (lawful.loads c there w env s u same)
@@ -39,7 +39,7 @@ module _ (z : Setting) (law : Based z) (c : List ℕ) (there : (usable z).stored
 
   -- the call of the function that stores it, with an expression
   abbrev pub storer_text : core.Expression → js.Evaluation
-  storer_text e = js_meaning.evaluate z.place.program z.js_low (tree.call_of (storer_name c) (tree.expression (expression_template z.place.name z.place.label (usable z).lookup e) tree.no_expressions))
+  storer_text e = js_meaning.evaluate z.place.program z.js_low (tree.call_of (store_name c) (tree.expression (expression_template z.place.name z.place.label (usable z).lookup e) tree.no_expressions))
 
   pub store_alike : (own : IrType) (r : ir.Run) (e : core.Expression) → Fits (class_type c) own → (w : World) (env : ir.Env) (s : ir.State) (sc : js.Scope) (u : js.State) → Inside z.place z.code sc → OperandsAlike z w env sc (own ∷ []) (r ∷ []) (e ∷ []) → SameState z.place w s u → Sim z.direction (Valued z.place w env NoType) (ir_meaning.in_order (r ∷ []) (ir_meaning.store c) env s) (storer_text e sc u)
   store_alike own r e fit w env s sc u inside operand same = subst (λ o. Sim z.direction (Valued z.place w env NoType) (ir_meaning.in_order (r ∷ []) (ir_meaning.store c) env s) o) (sym js_is) (in_order_alike z w w env sc w (own ∷ []) NoType (r ∷ []) (e ∷ []) (ir_meaning.store c) (js_meaning.call z.place.program z.js_low fun) operand (store_acts own fit w env sc) w s u (grows-refl w) (grows-refl w) (grows-refl w) same)

@@ -24,9 +24,9 @@ use Rattle.outcomes.specs.Shown as shown_ends
 use Rattle.sj_core.specs.Terms as core
 use Rattle.body_rules.specs.Coercions.{is_char}
 use Rattle.body_rules.specs.Tests.{test_name, cast_name}
-use Rattle.body_rules.specs.Templates.{called_member, check_name, member_name, static_name, setter_name, expression_template, statement_templates}
+use Rattle.body_rules.specs.Templates.{called_member, check_name, member_name, static_name, setter_name, load_name, store_name, expression_template, statement_templates}
 use Rattle.sj_mangling.specs.Bindings.{class_binding, field_binding, method_binding}
-use Rattle.sj_mangling.specs.declared.bindings.ClassBinding.TheVariants.{Class, Constants, Marker, Instance, LoadModule, StoreModule}
+use Rattle.sj_mangling.specs.declared.bindings.ClassBinding.TheVariants.{Class, Constants, Marker, Instance}
 use Rattle.sj_mangling.specs.declared.bindings.FieldBinding.TheVariants.{Property}
 use Rattle.sj_mangling.specs.declared.bindings.MethodBinding.TheVariants.{Entry, Dispatch, Reflective}
 use Rattle.sj_names.specs.Same.{is_same_text}
@@ -72,15 +72,9 @@ pub data Top : Type 0 where
   a_cast : IrType → Top
   a_helper : Helper → Top
 
--- the cell of a class, and the functions that load and store its one object
+-- the variable that is the cell of a class
 abbrev pub cell_name : List ℕ → Name
 cell_name = class_binding Instance
-
-abbrev pub loader_name : List ℕ → Name
-loader_name = class_binding LoadModule
-
-abbrev pub storer_name : List ℕ → Name
-storer_name = class_binding StoreModule
 
 abbrev pub top_name : Top → Name
 top_name (a_function m) = member_name m
@@ -93,8 +87,8 @@ top_name (some_constants c) = class_binding Constants c
 top_name (a_static c f t) = static_name c f
 top_name (a_setter c f t) = setter_name c f
 top_name (a_cell c) = cell_name c
-top_name (a_loader c) = loader_name c
-top_name (a_storer c) = storer_name c
+top_name (a_loader c) = load_name c
+top_name (a_storer c) = store_name c
 top_name (a_test t) = test_name t
 top_name (a_cast t) = cast_name t
 top_name (a_helper h) = helper_name h
