@@ -25,6 +25,12 @@ flat o f g h k r = ap (λ q. then_do (then_do (then_do q h) k) r) (then_do-assoc
 pub top_set : (g x : Name) (v : Value) (s : State) → (with_top g x v s).tops g x ≡ holds false v
 top_set g x v s = ap (λ (b : Bool). if b then binding x (holds false v) (s.tops g) x else s.tops g x) (same_text g) ∙ ap (λ (b : Bool). if b then holds false v else s.tops g x) (same_text x)
 
+-- the object is made, and its constructor runs on it, in any scope of the file that has no binding of these names
+pub instance_made : (p : Program) (low : Low) (g c home : Name) (links : List ClassLink) (sc : Scope) (s : State) → sc.file ≡ g → sc.bindings (init_name c) ≡ absent → sc.bindings (class_name c) ≡ absent → MakesModule p g c home links s → evaluate p low (made_instance c) sc s ≡ constructed p low c home links s
+instance_made p low g c home links sc s here free clear makes =
+    call_given p low (init_name c) home makes.constructor.const (expression (new_of (class_name c) no_expressions) no_expressions) sc s free (ap (λ (f : Name). top_cell (owner p f (init_name c)) (init_name c) s) here ∙ makes.constructor.cell_is)
+    ∙ ap (λ (o : Out ExpressionEnd). then_do (then_do o (with_value (λ f. in_order [] (construct_value p low f) sc))) (with_value (λ v. in_order [] (λ vs. call p low (function home (init_name c)) (v ∷ vs)) sc))) (name_at_top p (class_name c) makes.const (class links) sc s clear (ap (λ (f : Name). top_cell (owner p f (class_name c)) (class_name c) s) here ∙ makes.class_is))
+
 module _ (p : Program) (n : ℕ) (g c : Name) (owned : owner p g (cell_name c) ≡ Some g) where
   abbrev variable : Name
   variable = cell_name c
@@ -77,11 +83,6 @@ module _ (p : Program) (n : ℕ) (g c : Name) (owned : owner p g (cell_name c) �
     abbrev inner : Scope
     inner = enter filling outer
 
-    instance_made : evaluate p low (made_instance c) inner s ≡ constructed p low c home links s
-    instance_made =
-        call_given p low (init_name c) home makes.constructor.const (expression (new_of (class_name c) no_expressions) no_expressions) inner s refl makes.constructor.cell_is
-        ∙ ap (λ (o : Out ExpressionEnd). then_do (then_do o (with_value (λ f. in_order [] (construct_value p low f) inner))) (with_value (λ v. in_order [] (λ vs. call p low (function home (init_name c)) (v ∷ vs)) inner))) (name_at_top p (class_name c) makes.const (class links) inner s refl makes.class_is)
-
     abbrev with_x : Value → Scope
     with_x v = start true (codes "x") v inner
 
@@ -116,7 +117,7 @@ module _ (p : Program) (n : ℕ) (g c : Name) (owned : owner p g (cell_name c) �
         ap behind_test (tested null s held)
         ∙ flat (evaluate p low (made_instance c) inner s) named put leaves ahead returned
         ∙ ap (then_do (evaluate p low (made_instance c) inner s)) (fun_ext each)
-        ∙ ap (λ (o : Out ExpressionEnd). then_do o (with_value (λ v. set_top g variable v v))) instance_made
+        ∙ ap (λ (o : Out ExpressionEnd). then_do o (with_value (λ v. set_top g variable v v))) (instance_made p low g c home links inner s refl refl refl makes)
 
 pub loads_tell : LoadsTell
 loads_tell = record { of_object = λ p n g c v s owned held there. of_object p n g c owned v s held there; of_null = λ p n g c home links s owned held makes. of_null p n g c owned home links s held makes }
