@@ -1,5 +1,5 @@
 -- The one object of a class is loaded and stored: calls of the functions that do it.
-use Rattle.std.proofs.Common.{◌≡◌, ℕ, true, List, [], ◌∷◌, sym, ap, ◌∙◌, subst}
+use Rattle.std.proofs.Common.{◌≡◌, ℕ, true, List, [], ◌∷◌, sym, ap, subst}
 use Rattle.outcomes.specs.Outcome.{then_do}
 use Rattle.outcomes.specs.Agreement.{Sim}
 use Rattle.outcomes.proofs.Simulation.{sim_weaken}
