@@ -1,9 +1,8 @@
 -- The functions that load and store the one object of a module class.
 use mathlib.Core.Path.{fun_ext}
 use Rattle.std.specs.Prelude.{codes, if◌then◌else◌}
-use Rattle.std.proofs.Common.{◌≡◌, ℕ, suc, Bool, true, false, List, [], ◌∷◌, Option, Some, None, refl, ap, ◌∙◌, cond}
-use Rattle.js_tree.specs.Names.{is_same_text}
-use Rattle.js_tree.specs.Terms.{Name, Item, Expressions, no_expressions, expression, null_literal, name_use, new_of, Statements, no_statements, statement, assign_name, return_of}
+use Rattle.std.proofs.Common.{◌≡◌, ℕ, suc, Bool, true, false, List, [], ◌∷◌, Option, Some, refl, ap, ◌∙◌, cond}
+use Rattle.js_tree.specs.Terms.{Name, no_expressions, expression, null_literal, name_use, new_of, Statements, no_statements, statement, assign_name, return_of}
 use Rattle.js_tree.specs.Views.{statements_of}
 use Rattle.js_tree.specs.declared.operators.BinaryOperator.TheVariants.{StrictEqual}
 use Rattle.outcomes.specs.Outcome.{Out, done, then_do}
@@ -11,7 +10,7 @@ use Rattle.outcomes.proofs.Sequence.{then_do-associative}
 use Rattle.js_mean.specs.Files.{owner}
 use Rattle.js_mean.specs.Operators.{is_strictly_equal}
 use Rattle.js_mean.specs.States.{Value, undefined, null, boolean, function, class, ClassLink, Cell, absent, unset, holds, Scope, State, Program, ExpressionEnd, gives, throws, StatementEnd, ends, normally, with_value, in_statement, next_statement}
-use Rattle.js_mean.specs.Meaning.{Low, binary, below, binding, top_cell, name_value, in_order, call, construct_value, evaluate, execute_all, code_among, code_call, function_scope, assign_top, is_own, in_block, enter, leave, leaving, taken, nothing, start, returned}
+use Rattle.js_mean.specs.Meaning.{Low, binary, below, binding, top_cell, in_order, call, construct_value, evaluate, execute_all, code_among, code_call, function_scope, assign_top, is_own, in_block, enter, leave, leaving, taken, nothing, start, returned}
 use Rattle.entry_search.specs.Words.{class_name, is_null}
 use Rattle.entry_search.specs.Pieces.{init_name, made_instance, new_instance}
 use Rattle.class_code.specs.Modules.{cell_name, load_name, store_name, loader_code, storer_code, with_top, given_in_top, set_top, ModulesHaveCodes, StoresTell, MakesModule, constructed, LoadsTell, ShortModulesGo}

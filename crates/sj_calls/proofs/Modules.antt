@@ -4,7 +4,7 @@ use Rattle.sj_bodies.specs.Built.{has_cell}
 use Rattle.sj_bodies.proofs.Equal.{differs, equals, is-equal}
 use Rattle.sj_bodies.proofs.Objects.{new_alike}
 use Rattle.sj_bodies.proofs.Orders.{no_operands}
-use Rattle.outcomes.specs.Outcome.{Out, done, then_do}
+use Rattle.outcomes.specs.Outcome.{Out, done}
 use Rattle.outcomes.specs.Agreement.{Direction, Sim}
 use Rattle.outcomes.proofs.Simulation.{sim_done, sim_then}
 use Rattle.class_casts.proofs.Loading.{instance_made, stores_tell, loads_tell}
@@ -18,16 +18,13 @@ use Rattle.js_mean.specs.Operators.{is_strictly_equal}
 use Rattle.js_mean.specs.States as js
 use Rattle.js_tree.specs.Terms.{Name}
 use Rattle.sj_bodies.specs.Desugar.{member}
-use Rattle.sj_core.specs.Terms as core
-use Rattle.sj_core.specs.Views.{expressions_of}
 use Rattle.sj_names.specs.Same.{is_same_text}
 use Rattle.sj_names.specs.declared.method_names.Member.{Member}
 use Rattle.sj_names.specs.declared.method_names.Namespace.TheVariants.{Constructor}
 use Rattle.sj_bodies.specs.Coercions.{is_char}
-use Rattle.sj_bodies.specs.Settings.{Place, Code, Setting, shown, Based, Top, a_class, a_constructor, a_static, a_cell, a_loader, a_storer, cell_name, top_name, top_call, links_of, is_usable, TopHolds, SameState, Holding, holding, Valued, valued, thrown}
-use Rattle.sj_bodies.proofs.Worlds.{World, Grows, grows-refl, SameValue, Stands, same_undefined, same_null, same_boolean, same_char, same_box, same_number, same_long, same_text, same_reference}
+use Rattle.sj_bodies.specs.Settings.{Place, Code, Setting, Based, Top, a_class, a_constructor, a_static, a_cell, a_loader, a_storer, cell_name, top_name, top_call, links_of, is_usable, TopHolds, SameState, Holding, holding, Valued, valued, thrown}
+use Rattle.sj_bodies.proofs.Worlds.{World, grows-refl, SameValue, Stands, same_undefined, same_null, same_boolean, same_char, same_box, same_number, same_long, same_text, same_reference}
 use Rattle.sj_trees.specs.Types.{class_type}
-use Rattle.sj_trees.specs.declared.types.IrType.{IrType}
 use Rattle.sj_trees.specs.declared.types.IrType.TheVariants.{NoType}
 use Rattle.sj_calls.specs.Worlds.{CellStands, StoreStands, LoadStands}
 use Rattle.sj_calls.proofs.Names.{is_cell, cell_apart}
