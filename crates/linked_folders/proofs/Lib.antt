@@ -52,3 +52,5 @@ pub use Rattle.declared_pieces.proofs.Facts
 pub use Rattle.declared_pieces.proofs.LinkedEntriesOne
 pub use Rattle.declared_pieces.proofs.Proxies
 pub use Rattle.declared_pieces.proofs.ReflectedCases
+pub use Rattle.declared_pieces.proofs.Stores
+pub use Rattle.declared_pieces.proofs.Classes
