@@ -21,6 +21,7 @@ laws_of w has h = record {
   strangers = λ c f t i o n its sub. no_primitive w h.kept c o n (h.fields c f t i).0 its (h.primitives n (class_hijacked w h.kept o n its)) sub;
   statics = h.statics;
   one_static = h.one_static;
+  modules = h.modules;
   exceptions = h.exceptions;
   divisions = h.divisions;
   casts = h.casts;

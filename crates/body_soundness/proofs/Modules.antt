@@ -3,7 +3,7 @@ use Rattle.std.proofs.Common.{◌≡◌, ℕ, Bool, true, false, List, [], ◌�
 use Rattle.sj_proper.proofs.InWorld.{in_world}
 use Rattle.sj_proper.proofs.Lists.{at_front, further_on}
 use Rattle.sj_proper.proofs.RulesGive.{no_division}
-use Rattle.body_soundness.proofs.Right.{Comes, comes_then, CameRight, gave, left, threw, ObjectTyped, typed_object, HoldsType, holds_type, zero_type, HeapTyped, call_right, bodies_right, none_left, nothing_there, no_label, no_object, Ready}
+use Rattle.body_soundness.proofs.Right.{Comes, comes_then, CameRight, gave, left, threw, ObjectTyped, typed_object, HoldsType, holds_type, zero_type, null_type, HeapTyped, call_right, bodies_right, none_left, nothing_there, no_label, no_object, Ready}
 use Rattle.body_soundness.proofs.Values.{Classes, HasType, has_type, of_undefined, of_null, of_boolean, of_char, of_long, of_byte, of_short, of_int, of_text, of_object}
 use Rattle.body_soundness.specs.Laws.{ObjectLaws, HasReceivers, reads, calls, looks, arrays, reflects}
 use Rattle.body_soundness.specs.Rules.{RightMember}
@@ -79,7 +79,7 @@ module _ (w : World) (plain : IsPlain w) (has : Usable) (laws : ObjectLaws w has
       next at others _ (threw k v env st a i j) = uncaught_fine k v st i j.heap
 
   pub never_wrong : (entries : List EntryPoint) (id : List ℕ) → ((e : EntryPoint) → Contains (ir_showing.initializers entries id) e → has.linked (initializer_member e) ≡ true) → (n : ℕ) → IsNotWrong (ir_showing.ir_shows w entries id n).end
-  never_wrong entries id l n = fine-not_wrong (ir_showing.ir_shows w entries id n).end (all_fine n (ir_showing.initializers entries id) l no_classes (opening w) (record { objects = λ i c e. absurd (no_class c e); made = λ i c e. absurd (no_class c e); statics = λ c f t h. let its = laws.statics c f t h in subst (λ o. HoldsType w (in_world w plain) has no_classes o t) (sym its.1) (holds_type (zero_of t) t (zero_type w (in_world w plain) has no_classes t its.0)) }))
+  never_wrong entries id l n = fine-not_wrong (ir_showing.ir_shows w entries id n).end (all_fine n (ir_showing.initializers entries id) l no_classes (opening w) (record { objects = λ i c e. absurd (no_class c e); made = λ i c e. absurd (no_class c e); statics = λ c f t h. let its = laws.statics c f t h in subst (λ o. HoldsType w (in_world w plain) has no_classes o t) (sym its.1) (holds_type (zero_of t) t (zero_type w (in_world w plain) has no_classes t its.0)); cells = λ c h. null_type w (in_world w plain) has no_classes c }))
 
 no_receivers : {A : Type 0} (linked : Member → Bool) → HasReceivers (members_alone linked) → A
 no_receivers linked (reads c f t h) = impossible h
@@ -104,6 +104,7 @@ nothing_asked w linked = record {
   strangers = λ c f t h o n i s. impossible h;
   statics = λ c f t h. impossible h;
   one_static = λ c f s t h k. impossible h;
+  modules = λ c h. impossible h;
   exceptions = λ h. impossible h;
   divisions = λ o h. no_division (members_alone linked) (λ x. refl) o h;
   casts = λ t h. impossible h;

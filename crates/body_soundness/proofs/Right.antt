@@ -33,7 +33,7 @@ use Rattle.sj_names.specs.declared.method_names.Namespace.{Namespace}
 use Rattle.sj_names.specs.declared.method_names.Namespace.TheVariants.{Constructor}
 use Rattle.sj_names.specs.declared.method_names.Member.{Member}
 use Rattle.sj_names.specs.declared.references.TypeRef.{TypeRef}
-use Rattle.sj_trees.specs.Term.{Term, Terms, no_terms, more_terms, Cases, no_cases, more_cases, var_def, skip, block_of, labeled, assign, return_to, if_then, while_loop, do_while, throw, try_catch, match_on, new_object, new_array, array_value, load_module, select, select_static, apply, apply_statically, apply_static, unary_op, binary_op, is_instance_of, as_instance_of, undefined_literal, null_literal, boolean_literal, char_literal, byte_literal, short_literal, int_literal, long_literal, string_literal, var_ref, this_ref, log_line}
+use Rattle.sj_trees.specs.Term.{Term, Terms, no_terms, more_terms, Cases, no_cases, more_cases, var_def, skip, block_of, labeled, assign, return_to, if_then, while_loop, do_while, throw, try_catch, match_on, new_object, new_array, array_value, load_module, select, select_static, apply, apply_statically, apply_static, unary_op, binary_op, is_instance_of, as_instance_of, undefined_literal, null_literal, boolean_literal, char_literal, byte_literal, short_literal, int_literal, long_literal, string_literal, var_ref, this_ref, log_line, store_module}
 use Rattle.sj_trees.specs.TypeOf.{type_of_term, type_of_last, loop_type, unary_result, binary_result}
 use Rattle.sj_trees.specs.Types.{class_type, reference_type}
 use Rattle.sj_trees.specs.declared.classes.ClassDef.{ClassDef}
@@ -45,8 +45,8 @@ use Rattle.sj_trees.specs.declared.types.IrType.{IrType}
 use Rattle.sj_trees.specs.declared.types.IrType.TheVariants.{Any, Class, Array, Undefined, Null, Boolean, Byte, Short, Int, String, NoType, Nothing, Char, Long}
 use Rattle.sj_proper.specs.Rules.{IsStatic, IsReceiver, ArgumentsFit, Yields, nothing_wanted, fitting, unary_operand, left_operand, right_operand, IsText as IsJoined}
 use Rattle.sj_proper.specs.Operators.{IsDivision, a_quotient, a_remainder, IsLongDivision, a_long_quotient, a_long_remainder, DividesBy, by_int, by_long}
-use Rattle.sj_proper.proofs.BuiltFormsStatics.{read_static, set_static}
-use Rattle.sj_proper.specs.Built.{Usable, has_static, can_cast}
+use Rattle.sj_proper.proofs.BuiltFormsStatics.{read_static, set_static, load_cell}
+use Rattle.sj_proper.specs.Built.{Usable, has_static, has_cell, can_cast}
 use Rattle.sj_proper.specs.Standing.{is_bare, call_type}
 use Rattle.sj_proper.specs.Typing.{RunsOnObject, AllHaveValues, may_check, IsTrueLiteral, true_literal, Scene, behind, catching, in_label, Typed, TypedBlock, TypedAll, TypedCases}
 use Rattle.sj_proper.specs.Locals.{Own, OwnAll, OwnCases, IsParameter, local_of, HasValue, HaveValues}
@@ -177,11 +177,12 @@ module _ (w : World) (law : IsSubtyping (IsSub w)) (has : Usable) where
     pub data ObjectTyped (c : List ℕ) : Option ir.Stored → Type 0 where
       typed_object : (fields : ir.Fields) → ((d f : List ℕ) (t : IrType) → list_any (is_same_text d) (chain_of w c) ≡ true → has.field d f t ≡ true → HoldsType (fields d f) t) → ObjectTyped c (Some (ir.object c fields))
 
-    -- an object of its class, which is made, stands at each address that has one; and each static field that can be used holds a value of its type
+    -- an object of its class, which is made, stands at each address that has one; and each static field, and each cell of a class, that can be used holds a value of its type
     pub record HeapTyped (st : ir.State) : Type 0 where
       pub objects : (i : ℕ) (c : List ℕ) → at i ≡ Some c → ObjectTyped c (slice_get st.heap i)
       pub made : (i : ℕ) (c : List ℕ) → at i ≡ Some c → has.made c ≡ true
       pub statics : (c f : List ℕ) (t : IrType) → has_static has c f t ≡ true → HoldsType (st.statics c f) t
+      pub cells : (c : List ℕ) → has_cell has c ≡ true → HasType (IsSub w) law at (st.cells c) (class_type c)
 
     -- the locals in scope and the heap hold what they may
     pub record Ready (f : Frame) (ds : List ParamDef) (env : ir.Env) (st : ir.State) : Type 0 where
@@ -564,7 +565,7 @@ module _ (w : World) (law : IsSubtyping (IsSub w)) (has : Usable) where
     still i d _ e (typed_object fields h) = subst (ObjectTyped wider_classes d) (sym (get-front st.heap (ir.object c (new_fields w c) ∷ []) i (ir.object d fields) e)) (typed_object fields (λ b f t k is. holds-lift at wider_classes adds_one (fields b f) t (h b f t k is)))
 
     born_typed : HeapTyped wider_classes born
-    born_typed = record { objects = λ i d e. go i d (i == there) refl e; made = λ i d e. made i d (i == there) e; statics = λ d f t l. holds-lift at wider_classes adds_one (st.statics d f) t (heap.statics d f t l) }
+    born_typed = record { objects = λ i d e. go i d (i == there) refl e; made = λ i d e. made i d (i == there) e; statics = λ d f t l. holds-lift at wider_classes adds_one (st.statics d f) t (heap.statics d f t l); cells = λ d l. type-lift (IsSub w) law at wider_classes adds_one (st.cells d) (class_type d) (heap.cells d l) }
       where
         go : (i : ℕ) (d : List ℕ) (b : Bool) → (i == there) ≡ b → (if b then Some c else at i) ≡ Some d → ObjectTyped wider_classes d (slice_get born.heap i)
         go i d true k e = let same : c ≡ d = cc in subst (λ (j : ℕ). ObjectTyped wider_classes d (slice_get born.heap j)) (sym (numbers-same i there k)) (subst (ObjectTyped wider_classes d) (sym (get-end st.heap (ir.object c (new_fields w c)))) (subst (λ (n : List ℕ). ObjectTyped wider_classes n (Some (ir.object c (new_fields w c)))) same (typed_object (new_fields w c) zeros)))
@@ -588,7 +589,7 @@ module _ (w : World) (law : IsSubtyping (IsSub w)) (has : Usable) where
         go false e = typed b g u k is
 
     pub written : HeapTyped at (ir.at_address a (ir.object d (ir.with_field c f v fields)) st)
-    written = record { objects = λ j e k. go j e (j == a) refl k; made = heap.made; statics = heap.statics }
+    written = record { objects = λ j e k. go j e (j == a) refl k; made = heap.made; statics = heap.statics; cells = heap.cells }
       where
         other : (j : ℕ) → (j == a) ≡ false → j ≡ a → ⊥
         other j k e = impossible (sym k ∙ subst (λ (n : ℕ). (n == a) ≡ true) (sym e) (numbers-equal a))
@@ -596,6 +597,22 @@ module _ (w : World) (law : IsSubtyping (IsSub w)) (has : Usable) where
         go : (j : ℕ) (e : List ℕ) (b : Bool) → (j == a) ≡ b → at j ≡ Some e → ObjectTyped at e (slice_get (set st.heap a (ir.object d (ir.with_field c f v fields))) j)
         go j e true k is = let same : j ≡ a = numbers-same j a k in let class : d ≡ e = some_text d e (sym known ∙ ap at (sym same) ∙ is) in subst (λ (n : ℕ). ObjectTyped at e (slice_get (set st.heap a (ir.object d (ir.with_field c f v fields))) n)) (sym same) (subst (ObjectTyped at e) (sym (get-set st.heap a (ir.object d fields) (ir.object d (ir.with_field c f v fields)) stands)) (subst (λ (n : List ℕ). ObjectTyped at n (Some (ir.object d (ir.with_field c f v fields)))) class (typed_object (ir.with_field c f v fields) fields_typed)))
         go j e false k is = subst (ObjectTyped at e) (sym (get-set_other st.heap j a (ir.object d (ir.with_field c f v fields)) (other j k))) (heap.objects j e is)
+
+  -- a cell that holds another value
+  cell_typed : (at : Classes) (st : ir.State) (c : List ℕ) (v : ir.Value) → HasType (IsSub w) law at v (class_type c) → HeapTyped at st → HeapTyped at (ir.with_cell c v st)
+  cell_typed at st c v i heap = record { objects = heap.objects; made = heap.made; statics = heap.statics; cells = λ d l. go d l (is_same_text d c) refl }
+    where
+      go : (d : List ℕ) → has_cell has d ≡ true → (q : Bool) → is_same_text d c ≡ q → HasType (IsSub w) law at (if q then v else st.cells d) (class_type d)
+      go d l true k = subst (λ (n : List ℕ). HasType (IsSub w) law at v (class_type n)) (sym (text-same d c k)) i
+      go d l false k = heap.cells d l
+
+  -- null may stand in each
+  pub null_type : (at : Classes) (c : List ℕ) → HasType (IsSub w) law at ir.null (class_type c)
+  null_type at c = go (is_same_text c (codes "java.lang.Object"))
+    where
+      go : (b : Bool) → HasType (IsSub w) law at ir.null (if b then Any else Class c)
+      go true = has_type Null of_null (to_any refl (λ e. cc))
+      go false = has_type Null of_null (null_to_class c refl refl)
 
   class_below : (c : List ℕ) → IsSub w (Class c) (class_type c)
   class_below c = go (is_same_text c (codes "java.lang.Object"))
@@ -704,6 +721,32 @@ module _ (w : World) (law : IsSubtyping (IsSub w)) (has : Usable) where
         each _ (left k l v env st r a j g e) = (left k l v env st r a j g e, tt)
         each _ (threw k v env st a j e) = (threw k v env st a j e, tt)
 
+    -- the one object of a class is loaded: what its cell holds, or one that is made
+    load_right : (c : List ℕ) → has.modules c ≡ true → (s : Scene) (at : Classes) (v : ir.Value) (env : ir.Env) (st : ir.State) → HasType (IsSub w) law at v (class_type c) → Ready at (frame_of s) s.locals env st → FullRight at s (class_type c) (ir_meaning.load w low c v env st)
+    load_right c is s at ir.null env st i e = comes_then (λ a. CameRight at s s.locals (class_type c) a × Only Full a) (λ a. CameRight at s s.locals (class_type c) a × Only Full a) (ir_meaning.construct w low c ir_meaning.without_parameters [] env st) (ir.onward (ir_meaning.loaded w c)) (both_come Full (CameRight at s s.locals (class_type c)) (ir_meaning.construct w low c ir_meaning.without_parameters [] env st).end (construct_right c ir_meaning.without_parameters its.0 its.1 s at [] none_left env st e) made) (λ a p. each a p.0 p.1)
+      where
+        its : (has.made c ≡ true) × (has.built (member c Constructor ir_meaning.without_parameters) ≡ true)
+        its = laws.modules c is
+
+        made : Perhaps Full (ir_meaning.construct w low c ir_meaning.without_parameters [] env st).end
+        made = go_on_only Full (ir_meaning.call low (member_of w c Constructor ir_meaning.without_parameters) (Some (ir.reference (ir.next_address st))) [] env (ir.with_stored (ir.object c (new_fields w c)) st)) (λ v. ir.given (ir.reference (ir.next_address st))) (λ v e z q. cc)
+
+        each : (a : ir.Ended) → CameRight at s s.locals (class_type c) a → Only Full a → Comes (λ a. CameRight at s s.locals (class_type c) a × Only Full a) (ir.onward (ir_meaning.loaded w c) a).end
+        each _ (gave k v env st a g e) n = (gave k v env (ir.with_cell c v st) a g (record { locals = e.locals; heap = cell_typed k st c v (operand-type k v (class_type c) (class_type c) g (law.same (class_type c)) (value-not (class_type c) (class_has_value c))) e.heap }), n)
+        each _ (left k l v env st r a j g e) n = (left k l v env st r a j g e, tt)
+        each _ (threw k v env st a j e) n = (threw k v env st a j e, tt)
+    load_right c is s at ir.undefined env st i e = (here at s s.locals (class_type c) ir.undefined env st (inr i) e, λ k. cc)
+    load_right c is s at (ir.boolean b) env st i e = (here at s s.locals (class_type c) (ir.boolean b) env st (inr i) e, λ k. cc)
+    load_right c is s at (ir.char u) env st i e = (here at s s.locals (class_type c) (ir.char u) env st (inr i) e, λ k. cc)
+    load_right c is s at (ir.number z) env st i e = (here at s s.locals (class_type c) (ir.number z) env st (inr i) e, λ k. cc)
+    load_right c is s at (ir.long z) env st i e = (here at s s.locals (class_type c) (ir.long z) env st (inr i) e, λ k. cc)
+    load_right c is s at (ir.text us) env st i e = (here at s s.locals (class_type c) (ir.text us) env st (inr i) e, λ k. cc)
+    load_right c is s at (ir.reference a) env st i e = (here at s s.locals (class_type c) (ir.reference a) env st (inr i) e, λ k. cc)
+
+    -- and stored
+    store_right : (at : Classes) (s : Scene) (c : List ℕ) (x : ir.Value) (env : ir.Env) (st : ir.State) → HasType (IsSub w) law at x (class_type c) → Ready at (frame_of s) s.locals env st → Right at s NoType (ir_meaning.store c (x ∷ []) env st)
+    store_right at s c x env st i e = here at s s.locals NoType ir.undefined env (ir.with_cell c x st) (inl refl) (record { locals = e.locals; heap = cell_typed at st c x i e.heap })
+
     -- the null check
     answered_right : (s : Scene) (t : IrType) → has.helper check_name ≡ true → (at : Classes) (v : ir.Value) (env : ir.Env) (st : ir.State) → GivesType at v t → Ready at (frame_of s) s.locals env st → FullRight at s t (ir_meaning.answered w low (ir_meaning.not_null w v) env st)
     answered_right s t h at ir.null env st g e = let there = laws.exceptions h in raise_right null_pointer (codes "null") there.0 there.1 s t at env st e
@@ -739,6 +782,17 @@ module _ (w : World) (law : IsSubtyping (IsSub w)) (has : Usable) where
     held_only None env st h = tt
     held_only (Some v) env st h = λ e. h (ap Some e)
 
+    full_only : (P : ir.Ended → Type 0) (e : End ir.Ended) → Comes (λ a. P a × Only Full a) e → Perhaps Full e
+    full_only P Going h = tt
+    full_only P Wrong h = tt
+    full_only P (Done (ir.ends (ir.gives v) env st)) h = h.1
+    full_only P (Done (ir.ends (ir.throws v) env st)) h = tt
+    full_only P (Done (ir.ends (ir.leaves l v) env st)) h = tt
+    full_only P (Done (ir.ends ir.stops env st)) h = tt
+
+    module_right : (p : Position) (c : List ℕ) (s : Scene) → Typed w has s (load_module p c) → (at : Classes) (env : ir.Env) (st : ir.State) → Ready at (frame_of s) s.locals env st → FullRight at s (class_type c) (step (load_module p c) env st)
+    module_right p c s h at env st i = load_right c h.built s at (st.cells c) env st (i.heap.cells c (load_cell has c h.built)) i
+
     sure_only : HasReceivers has → (t : Term) (s : Scene) → Typed w has s t → is_sure s.sure t ≡ true → (at : Classes) (env : ir.Env) (st : ir.State) → Ready at (frame_of s) s.locals env st → Right at s (type_of_term t) (step t env st) → Perhaps Full (step t env st).end
     sure_only r (this_ref p t) s h k at env st i does = object_only env.this_value (i.locals.this h.finds.0)
       where
@@ -747,7 +801,7 @@ module _ (w : World) (law : IsSubtyping (IsSub w)) (has : Usable) where
     sure_only r (new_object p c m ts) s h k at env st i does = order_only Full (ir_meaning.operands w low ts) (ir_meaning.construct w low c m) env st (λ vs env st. go_on_only Full (ir_meaning.call low (member_of w c Constructor m) (Some (ir.reference (ir.next_address st))) vs env (ir.with_stored (ir.object c (new_fields w c)) st)) (λ v. ir.given (ir.reference (ir.next_address st))) (λ v e z q. cc))
     sure_only r (new_array p q e) s h k at env st i does = impossible h.built
     sure_only r (array_value p q ts) s h k at env st i does = impossible h.built
-    sure_only r (load_module p c) s h k at env st i does = impossible h.built
+    sure_only r (load_module p c) s h k at env st i does = full_only (CameRight at s s.locals (class_type c)) (step (load_module p c) env st).end (module_right p c s h at env st i)
     sure_only r (var_ref p x t) s h k at env st i does = go (s.sure x) refl k
       where
         go : (b : Bool) → s.sure x ≡ b → (b || is_sure_type t) ≡ true → Perhaps Full (step (var_ref p x t) env st).end
@@ -816,7 +870,7 @@ module _ (w : World) (law : IsSubtyping (IsSub w)) (has : Usable) where
             go false k = e.heap.statics b g u l
 
         there : (o : Option ir.Value) → HoldsType at o t → Right at s NoType (ir_meaning.assigned (ir_meaning.if_there o next) env st)
-        there _ (holds_type y _ j) = here at s s.locals NoType ir.undefined env next (inl refl) (record { locals = e.locals; heap = record { objects = e.heap.objects; made = e.heap.made; statics = typed } })
+        there _ (holds_type y _ j) = here at s s.locals NoType ir.undefined env next (inl refl) (record { locals = e.locals; heap = record { objects = e.heap.objects; made = e.heap.made; statics = typed; cells = e.heap.cells } })
 
     -- an assignment to the field of a receiver
     pub field_set_right : (p q : Position) (d : Term) (c f : List ℕ) (t : IrType) (e : Term) → TreeRight d → TreeRight e → (s : Scene) → InScope (frame_of s) s.locals → has.field c f t ≡ true → may_check has s.sure d ≡ true → IsSub w (type_of_term d) (class_type c) → IsSub w (type_of_term e) t → Typed w has s d → Typed w has s e → Fresh s (Own (assign p (select q d c f t) e)) → Sures s (definitions (assign p (select q d c f t) e)) → (at : Classes) (env : ir.Env) (st : ir.State) → Ready at (frame_of s) s.locals env st → Right at s NoType (step (assign p (select q d c f t) e) env st)
@@ -1102,6 +1156,8 @@ module _ (w : World) (law : IsSubtyping (IsSub w)) (has : Usable) where
       tree_right (apply_statically p e c Constructor m ts t) = λ s v h fresh u at env st i. let parts = sures-parts s (definitions e) (definitions_in ts) u in go_on_both at s s.locals (type_of_term e) s.locals t Full (ir_meaning.receiving w (is_sure env.sure e) low (step e) env st) (λ a. ir_meaning.in_order (ir_meaning.operands w low ts) (λ vs. ir_meaning.call_on w low (member_of w c Constructor m) (a ∷ vs))) (own_right e s h.0.meets.0 h.1 at env st i) (λ y b a env st g n i. arguments_right ts m.params s t v h.0.meets.3 h.0.finds h.2 (λ x o. fresh x (inr o)) parts.1 y (λ vs. ir_meaning.call_on w low (member_of w c Constructor m) (a ∷ vs)) env st i (λ z d vs env st k i. received_right c Constructor m (member c Constructor m) (laws.built (member c Constructor m) (constructor_there c m t h.0.built)) (own_target w (member c Constructor m)) s t (type_of_term e) h.0.meets.1 h.0.meets.2 y a g n z d vs env st k i))
       tree_right (apply_statically p e c n m ts t) = λ s v h fresh u at env st i. impossible h.0.built
       tree_right (select_static p c f t) = λ s v h fresh u at env st i. there_right at s t (st.statics c f) env st (i.heap.statics c f t (read_static has c f t h.built)) i
+      tree_right (load_module p c) = λ s v h fresh u at env st i. only_right (CameRight at s s.locals (class_type c)) Full (step (load_module p c) env st).end (module_right p c s h at env st i)
+      tree_right (store_module p c e) = λ s v h fresh u at env st i. operand_right e at s NoType (class_type c) (ir_meaning.store c) env st (tree_right e s v h.1 fresh u at env st i) h.0.meets (value-not (class_type c) (class_has_value c)) (λ y b x env st k i. store_right y s c x env st k i)
       tree_right (this_ref p t) = λ s v h fresh u at env st i. only_right (CameRight at s s.locals t) Full (ir_meaning.local_value env.this_value env st).end (this_right at s t s.owner env.this_value env st h.finds.1 (i.locals.this h.finds.0) i)
       tree_right (unary_op p o e) = λ s v h fresh u at env st i. operand_right e at s (unary_result o) (unary_operand o) (ir_meaning.unary w low o) env st (tree_right e s v h.1 fresh u at env st i) h.0.meets (value-not (unary_operand o) (unary-operand-value o)) (λ y b q env st k i. value_right y low s (unary_result o) (unary_value o q) env st (unary_gives (IsSub w) law y o q k) i)
       tree_right (binary_op p o e d) = λ s v h fresh u at env st i. ⊎_elim (λ takes. binary_right o e d at s takes env st (tree_right e s v h.1 (λ x o. fresh x (inl o)) (sures-parts s (definitions e) (definitions d) u).0 at env st i) (λ k env st i. tree_right d s v h.2 (λ x o. fresh x (inr o)) (sures-parts s (definitions e) (definitions d) u).1 k env st i)) (λ divides. division_right o e d at s divides.0 divides.1 env st (tree_right e s v h.1 (λ x o. fresh x (inl o)) (sures-parts s (definitions e) (definitions d) u).0 at env st i)) (operation w has s o e d h.0.built h.2 h.0.meets)

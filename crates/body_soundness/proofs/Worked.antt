@@ -202,6 +202,7 @@ object_laws = record {
   strangers = λ c f t h o n its sub. none_below c f t o n (field_is c f t h) its sub;
   statics = λ c f t h. impossible h;
   one_static = λ c f s t h k. impossible h;
+  modules = λ c h. impossible h;
   exceptions = λ h. impossible h;
   divisions = λ o h. no_division object_use (λ x. refl) o h;
   casts = λ t h. impossible h;

@@ -6,7 +6,7 @@ use Rattle.body_soundness.specs.Rules.{RightMember}
 use Rattle.sj_proper.specs.Built.{Usable, has_static, divides}
 use Rattle.dispatch_laws.specs.Targets.{IsTargetOf}
 use Rattle.dispatch_laws.specs.Dispatch.{chain_of, is_ancestor, proxy_target}
-use Rattle.dispatch_laws.specs.Meaning.{with_message, no_such_method}
+use Rattle.dispatch_laws.specs.Meaning.{with_message, without_parameters, no_such_method}
 use Rattle.dispatch_laws.specs.World.{World, class_of, member_of, zeros_in, statics_in, zero_of}
 use Rattle.sj_trees.specs.Term.{Term}
 use Rattle.sj_trees.specs.declared.classes.MethodDef.{MethodDef}
@@ -68,7 +68,8 @@ class_cast = codes "java.lang.ClassCastException"
 -- Members that run on an object and constructors keep the rules, and what a call of a member runs is its target; a method that can be looked up on the objects of a class has a
 -- target in each class below it, and a reflective name by which receivers can be called an answer in each class; where there are receivers, bodies define no local twice; no class
 -- that is made is hijacked. A field that can be read has one type, with values, and is an instance field of its class, which stands on the chain of
--- superclasses of each class that is made below it; no primitive type is below it. A static field that can be used has one type, with values, and is one of its class. Where the null check can be used, its exception is
+-- superclasses of each class that is made below it; no primitive type is below it. A static field that can be used has one type, with values, and is one of its class. A class whose one object can be loaded is made,
+-- and so is its constructor. Where the null check can be used, its exception is
 -- made, and so are that of a division whose helper can be used and that of a cast that can be used.
 pub record ObjectLaws (w : World) (has : Usable) : Type 0 where
   pub received : (m : Member) → has.received m ≡ true → RightMember w has m
@@ -84,6 +85,7 @@ pub record ObjectLaws (w : World) (has : Usable) : Type 0 where
   pub strangers : (c f : List ℕ) (t : IrType) → has.field c f t ≡ true → (o : IrType) (h : List ℕ) → hijacked_class o ≡ Some h → IsSub w o (class_type c) → ⊥
   pub statics : (c f : List ℕ) (t : IrType) → has_static has c f t ≡ true → HasValue t × (statics_in (class_of w c) f ≡ Some (zero_of t))
   pub one_static : (c f : List ℕ) (s t : IrType) → has_static has c f s ≡ true → has_static has c f t ≡ true → s ≡ t
+  pub modules : (c : List ℕ) → has.modules c ≡ true → (has.made c ≡ true) × (has.built (member c Constructor without_parameters) ≡ true)
   pub exceptions : has.helper check_name ≡ true → (has.made null_pointer ≡ true) × (has.built (member null_pointer Constructor with_message) ≡ true)
   pub divisions : (o : BinaryOp) → divides has o ≡ true → (has.made arithmetic ≡ true) × (has.built (member arithmetic Constructor with_message) ≡ true)
   pub casts : (t : IrType) → has.casts t ≡ true → (has.made class_cast ≡ true) × (has.built (member class_cast Constructor with_message) ≡ true)

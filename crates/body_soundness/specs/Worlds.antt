@@ -6,7 +6,7 @@ use Rattle.body_soundness.specs.Laws.{HasReceivers, IsClassBelow, Answers, Answe
 use Rattle.body_soundness.specs.Rules.{RightMember}
 use Rattle.sj_proper.specs.Built.{Usable, has_static, divides}
 use Rattle.dispatch_laws.specs.Targets.{IsTargetOf}
-use Rattle.dispatch_laws.specs.Meaning.{with_message}
+use Rattle.dispatch_laws.specs.Meaning.{with_message, without_parameters}
 use Rattle.dispatch_laws.specs.World.{member_of, zeros_in, statics_in, zero_of}
 use Rattle.dispatch_laws.specs.World as ir_world
 use Rattle.sj_proper.specs.Desugar.{member}
@@ -47,7 +47,7 @@ WritesInterfaces w d = (b : Name) → Path (IsParent w) d b → (class : ClassDe
 
 -- what is asked of a world, and of what bodies use there, by the rules of its classes: the members that can be called keep the rules, what a call of a member runs is its target, and a method
 -- that can be looked up on the objects of a class has a target in each class below it, and a reflective name by which receivers can be called an answer in each class; what is made isn't hijacked;
--- what can be read is a field of a class with fields, and what is static is a static field of its class; and whatever is written as an interface above these and above the hijacked classes is one
+-- what can be read is a field of a class with fields, and what is static is a static field of its class; a class whose one object can be loaded is made, and so is its constructor; and whatever is written as an interface above these and above the hijacked classes is one
 pub record ObjectWorld (w : Classes) (has : Usable) : Type 0 where
   pub kept : AreClassesKept w
   pub acyclic : HasNoCycle w
@@ -63,6 +63,7 @@ pub record ObjectWorld (w : Classes) (has : Usable) : Type 0 where
   pub one_type : (c f : Name) (s t : IrType) → has.field c f s ≡ true → has.field c f t ≡ true → s ≡ t
   pub statics : (c f : Name) (t : IrType) → has_static has c f t ≡ true → HasValue t × (statics_in (ir_world.class_of w c) f ≡ Some (zero_of t))
   pub one_static : (c f : Name) (s t : IrType) → has_static has c f s ≡ true → has_static has c f t ≡ true → s ≡ t
+  pub modules : (c : Name) → has.modules c ≡ true → (has.made c ≡ true) × (has.built (member c Constructor without_parameters) ≡ true)
   pub exceptions : has.helper check_name ≡ true → (has.made null_pointer ≡ true) × (has.built (member null_pointer Constructor with_message) ≡ true)
   pub divisions : (o : BinaryOp) → divides has o ≡ true → (has.made arithmetic ≡ true) × (has.built (member arithmetic Constructor with_message) ≡ true)
   pub casts : (t : IrType) → has.casts t ≡ true → (has.made class_cast ≡ true) × (has.built (member class_cast Constructor with_message) ≡ true)

@@ -14,4 +14,5 @@ pub use Rattle.class_tests.proofs.Reflective
 pub use Rattle.class_tests.proofs.Parameters
 pub use Rattle.class_tests.proofs.Telling
 pub use Rattle.class_tests.proofs.Reflecting
+pub use Rattle.class_tests.proofs.Loading
 pub use Rattle.class_tests.proofs.Shortly as ClassTestsShortly

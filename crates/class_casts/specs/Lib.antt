@@ -10,6 +10,7 @@ pub use Rattle.class_tests.specs.Kinds as ClassTestsKinds
 pub use Rattle.class_tests.specs.Tests
 pub use Rattle.class_tests.specs.Reflecting
 pub use Rattle.class_tests.specs.Entries
+pub use Rattle.class_tests.specs.Modules
 pub use Rattle.class_tests.specs.Helpers
 pub use Rattle.class_tests.specs.Words
 pub use Rattle.class_tests.specs.FailureVariants

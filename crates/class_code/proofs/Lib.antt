@@ -1,5 +1,6 @@
 pub mod Bridge
 pub mod Making
+pub mod Loading
 pub mod Markers
 pub mod Members
 pub mod Objects

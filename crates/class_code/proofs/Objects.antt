@@ -1,35 +1,29 @@
 -- A call on an object runs the emitted function of its target.
-use Rattle.std.specs.Prelude.{is_none, ◌≢◌, is_some, codes}
-use Rattle.std.proofs.Common.{◌≡◌, ℕ, zero, suc, Bool, true, false, List, [], ◌∷◌, length, map, Contains, slice_get, Option, Some, None, refl, sym, ap, ◌∙◌, subst, cond}
-use Rattle.std.proofs.lemmas.Slice.Eq.{bytes_eq-Decides}
-use Rattle.std.proofs.lemmas.List.{append_cancel_left}
+use Rattle.std.specs.Prelude.{◌≢◌, is_some}
+use Rattle.std.proofs.Common.{◌≡◌, ℕ, suc, false, List, [], ◌∷◌, length, map, Contains, Option, Some, None, refl, sym, ap, ◌∙◌, cond}
 use Rattle.js_tree.specs.Names.{is_same_text}
-use Rattle.js_tree.specs.Terms.{Name, Member as JsMember, call_of, expression, this_use}
+use Rattle.js_tree.specs.Terms.{Name, Member as JsMember}
 use Rattle.sj_names.specs.declared.method_names.MethodName.{MethodName}
 use Rattle.sj_names.specs.declared.method_names.Member.{Member}
-use Rattle.sj_names.specs.declared.references.TypeRef.{TypeRef}
-use Rattle.sj_names.specs.MethodNames.{spelled_method, IsMethodName}
-use Rattle.sj_mangling.specs.Mangling.{mangled}
-use Rattle.sj_mangling.proofs.Injective.{mangled_texts_differ}
+use Rattle.sj_names.specs.MethodNames.{IsMethodName}
 use Rattle.entry_search.specs.Fact.{Fact}
 use Rattle.entry_search.specs.MethodEntry.{MethodEntry}
-use Rattle.entry_search.specs.Known.{Classes, is_same}
+use Rattle.entry_search.specs.Known.{Classes}
 use Rattle.entry_search.proofs.Searches.{stands_at, contains_at}
 use Rattle.entry_search.specs.Rules.{public_member}
 use Rattle.entry_search.specs.Entries.{AreEntries}
 use Rattle.entry_search.specs.Dispatch.{IsReachedTarget}
-use Rattle.entry_search.specs.Search.{is_for, or_member, entry_for, found}
+use Rattle.entry_search.specs.Search.{or_member, entry_for, found}
 use Rattle.entry_search.specs.Laws.{AreSpelled}
 use Rattle.entry_search.proofs.Found.{search_finds_target}
-use Rattle.js_mean.specs.Classes.{or_code, method_among, method_in, method_code}
+use Rattle.js_mean.specs.Classes.{method_among, method_in, method_code}
 use Rattle.js_mean.specs.Objects.{stored_callee, value_on, called, Callee, value_called, callee, method_on, or_value}
 use Rattle.js_mean.specs.States.{Value, object, method, ClassLink, Stored, Program}
 use Rattle.js_mean.specs.Meaning.{Code, below, code_of, code_call, method_call}
 use Rattle.class_code.specs.Bridges.{bridge}
-use Rattle.entry_search.specs.Words.{uses, class_name, entry_name, public_function, parameter, parameters_of, only_return}
-use Rattle.entry_search.specs.Templates.{member_name}
-use Rattle.class_code.proofs.Bridge.{bridges_hand_on, same_text}
-use Rattle.entry_search.specs.Pieces.{entry_member, direct_call, proxy_call, is_proxy}
+use Rattle.entry_search.specs.Words.{class_name, entry_name, public_function, parameter, parameters_of}
+use Rattle.class_code.proofs.Bridge.{bridges_hand_on}
+use Rattle.entry_search.specs.Pieces.{entry_member}
 use Rattle.class_code.proofs.Members.{no_member, some_member, target_of_entry}
 use Rattle.class_code.proofs.Parameters.{no_parameter}
 use Rattle.class_code.specs.Objects.{call_found, Stands, AllStand, stand_more, FindsBridge, LookupFindsBridge, ObjectsRunTargets}

@@ -19,7 +19,7 @@ use Rattle.js_mean.specs.Meaning.{Code}
 use Rattle.entry_search.specs.Words.{uses, entry_name, parameters_of, only_return}
 use Rattle.class_code.proofs.Bridge.{same_text}
 use Rattle.class_code.proofs.Members.{AreOwn, HasCode, entry_code, code_found, code_there, same_name_of}
-use Rattle.entry_search.specs.Pieces.{entry_member, direct_call, proxy_call, is_proxy, boxed_result}
+use Rattle.entry_search.specs.Pieces.{entry_member, direct_call, proxy_call, boxed_result}
 
 -- `return this.m_t(a0, ..);`, a char as an object that holds it
 abbrev pub handed_on : MethodName → MethodName → Code

@@ -1,6 +1,7 @@
 pub mod Bridges
 pub mod Made
 pub mod Markers
+pub mod Modules
 pub mod Objects
 pub use Rattle.file_tops.specs.Tops
 pub use Rattle.entry_search.specs.Helpers

@@ -9,3 +9,4 @@ pub use Rattle.class_code.proofs.Owners
 pub use Rattle.class_code.proofs.Markers
 pub use Rattle.class_code.proofs.Reflective
 pub use Rattle.class_code.proofs.Parameters
+pub use Rattle.class_code.proofs.Loading

@@ -26,3 +26,4 @@ pub use Rattle.class_code.specs.Tables
 pub use Rattle.class_code.specs.Entries
 pub use Rattle.class_code.specs.Dispatch
 pub use Rattle.class_code.specs.Objects
+pub use Rattle.class_code.specs.Modules

@@ -16,7 +16,7 @@ use Rattle.sj_core.specs.Views.{expressions_of}
 use Rattle.sj_proper.specs.Coercions.{is_char, coerced, coerced_arguments, coerced_receiver}
 use Rattle.sj_proper.specs.Desugar.{target_of, member, types_of, into, block, receiver, operands, first_of, second_of, rest_of, finish, branches, cases, switch_code, callee_of}
 use Rattle.sj_proper.specs.Spill.{Destination, discard, to_variable, to_result, Code, one, spill, then_use}
-use Rattle.sj_trees.specs.Term.{Term, Terms, no_terms, more_terms, Cases, no_cases, more_cases, var_def, skip, block_of, labeled, assign, return_to, if_then, while_loop, do_while, throw, try_catch, match_on, new_object, select, select_static, apply, apply_statically, this_ref, apply_static, unary_op, binary_op, is_instance_of, as_instance_of, undefined_literal, null_literal, boolean_literal, char_literal, byte_literal, short_literal, int_literal, long_literal, string_literal, var_ref, log_line}
+use Rattle.sj_trees.specs.Term.{Term, Terms, no_terms, more_terms, Cases, no_cases, more_cases, var_def, skip, block_of, labeled, assign, return_to, if_then, while_loop, do_while, throw, try_catch, match_on, new_object, select, select_static, apply, apply_statically, this_ref, apply_static, unary_op, binary_op, is_instance_of, as_instance_of, undefined_literal, null_literal, boolean_literal, char_literal, byte_literal, short_literal, int_literal, long_literal, string_literal, var_ref, log_line, load_module, store_module}
 use Rattle.sj_trees.specs.TypeOf.{type_of_term, type_of_last, unary_result, binary_result}
 use Rattle.sj_trees.specs.declared.operators.BinaryOp.{BinaryOp}
 use Rattle.sj_trees.specs.declared.operators.UnaryOp.{UnaryOp}
@@ -70,8 +70,9 @@ use Rattle.sj_proper.specs.Once.{Once, OnceAll, OnceCases}
 use Rattle.sj_bodies.proofs.Trees.{written, written_cases, LowAlike, outside-part, behind, go_on-given, FineHere, TreeDoes, piece, operand_does, define_does, quiet, value_of, local_at, finish_one, list_of, call_does, division_does, operands-list, runs-list}
 use Rattle.sj_names.proofs.Same.{impossible}
 use Rattle.sj_plain.proofs.Plain.{unary_alike, binary_alike}
+use Rattle.sj_plain.proofs.Modules.{load_alike}
 use Rattle.sj_plain.proofs.Objects.{static_alike}
-use Rattle.sj_bodies.proofs.ObjectTrees.{reflect_does, receiver_piece, receiver_does, select_does, set_static_final, set_does, set_spilled, new_does, this_does, throw_does, receive_does, construct_does}
+use Rattle.sj_bodies.proofs.ObjectTrees.{reflect_does, receiver_piece, receiver_does, select_does, set_static_final, store_final, set_does, set_spilled, new_does, this_does, throw_does, receive_does, construct_does}
 use Rattle.sj_bodies.proofs.Spills.{Does, OperandDoes, OperandsDo, numbered-named, operands_in}
 use Rattle.sj_bodies.proofs.Statements.{run-followed, came_then, finish_alike, Ends}
 use Rattle.sj_bodies.proofs.Tries.{try_alike}
@@ -359,6 +360,18 @@ module _ (z : Setting) (lawful : Lawful z) (low : LowAlike z) where
       own : FitsType z.place.classes (usable z) e t
       own = fits_there z.place.classes (usable z) e t parts.0 fine.typed.0.meets.1
 
+  load_by : (p : Position) (d : List ℕ) → TreeDoes z lawful low (load_module p d)
+  load_by p d c k j sound ahead out wr fine w env s sc u r same = finish_alike z lawful c k p (class_type d) (core.module_of d) j sound wr (fits-value z.place.classes lawful.base.ordered (usable z) k (class_type d) fine.asks (class_has_value d) fine.boxed) w w sc env (ir_meaning.load z.place.classes z.low d (s.cells d) env s) sc u (grows-refl w) (keeps-refl z c.kept sc) r s same (load_alike z lawful d fine.typed.built w env s sc u r.sees.inside same)
+
+  store_by : (p : Position) (d : List ℕ) (e : Term) → TreeDoes z lawful low e → (c : Context) (k : Destination) (j : ℕ) → Sound z.is_mutable c → Ahead c j → Outside c (Own e) → FineHere z lawful low c k (store_module p d e) → IsDiscard k → Does z lawful c k j (store_module p d e)
+  store_by p d e does c _ j sound ahead out fine is_discard = of_operands z lawful c discard (piece z lawful low c.targets e ∷ []) j (ir_meaning.store d) (λ es. one (core.store_module_of (Some p) d (coerced (class_type d) (type_of_term e) (first_of es)))) sound ahead (operand_does z lawful low c j e does out (part_of c fine.scene fine.amid e fine.written (class_type d) own.0 (class_has_value d) fine.typed.1 parts.1 fine.around fine.once), tt) (one_final z lawful c discard j (type_of_term e) (ir_meaning.store d) (λ es. one (core.store_module_of (Some p) d (coerced (class_type d) (type_of_term e) (first_of es)))) (store_final z lawful low c p j d (type_of_term e) fine.typed.0.built (stands-for z lawful (class_type d) (type_of_term e) own.0 own.1)))
+    where
+      parts : Makes (is_boxed (class_type d) e) × Makes (operand_boxes (goals_of c.targets) e)
+      parts = each (is_boxed (class_type d) e) (operand_boxes (goals_of c.targets) e) fine.boxed
+
+      own : FitsType z.place.classes (usable z) e (class_type d)
+      own = fits_there z.place.classes (usable z) e (class_type d) parts.0 fine.typed.0.meets
+
   new_by : (p : Position) (d : List ℕ) (m : MethodName) (ts : Terms) → OperandsFine ts → TreeDoes z lawful low (new_object p d m ts)
   new_by p d m ts do_all c k j sound ahead out wr fine = new_does z lawful low p c k j d m ts sound ahead wr (fits-value z.place.classes lawful.base.ordered (usable z) k (class_type d) fine.asks (class_has_value d) parts.0) its.1 its.0 (lawful.base.objects d its.0) (stand-for-all z lawful ts m.params arguments) (do_all c j out fine.scene fine.amid fine.written m.params arguments fine.typed.1 passed.1 fine.around fine.once)
     where
@@ -549,6 +562,8 @@ module _ (z : Setting) (lawful : Lawful z) (low : LowAlike z) where
     does (apply p e m ts t) = applied_does p e m ts t (does e) (operands_do ts)
     does (apply_statically p e d n m ts t) = statically_does p e d n m ts t (does e) (operands_do ts)
     does (select_static p d f t) = static_by p d f t
+    does (load_module p d) = load_by p d
+    does (store_module p d e) = λ c k j sound ahead out wr fine. store_by p d e (does e) c k j sound ahead out fine (given_up z.place.classes lawful.base.ordered k fine.asks)
     does (this_ref p t) = this_by p t
     does (apply_static p cn n m ts t) = λ c k j sound ahead out wr fine.
         let parts = each (is_boxed_at (goal_of k) t) (any_is_boxed m.params ts || operands_box (goals_of c.targets) ts) fine.boxed in

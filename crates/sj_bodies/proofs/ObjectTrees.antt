@@ -34,6 +34,7 @@ use Rattle.sure_receivers.specs.Sure.{is_sure}
 use Rattle.sj_proper.specs.Standing.{Fits, types_referred, call_type}
 use Rattle.sj_plain.specs.Settings.{Setting, shown, SameState, Valued, Lawful, Inside, Receiving, no_receiver, on_receiver, Sees, usable}
 use Rattle.sj_plain.proofs.Objects.{null_act, select_alike, setter_text, static_set_alike, field_written, new_alike, received_call_alike, checked_alike}
+use Rattle.sj_plain.proofs.Modules.{storer_text, store_alike}
 use Rattle.sj_plain.proofs.Reflected.{reflected_call_alike}
 use Rattle.sj_plain.proofs.Told.{tells}
 use Rattle.sj_plain.proofs.Orders.{OperandAlike, OperandsAlike, text_of, no_operands, more_operands}
@@ -179,6 +180,19 @@ module _ (z : Setting) (lawful : Lawful z) (low : LowAlike z) where
 
       set : core.Expression
       set = coerced t own x
+
+  -- the object of a class is stored: its value, and a call of the function that stores it
+  pub store_final : (c : Context) (p : Position) (j : ℕ) (d : List ℕ) (own : IrType) → (usable z).stored d ≡ true → StandsFor z (class_type d) own → (w : World) (sc : js.Scope) → OneFinal z lawful c discard w sc j own (ir_meaning.store d) (λ es. one (core.store_module_of (Some p) d (coerced (class_type d) own (first_of es))))
+  store_final c p j d own has fits from before n r x w env s sc u ahead l g ready ks same (more_operands _ _ _ _ _ _ told alike no_operands) = ends-one z lawful c c.scope discard from before (ir_meaning.in_order (r ∷ []) act env s) (core.store_module_of (Some p) d set) sc u (subst (λ o. Sim z.direction F o (then_do (storer_text z lawful.base d has set sc u) (js.in_statement sc (λ v. js_meaning.nothing sc)))) (then_do-right (ir_meaning.in_order (r ∷ []) act env s)) (sim_then z.direction (Valued z.place w env NoType) F (ir_meaning.in_order (r ∷ []) act env s) (storer_text z lawful.base d has set sc u) done (js.in_statement sc (λ v. js_meaning.nothing sc)) (store_alike z lawful.base d has (stood (class_type d) own fits.0) r set (stood-fits (class_type d) own fits.0) w env s sc u ready.sees.inside (more_operands (stood (class_type d) own fits.0) r set [] [] [] (stood_told z lawful.base w env sc ready.sees.inside (class_type d) own fits.0 x told) (stood_alike z lawful.base w env sc ready.sees.inside (class_type d) own fits.0 fits.1 r x alike) no_operands) same) (valued_done z lawful F w env NoType sc (λ v. js_meaning.nothing sc) (throws-on z lawful c c.scope discard from w before env sc g ks ready) (λ y v q s u h a states. sim_done z.direction F (ir.ends (ir.gives v) env s) (js.ends js.normally sc u) (gave y v env s sc u js.normally (grows-trans from w y g h) let_go (ready-lift z c.scope c.writable w y env sc h ready) (keeps-less z c.kept discard before sc ks) states)))))
+    where
+      F : ir.Ended → js.StatementEnd → Type 0
+      F = Came z.place z.code c c.scope discard from before
+
+      act : List ir.Value → ir.Run
+      act = ir_meaning.store d
+
+      set : core.Expression
+      set = coerced (class_type d) own x
 
   -- an assignment to a field of an object: behind the object its right side, and then the field is written
   set_alike : (c : Context) (p : Position) (own : IrType) (d f : List ℕ) (t i : IrType) → (usable z).field d f t ≡ true → Fits t i → (from : World) (before : js.Scope) (w : World) (env : ir.Env) (s : ir.State) (sc : js.Scope) (u : js.State) → Grows from w → Ready z.place z.code c.scope c.writable w env sc → Keeps z.place c.kept before sc → SameState z.place w s u → (r q : ir.Run) (x g : core.Expression) → OperandsAlike z w env sc (own ∷ []) (r ∷ []) (x ∷ []) → tells i (text_of z g) ≡ true → OperandAlike z w env sc i q (shown z g) → Ends z lawful c c.scope discard from before (ir_meaning.in_order (r ∷ []) (ir_meaning.assign_on d f q) env s) (core.statement (core.assign_field (Some p) x d f g) core.no_statements) sc u

@@ -63,6 +63,7 @@ module _ (p : Place) (ordered : IsSubtyping (IsSub p.classes)) (names : NamesDif
     fields = λ c g t i. impossible (sym (alone.field f.file c g t) ∙ i);
     statics = λ c g t i. impossible (sym (or_from ((p.has f.file).static_field c g t) ((p.has f.file).static_setter c g t) (alone.static_field f.file c g t) (alone.static_setter f.file c g t)) ∙ i);
     sets = λ c g t i. impossible (sym (alone.static_setter f.file c g t) ∙ i);
+    stores = λ c i. impossible (sym (alone.stored f.file c) ∙ i);
     calls = λ m l. member_alike d n k (levels k h) m (linked f.file m l);
     receives = λ m l. impossible (sym (alone.received f.file (called_member (p.has f.file).lookup m.namespace m)) ∙ l);
     builds = λ m l. impossible (sym (alone.built f.file m) ∙ l);
@@ -72,7 +73,7 @@ module _ (p : Place) (ordered : IsSubtyping (IsSub p.classes)) (names : NamesDif
   }
 
   lawful : (d : Direction) (n k : ℕ) → Levels d n → Enough p.room p.room.each d n k → (f : Code) → Reaches p f.file → (is_mutable : List ℕ → Bool) → Lawful (within f d is_mutable n k)
-  lawful d n k levels h f reaches is_mutable = record { base = based d n k levels (fewer d p.room.each n k h) f reaches is_mutable; reflects = λ m i. impossible (sym (alone.reflected f.file m) ∙ i); looks = λ c m i. impossible (sym (alone.looked f.file c m) ∙ (and_parts ((p.has f.file).looked_up c m) ((p.has f.file).dispatched m || not ((p.has f.file).lookup.has_hijacked c)) i).0); checks = λ i. impossible (sym (alone.helper f.file check_name) ∙ i); divisions = λ o i. no_division (p.has f.file) (alone.helper f.file) o i; boxes = λ i. impossible (sym (alone.helper f.file (codes "$C")) ∙ i); tests = λ t i. impossible (sym (alone.tests f.file t) ∙ i); casts = λ t i. impossible (sym (alone.casts f.file t) ∙ i); compares = λ i. impossible (sym (alone.helper f.file (codes "$eq")) ∙ i) }
+  lawful d n k levels h f reaches is_mutable = record { base = based d n k levels (fewer d p.room.each n k h) f reaches is_mutable; reflects = λ m i. impossible (sym (alone.reflected f.file m) ∙ i); looks = λ c m i. impossible (sym (alone.looked f.file c m) ∙ (and_parts ((p.has f.file).looked_up c m) ((p.has f.file).dispatched m || not ((p.has f.file).lookup.has_hijacked c)) i).0); loads = λ c i. impossible (sym (alone.modules f.file c) ∙ i); checks = λ i. impossible (sym (alone.helper f.file check_name) ∙ i); divisions = λ o i. no_division (p.has f.file) (alone.helper f.file) o i; boxes = λ i. impossible (sym (alone.helper f.file (codes "$C")) ∙ i); tests = λ t i. impossible (sym (alone.tests f.file t) ∙ i); casts = λ t i. impossible (sym (alone.casts f.file t) ∙ i); compares = λ i. impossible (sym (alone.helper f.file (codes "$eq")) ∙ i) }
 
   next : (d : Direction) (n k : ℕ) → Levels d n → Enough p.room p.room.each d n k → Level d (suc n) (suc k)
   next d n k levels h f reaches is_mutable c q j t sound ahead out wr fine w env s sc u ready same = does (within f d is_mutable n k) (lawful d n k levels h f reaches is_mutable) (levels k (fewer d p.room.each n k h) f reaches is_mutable) t c q j sound ahead out wr fine w env s sc u ready same

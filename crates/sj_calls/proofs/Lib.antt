@@ -10,6 +10,7 @@ pub mod Helps
 pub mod Dividing
 pub mod Levels
 pub mod Making
+pub mod Modules
 pub mod Names
 pub mod News
 pub mod ObjectLevels

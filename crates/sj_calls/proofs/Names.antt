@@ -11,7 +11,7 @@ use Rattle.js_mean.specs.States as js
 use Rattle.js_tree.specs.Terms.{Name}
 use Rattle.sj_core.specs.Terms.{Variable, named, numbered, receiver}
 use Rattle.dispatch_laws.specs.Names.{variable_name}
-use Rattle.dispatch_laws.specs.Templates.{member_name, static_name, setter_name}
+use Rattle.dispatch_laws.specs.Templates.{member_name, static_name, setter_name, load_name, store_name}
 use Rattle.dispatch_laws.specs.Tests.{test_name, cast_name}
 use Rattle.sj_mangling.specs.Bindings.{function_name, class_binding, method_binding}
 use Rattle.sj_mangling.specs.declared.bindings.MethodBinding.TheVariants.{Dispatch, Reflective}
@@ -24,7 +24,7 @@ use Rattle.sj_names.specs.declared.method_names.Member.{Member}
 use Rattle.sj_names.specs.declared.method_names.MethodName.{MethodName}
 use Rattle.sj_names.specs.declared.method_names.Namespace.{Namespace}
 use Rattle.sj_names.specs.declared.method_names.Namespace.TheVariants.{Public, PublicStatic, Private, PrivateStatic, Constructor}
-use Rattle.sj_bodies.specs.Settings.{Top, a_function, a_method, a_constructor, a_dispatch, a_reflection, a_class, some_constants, a_static, a_setter, a_test, a_cast, a_helper, top_name, NamesDiffer}
+use Rattle.sj_bodies.specs.Settings.{Top, a_function, a_method, a_constructor, a_dispatch, a_reflection, a_class, some_constants, a_static, a_setter, a_cell, a_loader, a_storer, a_test, a_cast, a_helper, cell_name, top_name, NamesDiffer}
 use Rattle.sj_trees.specs.declared.types.IrType.{IrType}
 use Rattle.sj_trees.specs.declared.types.IrType.TheVariants.{Class}
 use Rattle.sj_bodies.proofs.Names.{first, heads, tails, low-numeral, variables-differ, labels-differ}
@@ -135,6 +135,22 @@ no_reflection m (named x) e = let h : ◌≡◌ {A = ℕ} 118 114 = ap first e i
 no_reflection m receiver e = let h : ◌≡◌ {A = ℕ} 36 114 = ap first e in absurd (omega arith)
 no_reflection m (numbered n) e = let h : ◌≡◌ {A = ℕ} 36 114 = ap first e in absurd (omega arith)
 
+-- the name of the cell of a class begins with `n`, that of the function that loads its one object with `g`, and that of the one that stores it with `q`
+no_cell : (c : List ℕ) (x : Variable) → variable_name x ≡ cell_name c → ⊥
+no_cell c (named x) e = let h : ◌≡◌ {A = ℕ} 118 110 = ap first e in absurd (omega arith)
+no_cell c receiver e = let h : ◌≡◌ {A = ℕ} 36 110 = ap first e in absurd (omega arith)
+no_cell c (numbered n) e = let h : ◌≡◌ {A = ℕ} 36 110 = ap first e in absurd (omega arith)
+
+no_loader : (c : List ℕ) (x : Variable) → variable_name x ≡ load_name c → ⊥
+no_loader c (named x) e = let h : ◌≡◌ {A = ℕ} 118 103 = ap first e in absurd (omega arith)
+no_loader c receiver e = let h : ◌≡◌ {A = ℕ} 36 103 = ap first e in absurd (omega arith)
+no_loader c (numbered n) e = let h : ◌≡◌ {A = ℕ} 36 103 = ap first e in absurd (omega arith)
+
+no_storer : (c : List ℕ) (x : Variable) → variable_name x ≡ store_name c → ⊥
+no_storer c (named x) e = let h : ◌≡◌ {A = ℕ} 118 113 = ap first e in absurd (omega arith)
+no_storer c receiver e = let h : ◌≡◌ {A = ℕ} 36 113 = ap first e in absurd (omega arith)
+no_storer c (numbered n) e = let h : ◌≡◌ {A = ℕ} 36 113 = ap first e in absurd (omega arith)
+
 no_top : (t : Top) (x : Variable) → variable_name x ≡ top_name t → ⊥
 no_top (a_function m) = no_function m
 no_top (a_method m) = no_function m
@@ -145,6 +161,9 @@ no_top (a_class c) = no_class c
 no_top (some_constants c) = no_constants c
 no_top (a_static c f t) = no_static c f
 no_top (a_setter c f t) = no_setter c f
+no_top (a_cell c) = no_cell c
+no_top (a_loader c) = no_loader c
+no_top (a_storer c) = no_storer c
 no_top (a_test t) = no_test t
 no_top (a_cast t) = no_cast t
 no_top (a_helper h) = no_letter (helper_name h) (helper-begins h)
@@ -171,8 +190,46 @@ static_apart (a_class d) c f h e = let k : ◌≡◌ {A = ℕ} 99 116 = ap first
 static_apart (some_constants d) c f h e = let k : ◌≡◌ {A = ℕ} 107 116 = ap first e in absurd (omega arith)
 static_apart (a_static d g t) c f h e = impossible (sym h)
 static_apart (a_setter d g t) c f h e = let k : ◌≡◌ {A = ℕ} 117 116 = ap first e in absurd (omega arith)
+static_apart (a_cell d) c f h e = let k : ◌≡◌ {A = ℕ} 110 116 = ap first e in absurd (omega arith)
+static_apart (a_loader d) c f h e = let k : ◌≡◌ {A = ℕ} 103 116 = ap first e in absurd (omega arith)
+static_apart (a_storer d) c f h e = let k : ◌≡◌ {A = ℕ} 113 116 = ap first e in absurd (omega arith)
 static_apart (a_test (Class d)) c f h e = let k : ◌≡◌ {A = ℕ} 105 116 = ap first e in absurd (omega arith)
 static_apart (a_test t) c f h e = let k : ◌≡◌ {A = ℕ} 36 116 = ap first e in absurd (omega arith)
 static_apart (a_cast (Class d)) c f h e = let k : ◌≡◌ {A = ℕ} 97 116 = ap first e in absurd (omega arith)
 static_apart (a_cast t) c f h e = let k : ◌≡◌ {A = ℕ} 36 116 = ap first e in absurd (omega arith)
 static_apart (a_helper k) c f h e = let b = helper-begins k in let n : ◌≡◌ {A = ℕ} 36 116 = heads 36 116 (b.letter ∷ b.rest) _ (sym b.is ∙ e) in absurd (omega arith)
+
+-- any binding but the cell of a class
+abbrev pub is_cell : Top → Bool
+is_cell (a_cell c) = true
+is_cell _ = false
+
+no_member_cell : (m : Member) (c : List ℕ) → member_name m ≡ cell_name c → ⊥
+no_member_cell m c e = by m.namespace (sym e)
+  where
+    by : (n : Namespace) → cell_name c ≡ function_name n m.class m.method → ⊥
+    by Public e = let k : ◌≡◌ {A = ℕ} 110 102 = ap first e in absurd (omega arith)
+    by PublicStatic e = let k : ◌≡◌ {A = ℕ} 110 115 = ap first e in absurd (omega arith)
+    by Private e = let k : ◌≡◌ {A = ℕ} 110 112 = ap first e in absurd (omega arith)
+    by PrivateStatic e = let k : ◌≡◌ {A = ℕ} 110 112 = ap first e in absurd (omega arith)
+    by Constructor e = let k : ◌≡◌ {A = ℕ} 110 99 = ap first e in absurd (omega arith)
+
+-- it has no name of a cell
+pub cell_apart : (t : Top) (c : List ℕ) → is_cell t ≡ false → top_name t ≡ cell_name c → ⊥
+cell_apart (a_function m) c h e = no_member_cell m c e
+cell_apart (a_method m) c h e = no_member_cell m c e
+cell_apart (a_constructor m) c h e = no_member_cell m c e
+cell_apart (a_dispatch m) c h e = let k : ◌≡◌ {A = ℕ} 100 110 = ap first e in absurd (omega arith)
+cell_apart (a_reflection m) c h e = let k : ◌≡◌ {A = ℕ} 114 110 = ap first e in absurd (omega arith)
+cell_apart (a_class d) c h e = let k : ◌≡◌ {A = ℕ} 99 110 = ap first e in absurd (omega arith)
+cell_apart (some_constants d) c h e = let k : ◌≡◌ {A = ℕ} 107 110 = ap first e in absurd (omega arith)
+cell_apart (a_static d g t) c h e = let k : ◌≡◌ {A = ℕ} 116 110 = ap first e in absurd (omega arith)
+cell_apart (a_setter d g t) c h e = let k : ◌≡◌ {A = ℕ} 117 110 = ap first e in absurd (omega arith)
+cell_apart (a_cell d) c h e = impossible (sym h)
+cell_apart (a_loader d) c h e = let k : ◌≡◌ {A = ℕ} 103 110 = ap first e in absurd (omega arith)
+cell_apart (a_storer d) c h e = let k : ◌≡◌ {A = ℕ} 113 110 = ap first e in absurd (omega arith)
+cell_apart (a_test (Class d)) c h e = let k : ◌≡◌ {A = ℕ} 105 110 = ap first e in absurd (omega arith)
+cell_apart (a_test t) c h e = let k : ◌≡◌ {A = ℕ} 36 110 = ap first e in absurd (omega arith)
+cell_apart (a_cast (Class d)) c h e = let k : ◌≡◌ {A = ℕ} 97 110 = ap first e in absurd (omega arith)
+cell_apart (a_cast t) c h e = let k : ◌≡◌ {A = ℕ} 36 110 = ap first e in absurd (omega arith)
+cell_apart (a_helper k) c h e = let b = helper-begins k in let n : ◌≡◌ {A = ℕ} 36 110 = heads 36 110 (b.letter ∷ b.rest) _ (sym b.is ∙ e) in absurd (omega arith)

@@ -31,9 +31,9 @@ use Rattle.sj_bodies.specs.Coercions.{is_char}
 use Rattle.sj_bodies.proofs.Fitting.{fits-sub}
 use Rattle.sj_bodies.proofs.Boxes.{class-no-char}
 use Rattle.sure_receivers.specs.Sure.{sure_locals}
-use Rattle.sj_bodies.specs.Settings.{Place, Code, a_function, a_method, a_constructor, a_setter, a_helper, division_helper, Setting, SameState, Valued, Built, NamesDiffer, Reaches, Based, Lawful, BuildsAlike, ReceivesAlike, SetsAlike, ChecksAlike, DividesAlike, HasFunction, TestsAlike, CastsAlike, ComparesAlike, IsReceiver, a_test, a_cast, top_call, DispatchesAlike, EntriesAlike, LooksUp, ReflectsAlike, MadeSomewhere}
+use Rattle.sj_bodies.specs.Settings.{Place, Code, a_function, a_method, a_constructor, a_setter, a_loader, a_storer, a_helper, division_helper, Setting, SameState, Valued, Built, NamesDiffer, Reaches, Based, Lawful, BuildsAlike, ReceivesAlike, SetsAlike, StoresAlike, LoadsAlike, ChecksAlike, DividesAlike, HasFunction, TestsAlike, CastsAlike, ComparesAlike, IsReceiver, a_test, a_cast, top_call, DispatchesAlike, EntriesAlike, LooksUp, ReflectsAlike, MadeSomewhere}
 use Rattle.sj_bodies.specs.Standing.{Fits, types_referred, call_type}
-use Rattle.sj_bodies.proofs.Statics.{set_static}
+use Rattle.sj_bodies.proofs.Statics.{set_static, load_cell, store_cell}
 use Rattle.sj_bodies.specs.Built.{divides}
 use Rattle.dispatch_laws.specs.Operators.{binary_value}
 use Rattle.sj_bodies.specs.Desugar.{member}
@@ -67,6 +67,7 @@ use Rattle.sj_calls.proofs.News.{made_alike}
 use Rattle.sj_calls.proofs.Receivers.{receive_alike, build_alike}
 use Rattle.sj_calls.proofs.Sameness.{compares_alike}
 use Rattle.sj_calls.proofs.Setters.{sets_alike}
+use Rattle.sj_calls.proofs.Modules.{stores_alike, loading, loads_alike}
 use Rattle.sj_calls.proofs.Testing.{primitive, tests_alike}
 
 module _ (p : Place) (plain : IsPlain p.classes) (ordered : IsSubtyping (IsSub p.classes)) (names : NamesDiffer p) (has : HasObjects p) where
@@ -153,6 +154,11 @@ module _ (p : Place) (plain : IsPlain p.classes) (ordered : IsSubtyping (IsSub p
   set_alike f is_mutable forward n zero h c g t l = let e = has.beyond in absurd (omega (arith, e, h))
   set_alike f is_mutable backward n zero h c g t l = λ w v x env s u a same. subst (λ o. Sim backward (Valued p w env NoType) (ir_meaning.assign_static c g (v ∷ []) env s) o) (sym (ap (λ o. js_meaning.code_call (js_meaning.below p.program 0) (p.home (a_setter c g t)) o (x ∷ []) u) (has.statics f.file c g t (set_static (p.has f.file) c g t l)).sets)) (sim_going (Valued p w env NoType) (ir_meaning.assign_static c g (v ∷ []) env s))
 
+  store_alike : (f : Code) (is_mutable : List ℕ → Bool) (d : Direction) (n k : ℕ) → Enough p.room 0 d n k → (c : List ℕ) → (p.has f.file).stored c ≡ true → StoresAlike (within f d is_mutable n k) c
+  store_alike f is_mutable d n (suc k) h c l = let can = store_cell (p.has f.file) c l in stores_alike d p has.cells c (has.cells f.file c can) f.file can (has.stores f.file c l) k
+  store_alike f is_mutable forward n zero h c l = let e = has.beyond in absurd (omega (arith, e, h))
+  store_alike f is_mutable backward n zero h c l = λ w v x env s u a same. subst (λ o. Sim backward (Valued p w env NoType) (ir_meaning.store c (v ∷ []) env s) o) (sym (ap (λ o. js_meaning.code_call (js_meaning.below p.program 0) (p.home (a_storer c)) o (x ∷ []) u) (has.stores f.file c l).stores)) (sim_going (Valued p w env NoType) (ir_meaning.store c (v ∷ []) env s))
+
   based : (d : Direction) (n k : ℕ) → Levels d n → Enough p.room 0 d n k → (f : Code) → Reaches p f.file → (is_mutable : List ℕ → Bool) → Based (within f d is_mutable n k)
   based d n k levels h f reaches is_mutable = record {
     ordered = ordered;
@@ -163,6 +169,7 @@ module _ (p : Place) (plain : IsPlain p.classes) (ordered : IsSubtyping (IsSub p
     fields = has.field f.file;
     statics = λ c g t l. (has.statics f.file c g t l).field;
     sets = λ c g t l. set_alike f is_mutable d n k h c g t l;
+    stores = λ c l. store_alike f is_mutable d n k h c l;
     calls = λ m l. member_alike d n k (levels k h) m (has.linked f.file m l);
     receives = λ m l. method_alike f is_mutable d n k (levels k h) m (called_target p.classes (p.has f.file).lookup (λ o. (p.has f.file).received o ≡ true) (λ o i. has.targets f.file o i) m.namespace m l) (has.received f.file (called_member (p.has f.file).lookup m.namespace m) l);
     builds = λ m l. constructor_alike f is_mutable d n k h (levels k h) m (has.built f.file m l);
@@ -245,8 +252,14 @@ module _ (p : Place) (plain : IsPlain p.classes) (ordered : IsSubtyping (IsSub p
   reflects_at f is_mutable m st backward n (suc zero) levels h = λ w v x vs xs env s u a values same. reflected_short p backward (ir_meaning.below p.classes n) has.boxes m st w s u same vs xs values env not_forward v x a.stands
   reflects_at f is_mutable m st backward n zero levels h = λ w v x vs xs env s u a values same. reflected_none_left p backward (ir_meaning.below p.classes n) has.boxes m st w s u same vs xs values env not_forward v x
 
+  -- a class is loaded in one unit, in which its object is made where there is none yet
+  loads_at : (f : Code) (is_mutable : List ℕ → Bool) (c : List ℕ) → (p.has f.file).modules c ≡ true → (d : Direction) (n k : ℕ) → Levels d n → Enough p.room p.room.each d n k → LoadsAlike (within f d is_mutable n k) c
+  loads_at f is_mutable c l d n (suc k) levels h = let can = load_cell (p.has f.file) c l in loads_alike d p has.cells c (has.cells f.file c can) f.file can (has.loads f.file c l) (ir_meaning.below p.classes n) k (based d n k levels (one_fewer d n k h) (loading p c) (has.loads f.file c l).reaches (λ x. false))
+  loads_at f is_mutable c l forward n zero levels h = let e = has.each in absurd (omega (arith, e, h))
+  loads_at f is_mutable c l backward n zero levels h = λ w env s u same. subst (λ o. Sim backward (Valued p w env (class_type c)) (ir_meaning.load p.classes (ir_meaning.below p.classes n) c (s.cells c) env s) o) (sym (ap (λ o. js_meaning.code_call (js_meaning.below p.program 0) (p.home (a_loader c)) o [] u) (has.loads f.file c l).loads)) (sim_going (Valued p w env (class_type c)) (ir_meaning.load p.classes (ir_meaning.below p.classes n) c (s.cells c) env s))
+
   lawful : (d : Direction) (n k : ℕ) → Levels d n → Enough p.room p.room.each d n k → (f : Code) → Reaches p f.file → (is_mutable : List ℕ → Bool) → Lawful (within f d is_mutable n k)
-  lawful d n k levels h f reaches is_mutable = record { base = based d n k levels (fewer d p.room.each n k h) f reaches is_mutable; reflects = λ m i. reflects_at f is_mutable m (has.reflected f.file m i) d n k levels h; looks = λ c m i. looks_at f is_mutable c m ((p.has f.file).lookup.has_hijacked c) (has.looked f.file c m i) d n k levels h; checks = λ i. checks_at (has.checked f.file i) f is_mutable d n k levels h; divisions = λ o i. divides_at f is_mutable o i (has.divided f.file o i) d n k levels h; boxes = λ i. boxes_alike (within f d is_mutable n k) k (has.boxes f.file i) refl (box_room d n k h); tests = λ t i. test_there f is_mutable t (has.tested f.file t i) d n k h; casts = λ t i. cast_there f is_mutable t (has.cast f.file t i) d n k levels h; compares = λ i. compares_at f is_mutable (has.compared f.file i) d n k h }
+  lawful d n k levels h f reaches is_mutable = record { base = based d n k levels (fewer d p.room.each n k h) f reaches is_mutable; reflects = λ m i. reflects_at f is_mutable m (has.reflected f.file m i) d n k levels h; looks = λ c m i. looks_at f is_mutable c m ((p.has f.file).lookup.has_hijacked c) (has.looked f.file c m i) d n k levels h; loads = λ c i. loads_at f is_mutable c i d n k levels h; checks = λ i. checks_at (has.checked f.file i) f is_mutable d n k levels h; divisions = λ o i. divides_at f is_mutable o i (has.divided f.file o i) d n k levels h; boxes = λ i. boxes_alike (within f d is_mutable n k) k (has.boxes f.file i) refl (box_room d n k h); tests = λ t i. test_there f is_mutable t (has.tested f.file t i) d n k h; casts = λ t i. cast_there f is_mutable t (has.cast f.file t i) d n k levels h; compares = λ i. compares_at f is_mutable (has.compared f.file i) d n k h }
 
   next : (d : Direction) (n k : ℕ) → Levels d n → Enough p.room p.room.each d n k → Level d (suc n) (suc k)
   next d n k levels h f reaches is_mutable c q j t sound ahead out wr fine w env s sc u ready same = does (within f d is_mutable n k) (lawful d n k levels h f reaches is_mutable) (levels k (fewer d p.room.each n k h) f reaches is_mutable) t c q j sound ahead out wr fine w env s sc u ready same

@@ -14,19 +14,17 @@ use Rattle.js_mean.specs.States as js
 use Rattle.js_tree.specs.Terms.{Name, no_statements}
 use Rattle.dispatch_laws.specs.Templates.{static_name}
 use Rattle.sj_names.specs.Same.{is_same_text}
-use Rattle.sj_bodies.specs.Settings.{Place, Top, a_static, a_setter, top_name, top_call, is_usable, TopHolds, IsStaticField, SameState, Holding, holding, Valued, valued}
+use Rattle.sj_bodies.specs.Settings.{Place, Top, a_static, a_setter, a_cell, cell_name, top_name, top_call, is_usable, TopHolds, IsStaticField, SameState, Holding, holding, Valued, valued}
 use Rattle.sj_bodies.proofs.Worlds.{World, grows-refl, SameValue, same_undefined}
 use Rattle.sj_trees.specs.declared.types.IrType.{IrType}
 use Rattle.sj_trees.specs.declared.types.IrType.TheVariants.{NoType}
+use Rattle.class_casts.specs.Modules.{with_top}
+use Rattle.sj_trees.specs.Types.{class_type}
 use Rattle.sj_calls.specs.Worlds.{StaticStands, setter_code}
 use Rattle.sj_calls.proofs.Names.{is_static_variable, static_apart}
 
--- the state in which a variable at the top of a file holds this value
-abbrev pub with_top : Name → Name → js.Value → js.State → js.State
-with_top file x v u = record { heap = u.heap; tops = λ g y. if is_same_text g file then js_meaning.binding x (js.holds false v) (u.tops g) y else u.tops g y }
-
 -- every other binding stays
-other-stays : (file x : Name) (v : js.Value) (u : js.State) (g y : Name) → is_same_text y x ≡ false → (with_top file x v u).tops g y ≡ u.tops g y
+pub other-stays : (file x : Name) (v : js.Value) (u : js.State) (g y : Name) → is_same_text y x ≡ false → (with_top file x v u).tops g y ≡ u.tops g y
 other-stays file x v u g y apart = go (is_same_text g file)
   where
     go : (b : Bool) → (if b then (if is_same_text y x then js.holds false v else u.tops g y) else u.tops g y) ≡ u.tops g y
@@ -34,7 +32,7 @@ other-stays file x v u g y apart = go (is_same_text g file)
     go false = refl
 
 -- and it holds the value
-holds-it : (file x : Name) (v : js.Value) (u : js.State) (g y : Name) → is_same_text g file ≡ true → is_same_text y x ≡ true → (with_top file x v u).tops g y ≡ js.holds false v
+pub holds-it : (file x : Name) (v : js.Value) (u : js.State) (g y : Name) → is_same_text g file ≡ true → is_same_text y x ≡ true → (with_top file x v u).tops g y ≡ js.holds false v
 holds-it file x v u g y here same = ap (λ (t : Bool). if t then (if is_same_text y x then js.holds false v else u.tops g y) else u.tops g y) here ∙ ap (λ (t : Bool). if t then js.holds false v else u.tops g y) same
 
 module _ (p : Place) (c f : List ℕ) (t : IrType) (stands : StaticStands p c f t) where
@@ -103,7 +101,7 @@ module _ (d : Direction) (p : Place) (all : (g : Name) (c f : List ℕ) (t : IrT
             home_is = ap (λ y. is_same_text y here) file_is ∙ equals here
 
     states : SameState p w (ir.with_static c f v s) after
-    states = record { heaps = same.heaps; tops = λ g top l. top_stays g top l (is_static_variable top) refl; statics = static_there }
+    states = record { heaps = same.heaps; tops = λ g top l. top_stays g top l (is_static_variable top) refl; statics = static_there; cells = λ g b l. subst (Holding w (class_type b) (Some (s.cells b))) (sym (other-stays here name x u (p.home (a_cell b)) (cell_name b) (differs (cell_name b) name (static_apart (a_cell b) c f refl)))) (same.cells g b l) }
 
   pub sets_alike : (g : Name) → has_static (p.has g) c f t ≡ true → (m : ℕ) (w : World) (v : ir.Value) (x : js.Value) (env : ir.Env) (s : ir.State) (u : js.State) → SameValue w t v x → SameState p w s u → Sim d (Valued p w env NoType) (ir_meaning.assign_static c f (v ∷ []) env s) (top_call p (js_meaning.below p.program (suc m)) (a_setter c f t) (x ∷ []) u)
   sets_alike g there m w v x env s u alike same = go (s.statics c f) (u.tops (p.home (a_static c f t)) name) refl refl (same.statics g c f t there)

@@ -28,7 +28,7 @@ use Rattle.sj_bodies.specs.Desugar.{desugared}
 use Rattle.dispatch_laws.specs.Templates.{member_name, parameter_names}
 use Rattle.sj_names.specs.declared.entry_points.EntryPoint.{EntryPoint}
 use Rattle.sj_names.specs.declared.method_names.Member.{Member}
-use Rattle.sj_bodies.specs.Settings.{some_constants, a_static, a_setter, a_test, a_cast, links_of, box_link, SameStored, same_object, a_method, a_constructor, a_dispatch, a_reflection, a_helper, Place, Top, a_function, a_class, top_name, is_usable, TopHolds, SameHeap, SameState, Valued, valued, thrown, NamesDiffer, Reaches}
+use Rattle.sj_bodies.specs.Settings.{some_constants, a_static, a_setter, a_cell, a_loader, a_storer, a_test, a_cast, links_of, box_link, SameStored, same_object, a_method, a_constructor, a_dispatch, a_reflection, a_helper, Place, Top, a_function, a_class, top_name, is_usable, TopHolds, SameHeap, SameState, Valued, valued, thrown, NamesDiffer, Reaches}
 use Rattle.sj_bodies.specs.Worlds.{World, nothing_made, Stands, same_undefined, same_null, same_boolean, same_char, same_box, IsBox, same_number, same_long, same_text, same_reference, no_values}
 use Rattle.sj_bodies.specs.SjPlainStanding.{suits}
 use Rattle.sj_names.proofs.Same.{impossible}
@@ -287,7 +287,7 @@ module _ (w : ir_world.World) (id : List ℕ) (fs : List EmittedMethod) (es : Li
     linked m l = let h = functions m l in subst (Linked place) h.is (linked_by proper h.method h.listed (emitted h.method h.listed))
 
     opening_same : SameState place (nothing_made (box_link place ∷ [])) (ir_world.opening w) (js_meaning.opening program)
-    opening_same = record { heaps = no_heaps place; tops = λ f t h. top_there t h; statics = λ f c g t h. impossible h }
+    opening_same = record { heaps = no_heaps place; tops = λ f t h. top_there t h; statics = λ f c g t h. impossible h; cells = λ f c h. impossible h }
       where
         top_there : (t : Top) → is_usable has t ≡ true → TopHolds place (nothing_made (box_link place ∷ [])).owned t ((js_meaning.opening program).tops file (top_name t))
         top_there (a_function m) l = let h = functions m l in ap (λ o. js_meaning.module_cell file o (member_name m)) (module_there file (module_with fs es)) ∙ subst (λ x. js_meaning.items_cell file (map function_item_of fs ++ map call_item_of es) (member_name x) ≡ js.holds false (js.function file (member_name x))) h.is (cell_found file fs (map call_item_of es) h.method h.listed)
@@ -299,12 +299,15 @@ module _ (w : ir_world.World) (id : List ℕ) (fs : List EmittedMethod) (es : Li
         top_there (some_constants c) l = impossible l
         top_there (a_static c g t) l = impossible l
         top_there (a_setter c g t) l = impossible l
+        top_there (a_cell c) l = impossible l
+        top_there (a_loader c) l = impossible l
+        top_there (a_storer c) l = impossible l
         top_there (a_test t) l = impossible l
         top_there (a_cast t) l = impossible l
         top_there (a_helper h) l = impossible l
 
     no_objects : CallsAlone place
-    no_objects = record { received = λ f m. refl; looked = λ f c m. refl; reflected = λ f m. refl; built = λ f m. refl; made = λ f c. refl; field = λ f c g t. refl; static_field = λ f c g t. refl; static_setter = λ f c g t. refl; tests = λ f t. refl; casts = λ f t. refl; helper = λ f x. refl }
+    no_objects = record { received = λ f m. refl; looked = λ f c m. refl; reflected = λ f m. refl; built = λ f m. refl; made = λ f c. refl; field = λ f c g t. refl; static_field = λ f c g t. refl; static_setter = λ f c g t. refl; modules = λ f c. refl; stored = λ f c. refl; tests = λ f t. refl; casts = λ f t. refl; helper = λ f x. refl }
 
     names : NamesDiffer place
     names = emitted_names_differ w program (λ t. file) (λ f. has) no_room

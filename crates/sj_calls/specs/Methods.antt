@@ -59,7 +59,7 @@ pub record CallsAgree (p : Place) (m : Member) (w : World) (vs : List ir.Value) 
   pub there : (n k : ℕ) → Enough p.room 0 forward n k → Sim forward (Valued p w env (call_type m.method.result)) (ir_call p m vs env s n) (js_call p m xs u k)
   pub back : (n k : ℕ) → Enough p.room 0 backward n k → Sim backward (Valued p w env (call_type m.method.result)) (ir_call p m vs env s n) (js_call p m xs u k)
 
--- the code of no file makes an object, calls a member on one, looks one up or calls one by a reflective name, reads a field, reads or sets a static field, tests or casts a value by a function, or uses a helper
+-- the code of no file makes an object, calls a member on one, looks one up or calls one by a reflective name, reads a field, reads or sets a static field, loads or stores the one object of a class, tests or casts a value by a function, or uses a helper
 pub record CallsAlone (p : Place) : Type 0 where
   pub received : (f : Name) (m : Member) → (p.has f).received m ≡ false
   pub looked : (f : Name) (c : List ℕ) (m : MethodName) → (p.has f).looked_up c m ≡ false
@@ -69,6 +69,8 @@ pub record CallsAlone (p : Place) : Type 0 where
   pub field : (f : Name) (c g : List ℕ) (t : IrType) → (p.has f).field c g t ≡ false
   pub static_field : (f : Name) (c g : List ℕ) (t : IrType) → (p.has f).static_field c g t ≡ false
   pub static_setter : (f : Name) (c g : List ℕ) (t : IrType) → (p.has f).static_setter c g t ≡ false
+  pub modules : (f : Name) (c : List ℕ) → (p.has f).modules c ≡ false
+  pub stored : (f : Name) (c : List ℕ) → (p.has f).stored c ≡ false
   pub tests : (f : Name) (t : IrType) → (p.has f).tests t ≡ false
   pub casts : (f : Name) (t : IrType) → (p.has f).casts t ≡ false
   pub helper : (f x : Name) → (p.has f).helper x ≡ false

@@ -1,8 +1,9 @@
--- What the code of a program has of objects: members that run on receivers, constructors, classes, fields, static fields, the null check, divisions, objects that hold chars, tests,
+-- What the code of a program has of objects: members that run on receivers, constructors, classes, fields, static fields, the one objects of classes, the null check, divisions, objects that hold chars, tests,
 -- casts and identity, each where code can use it.
 use Rattle.std.specs.Prelude.{◌≡◌, ℕ, ◌≤◌, true, false, List, length, codes, Option, Some}
-use Rattle.sj_bodies.specs.Built.{has_static, can_box, can_look_up, divides, compares}
+use Rattle.sj_bodies.specs.Built.{has_static, has_cell, can_box, can_look_up, divides, compares}
 use Rattle.class_casts.specs.Classes.{class_cast_code}
+use Rattle.class_casts.specs.Modules.{loader_code, storer_code}
 use Rattle.dispatch_laws.specs.Targets.{IsTargetOf}
 use Rattle.class_casts.specs.Helpers.{helper_name}
 use Rattle.class_casts.specs.Words.{units_of}
@@ -10,7 +11,7 @@ use Rattle.class_casts.specs.FailureVariants.{NullReceiver, Division, Cast}
 use Rattle.class_casts.specs.HelperVariants.{NotNull, CastTo, Throws}
 use Rattle.class_casts.specs.Kind.{Kind}
 use Rattle.dispatch_laws.specs.Dispatch.{chain_of}
-use Rattle.dispatch_laws.specs.Meaning.{with_message}
+use Rattle.dispatch_laws.specs.Meaning.{with_message, without_parameters}
 use Rattle.dispatch_laws.specs.States as ir
 use Rattle.dispatch_laws.specs.World as ir_world
 use Rattle.js_mean.specs.Files.{owner}
@@ -19,14 +20,14 @@ use Rattle.js_mean.specs.States as js
 use Rattle.js_tree.specs.Terms.{Name}
 use Rattle.sj_bodies.specs.Desugar.{member}
 use Rattle.class_casts.specs.Pieces.{setter}
-use Rattle.dispatch_laws.specs.Templates.{check_name, static_name, setter_name}
+use Rattle.dispatch_laws.specs.Templates.{check_name, static_name, setter_name, load_name, store_name}
 use Rattle.dispatch_laws.specs.Tests.{test_name, cast_name}
 use Rattle.sj_names.specs.declared.method_names.Member.{Member}
 use Rattle.sj_names.specs.declared.method_names.MethodName.{MethodName}
 use Rattle.sj_names.specs.declared.method_names.Namespace.TheVariants.{Constructor}
 use Rattle.sj_trees.specs.declared.operators.BinaryOp.{BinaryOp}
 use Rattle.sj_trees.specs.declared.types.IrType.{IrType}
-use Rattle.sj_bodies.specs.Settings.{Place, SameState, SameStored, HasField, HasStatic, Reaches, a_static, a_setter, a_test, a_cast, a_helper, division_helper, top_function, link_of, links_of, zeroed}
+use Rattle.sj_bodies.specs.Settings.{Place, SameState, SameStored, HasField, HasStatic, IsClass, CellsDiffer, Reaches, a_static, a_setter, a_cell, a_loader, a_storer, cell_name, a_test, a_cast, a_helper, division_helper, top_function, link_of, links_of, zeroed}
 use Rattle.sj_bodies.specs.Worlds.{World}
 use Rattle.sj_trees.specs.declared.types.IrType.TheVariants.{Class}
 use Rattle.dispatch_laws.specs.Known.{is_hijacked}
@@ -112,6 +113,25 @@ pub record StaticStands (p : Place) (c f : List ℕ) (t : IrType) : Type 0 where
   pub sets : js_meaning.code_of p.program (p.home (a_setter c f t)) (setter_name c f) ≡ Some (setter_code c f)
   pub owned : owner p.program (p.home (a_setter c f t)) (static_name c f) ≡ Some (p.home (a_setter c f t))
 
+-- the classes have the class, and each its own cell, which stands in a file that has it for its own
+pub record CellStands (p : Place) (c : List ℕ) : Type 0 where
+  pub class : IsClass p.classes c
+  pub differ : CellsDiffer p
+  pub owned : owner p.program (p.home (a_cell c)) (cell_name c) ≡ Some (p.home (a_cell c))
+
+-- the function that stores the one object of a class stands beside its cell
+pub record StoreStands (p : Place) (c : List ℕ) : Type 0 where
+  pub beside : p.home (a_storer c) ≡ p.home (a_cell c)
+  pub stores : js_meaning.code_of p.program (p.home (a_storer c)) (store_name c) ≡ Some (storer_code c)
+
+-- and so does the one that loads it, where the object can be made and the constructor can be used
+pub record LoadStands (p : Place) (c : List ℕ) : Type 0 where
+  pub beside : p.home (a_loader c) ≡ p.home (a_cell c)
+  pub loads : js_meaning.code_of p.program (p.home (a_loader c)) (load_name c) ≡ Some (loader_code c)
+  pub reaches : Reaches p (p.home (a_loader c))
+  pub built : (p.has (p.home (a_loader c))).built (member c Constructor without_parameters) ≡ true
+  pub made : (p.has (p.home (a_loader c))).made c ≡ true
+
 -- what the code of any file can use is there, what a call of a public member runs is its target, and what is looked up is found on each instance, and each value answers a reflective name; no object is made of a hijacked class; and around a call there are three units, and one beyond those of the IR: a call by a reflective name takes three, for the function, the entry of the name and that of the method
 pub record HasObjects (p : Place) : Type 0 where
   pub linked : (f : Name) (m : Member) → (p.has f).linked m ≡ true → Linked p m
@@ -125,6 +145,9 @@ pub record HasObjects (p : Place) : Type 0 where
   pub objects : (f : Name) (c : List ℕ) → (p.has f).made c ≡ true → is_hijacked c ≡ false
   pub field : (f : Name) (c g : List ℕ) (t : IrType) → (p.has f).field c g t ≡ true → HasField p c g t
   pub statics : (f : Name) (c g : List ℕ) (t : IrType) → has_static (p.has f) c g t ≡ true → StaticStands p c g t
+  pub cells : (f : Name) (c : List ℕ) → has_cell (p.has f) c ≡ true → CellStands p c
+  pub stores : (f : Name) (c : List ℕ) → (p.has f).stored c ≡ true → StoreStands p c
+  pub loads : (f : Name) (c : List ℕ) → (p.has f).modules c ≡ true → LoadStands p c
   pub checked : (f : Name) → (p.has f).helper check_name ≡ true → CanCheck p
   pub divided : (f : Name) (o : BinaryOp) → divides (p.has f) o ≡ true → CanDivide p o
   pub boxes : (f : Name) → can_box (p.has f) ≡ true → BoxStands p

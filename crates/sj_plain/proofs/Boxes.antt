@@ -35,7 +35,7 @@ use Rattle.sj_trees.specs.declared.types.IrType.TheVariants.{Any, Char, Class}
 use Rattle.ir_mean.specs.Known.{Classes}
 use Rattle.ir_mean.specs.Laws.{IsPlain}
 use Rattle.ir_mean.specs.Subtypes.{IsSub}
-use Rattle.sj_plain.specs.Settings.{Place, Setting, shown, usable, Top, a_static, a_helper, some_constants, TopHolds, top_name, box_link, SameState, Valued, valued, thrown, Based, Lawful, Inside, BoxesAlike, MayBox}
+use Rattle.sj_plain.specs.Settings.{Place, Setting, shown, usable, Top, a_static, a_cell, cell_name, a_helper, some_constants, TopHolds, top_name, box_link, SameState, Valued, valued, thrown, Based, Lawful, Inside, BoxesAlike, MayBox}
 use Rattle.sj_plain.specs.Standing.{suits, Takes}
 use Rattle.sj_plain.specs.Worlds.{with_owned}
 use Rattle.body_rules.specs.Templates.{static_name}
@@ -58,7 +58,7 @@ module _ (p : Place) (w : World) (s : ir.State) (u : js.State) (same : SameState
   more_owned = with_owned (js_objects.next_address u) o w
 
   pub state-owns : ((constants : Name → Option js.Value) → o ≡ js.plain [] constants → ⊥) → SameState p more_owned s (js_objects.with_stored o u)
-  state-owns classed = record { heaps = owns p w s.heap u.heap same.heaps o classed; tops = λ f t h. top-carry p w.owned more_owned.owned (owned-still p w s.heap u.heap same.heaps o) t (u.tops (p.home t) (top_name t)) (same.tops f t h); statics = λ f c n t h. holding-carry w more_owned t (λ i a e. e) (owned-still p w s.heap u.heap same.heaps o) refl (s.statics c n) (u.tops (p.home (a_static c n t)) (static_name c n)) (same.statics f c n t h) }
+  state-owns classed = record { heaps = owns p w s.heap u.heap same.heaps o classed; tops = λ f t h. top-carry p w.owned more_owned.owned (owned-still p w s.heap u.heap same.heaps o) t (u.tops (p.home t) (top_name t)) (same.tops f t h); statics = λ f c n t h. holding-carry w more_owned t (λ i a e. e) (owned-still p w s.heap u.heap same.heaps o) refl (s.statics c n) (u.tops (p.home (a_static c n t)) (static_name c n)) (same.statics f c n t h); cells = λ f c h. holding-carry w more_owned (class_type c) (λ i a e. e) (owned-still p w s.heap u.heap same.heaps o) refl (Some (s.cells c)) (u.tops (p.home (a_cell c)) (cell_name c)) (same.cells f c h) }
 
   pub grows-owned : Grows w more_owned
   grows-owned = record { places = λ i a e. e; classes = λ i a c e k. k; owns = owned-still p w s.heap u.heap same.heaps o; pends = λ a b e. e; boxes = refl }

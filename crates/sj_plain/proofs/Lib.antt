@@ -12,6 +12,7 @@ pub mod Tops
 pub mod Divided
 pub mod Objects
 pub mod Looked
+pub mod Modules
 pub mod Received
 pub mod Reflected
 pub mod Tests

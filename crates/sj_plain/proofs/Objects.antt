@@ -32,7 +32,7 @@ use Rattle.sj_trees.specs.Types.{class_type}
 use Rattle.sj_trees.specs.declared.types.IrType.{IrType}
 use Rattle.sj_trees.specs.declared.types.IrType.TheVariants.{NoType}
 use Rattle.body_rules.proofs.Statics.{read_static}
-use Rattle.sj_plain.specs.Settings.{Setting, shown, usable, IsField, FieldsDiffer, SameField, same_field, no_field, SameStored, same_object, HasNoEntries, SameHeap, SameState, Valued, valued, thrown, Based, Lawful, a_constructor, a_class, a_method, a_static, a_setter, a_helper, Holding, holding, top_function, top_call, links_of, Inside, Makes, makes, Built, built, failed, zeroed, IsReceiver}
+use Rattle.sj_plain.specs.Settings.{Setting, shown, usable, IsField, FieldsDiffer, SameField, same_field, no_field, SameStored, same_object, HasNoEntries, SameHeap, SameState, Valued, valued, thrown, Based, Lawful, a_constructor, a_class, a_method, a_static, a_setter, a_cell, cell_name, a_helper, Holding, holding, top_function, top_call, links_of, Inside, Makes, makes, Built, built, failed, zeroed, IsReceiver}
 use Rattle.body_rules.specs.Standing.{Fits, FitAll, types_referred, call_type}
 use Rattle.sj_plain.specs.Worlds.{with_pending, with_born}
 use Rattle.sj_plain.proofs.Heaps.{writes, births, stored-carry, holding-carry, numbers-same, place-there}
@@ -113,7 +113,7 @@ module _ (z : Setting) (law : Based z) where
 
       by : (old : Option ir.Value) → Sim z.direction F (ir_meaning.assigned (ir_meaning.if_there old (ir.at_address i (ir.object d (ir.with_field c f v fields)) s)) env s) (done (js.ends js.normally sc (js_objects.at_address a with_it u)))
       by None = sim_wrong z.direction F _
-      by (Some old) = sim_done z.direction F (ir.ends (ir.gives ir.undefined) env (ir.at_address i (ir.object d (ir.with_field c f v fields)) s)) (js.ends js.normally sc (js_objects.at_address a with_it u)) (goes _ _ (record { heaps = writes z.place y s.heap u.heap same.heaps i a d (ir.object d (ir.with_field c f v fields)) with_it there known (same_object d (ir.with_field c f v fields) (js_objects.with_property (property_name c f) x properties) (record { address = told.address; constants = told.constants; held = told.held; owned = told.owned; marked = told.marked; known = told.known }) (no_entries_with c f x properties bare) (written differ y v x c f t fields properties has alike fs)); tops = same.tops; statics = same.statics }))
+      by (Some old) = sim_done z.direction F (ir.ends (ir.gives ir.undefined) env (ir.at_address i (ir.object d (ir.with_field c f v fields)) s)) (js.ends js.normally sc (js_objects.at_address a with_it u)) (goes _ _ (record { heaps = writes z.place y s.heap u.heap same.heaps i a d (ir.object d (ir.with_field c f v fields)) with_it there known (same_object d (ir.with_field c f v fields) (js_objects.with_property (property_name c f) x properties) (record { address = told.address; constants = told.constants; held = told.held; owned = told.owned; marked = told.marked; known = told.known }) (no_entries_with c f x properties bare) (written differ y v x c f t fields properties has alike fs)); tops = same.tops; statics = same.statics; cells = same.cells }))
 
   -- a field of an object is written: the IR gives undef, and the statement ends normally, in states that stand for each other
   pub field_written : FieldsDiffer z.place → (F : ir.Ended → js.StatementEnd → Type 0) (y : World) (env : ir.Env) (sc : js.Scope) (s : ir.State) (u : js.State) (own : IrType) (r v : ir.Value) (q x : js.Value) (c f : List ℕ) (t : IrType) → IsField z.place.classes c f t → SameValue y own r q → SameValue y t v x → SameState z.place y s u → ((s : ir.State) (u : js.State) → SameState z.place y s u → F (ir.ends (ir.gives ir.undefined) env s) (js.ends js.normally sc u)) → Sim z.direction F (ir_meaning.assign_field c f (r ∷ v ∷ []) env s) (js_meaning.with_state (js_objects.set_property q (property_name c f) x u) sc u)
@@ -163,7 +163,7 @@ module _ (z : Setting) (law : Based z) where
       placed j b e = placed-still y s.heap u.heap same.heaps j b a e (j == i) refl
 
       states : SameState z.place born (ir.with_stored (zeroed z.place c) s) u
-      states = record { heaps = births z.place y s.heap u.heap same.heaps a o c (zeroed z.place c) (g.pends a o (here-some a o (w.pending a))) free (record { file = z.code.file; made = made }) (stored-carry z.place w y g.places g.owns g.boxes c (Some (zeroed z.place c)) (Some o) shape); tops = same.tops; statics = λ q d n t l. holding-carry y born t placed (λ b d e. e) refl (s.statics d n) (u.tops (z.place.home (a_static d n t)) (static_name d n)) (same.statics q d n t l) }
+      states = record { heaps = births z.place y s.heap u.heap same.heaps a o c (zeroed z.place c) (g.pends a o (here-some a o (w.pending a))) free (record { file = z.code.file; made = made }) (stored-carry z.place w y g.places g.owns g.boxes c (Some (zeroed z.place c)) (Some o) shape); tops = same.tops; statics = λ q d n t l. holding-carry y born t placed (λ b d e. e) refl (s.statics d n) (u.tops (z.place.home (a_static d n t)) (static_name d n)) (same.statics q d n t l); cells = λ q d l. holding-carry y born (class_type d) placed (λ b d e. e) refl (Some (s.cells d)) (u.tops (z.place.home (a_cell d)) (cell_name d)) (same.cells q d l) }
 
       grown : Grows w born
       grown = record { places = λ j b e. placed j b (g.places j b e); classes = λ j b d e k. classed-still y s.heap u.heap same.heaps j b c d (g.places j b e) (g.classes j b d e k) (j == i) refl; owns = g.owns; boxes = g.boxes; pends = λ b d e. pending-left w y a b d fresh e (g.pends b d (pending-kept w a b o d fresh e (b == a) refl)) (b == a) refl }

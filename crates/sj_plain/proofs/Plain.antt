@@ -40,7 +40,7 @@ use Rattle.body_rules.specs.Texts.{operand_of}
 use Rattle.body_rules.specs.Templates.{check_name, member_name, looked_up_template, expression_template, expression_templates, binary_template, unary_template, is_nonzero_literal}
 use Rattle.sj_names.proofs.Same.{impossible}
 use Rattle.sj_names.specs.declared.method_names.Member.{Member}
-use Rattle.sj_trees.specs.Term.{Term, Terms, no_terms, more_terms, var_def, skip, block_of, labeled, assign, return_to, if_then, while_loop, do_while, throw, try_catch, match_on, new_object, select, select_static, apply, apply_statically, this_ref, apply_static, unary_op, binary_op, is_instance_of, as_instance_of, log_line, undefined_literal, null_literal, boolean_literal, char_literal, byte_literal, short_literal, int_literal, long_literal, string_literal, var_ref}
+use Rattle.sj_trees.specs.Term.{Term, Terms, no_terms, more_terms, var_def, skip, block_of, labeled, assign, return_to, if_then, while_loop, do_while, throw, try_catch, match_on, new_object, select, select_static, apply, apply_statically, this_ref, apply_static, unary_op, binary_op, is_instance_of, as_instance_of, log_line, undefined_literal, null_literal, boolean_literal, char_literal, byte_literal, short_literal, int_literal, long_literal, string_literal, var_ref, load_module, store_module}
 use Rattle.sj_trees.specs.TypeOf.{type_of_term, unary_result, binary_result}
 use Rattle.sj_trees.specs.declared.operators.BinaryOp.{BinaryOp}
 use Rattle.sj_trees.specs.declared.operators.BinaryOp.TheVariants.{StrictEqual, StrictNotEqual, StringConcatenate, IntDivide, IntRemainder, LongDivide, LongRemainder, LongShiftLeft, LongShiftRightLogical, LongShiftRightArithmetic}
@@ -62,6 +62,7 @@ use Rattle.sj_plain.proofs.Divisions.{division_alike, dividend_alone}
 use Rattle.sj_plain.proofs.Operators.{template_value, is_direct}
 use Rattle.sj_plain.proofs.Reflected.{reflected_call_alike}
 use Rattle.sj_plain.proofs.Looked.{as_instances, array_call_alike, looked_call_alike}
+use Rattle.sj_plain.proofs.Modules.{load_alike}
 use Rattle.sj_plain.proofs.Objects.{select_alike, static_alike, new_alike, received_call_alike, checked_alike}
 use Rattle.sure_receivers.specs.Sure.{is_sure}
 use Rattle.sj_names.specs.declared.method_names.Namespace.TheVariants.{Public, Private, Constructor}
@@ -557,6 +558,7 @@ module _ (z : Setting) (lawful : Lawful z) (scope : Scope) where
           let operands = each_made (usable z) (boxes_as_text e) (any_boxes_as_text ts) parts.1 in
           called_tree p e m ts t h parts.0 (λ c on. tree_alike e h.1 operands.0 x.0 (value_apart z.place.classes (usable z) scene e h.1 (value_below z.place.classes law (type_of_term e) (class_type c) on (class_value c)))) (trees_alike ts m.params h.2 operands.1 x.1)
       tree_alike (select_static p c f t) h boxed k v = record { alike = λ w env s sc u sees same. static_alike z lawful.base c f t h.built w env s sc u sees.inside same; told = refl }
+      tree_alike (load_module p c) h boxed k v = record { alike = λ w env s sc u sees same. load_alike z lawful c h.built w env s sc u sees.inside same; told = refl }
       tree_alike (this_ref p t) h boxed k v = this_tree p t h
       tree_alike (apply_static p c n m ts t) h boxed k v = let parts = each_made (usable z) (any_is_boxed m.params ts) (any_boxes_as_text ts) boxed in call_tree p c n m ts t h parts.0 (trees_alike ts m.params h.1 parts.1 k (arguments_there z.place.classes (usable z) ts m.params parts.0 h.0.finds h.0.meets.2))
       tree_alike (unary_op p o e) h boxed k v = unary_tree p o e (fits-unary z.place.classes law o (type_of_term e) h.0.meets) (tree_alike e h.1 boxed k (value_apart z.place.classes (usable z) scene e h.1 (value_below z.place.classes law (type_of_term e) (unary_operand o) h.0.meets (value_none (unary_operand o) (unary-operand-value o)))))
@@ -583,6 +585,7 @@ module _ (z : Setting) (lawful : Lawful z) (scope : Scope) where
       tree_alike (do_while p b c) h boxed k v = impossible k
       tree_alike (throw p e) h boxed k v = impossible k
       tree_alike (try_catch p e x d t) h boxed k v = impossible k
+      tree_alike (store_module p c e) h boxed k v = impossible k
       tree_alike (match_on p e cs d t) h boxed k v = impossible k
       tree_alike (log_line p e) h boxed k v = impossible k
       tree_alike _ h boxed k v = impossible h.built

@@ -24,9 +24,9 @@ use Rattle.outcomes.specs.Shown as shown_ends
 use Rattle.sj_core.specs.Terms as core
 use Rattle.body_rules.specs.Coercions.{is_char}
 use Rattle.body_rules.specs.Tests.{test_name, cast_name}
-use Rattle.body_rules.specs.Templates.{called_member, check_name, member_name, static_name, setter_name, expression_template, statement_templates}
+use Rattle.body_rules.specs.Templates.{called_member, check_name, member_name, static_name, setter_name, load_name, store_name, expression_template, statement_templates}
 use Rattle.sj_mangling.specs.Bindings.{class_binding, field_binding, method_binding}
-use Rattle.sj_mangling.specs.declared.bindings.ClassBinding.TheVariants.{Class, Constants, Marker}
+use Rattle.sj_mangling.specs.declared.bindings.ClassBinding.TheVariants.{Class, Constants, Marker, Instance}
 use Rattle.sj_mangling.specs.declared.bindings.FieldBinding.TheVariants.{Property}
 use Rattle.sj_mangling.specs.declared.bindings.MethodBinding.TheVariants.{Entry, Dispatch, Reflective}
 use Rattle.sj_names.specs.Same.{is_same_text}
@@ -38,7 +38,7 @@ use Rattle.sj_plain.specs.Worlds.{World, with_pending, Grows, SameValue, SameVal
 use Rattle.ir_mean.specs.Ancestors.{IsAncestor}
 use Rattle.ir_mean.specs.Known.{is_hijacked}
 use Rattle.ir_mean.specs.Subtypes.{IsSub}
-use Rattle.body_rules.specs.Built.{Usable, has_static, can_box, divides, compares, can_look_up}
+use Rattle.body_rules.specs.Built.{Usable, has_static, has_cell, can_box, divides, compares, can_look_up}
 use Rattle.body_rules.specs.Locals.{Scope, HasValue}
 use Rattle.body_rules.specs.Standing.{types_referred, call_type}
 use Rattle.sj_trees.specs.declared.classes.ClassDef.{ClassDef}
@@ -53,7 +53,8 @@ use Rattle.sj_trees.specs.declared.types.IrType.TheVariants.{Any, Boolean, Array
 
 -- a binding at the top of a file of the emitted code: the function of a static member, of one that runs on a receiver, and of a constructor; the function that tells
 -- the receivers of a method apart, and the one by which receivers are called under a reflective name; a class, and
--- its constants; the variable of a static field of this type, and the function that sets it; the test of a type, and the cast to it; and a helper
+-- its constants; the variable of a static field of this type, and the function that sets it; the variable that is the cell of a class, and the functions that load and
+-- store its one object; the test of a type, and the cast to it; and a helper
 pub data Top : Type 0 where
   a_function : Member → Top
   a_method : Member → Top
@@ -64,9 +65,16 @@ pub data Top : Type 0 where
   some_constants : List ℕ → Top
   a_static : List ℕ → List ℕ → IrType → Top
   a_setter : List ℕ → List ℕ → IrType → Top
+  a_cell : List ℕ → Top
+  a_loader : List ℕ → Top
+  a_storer : List ℕ → Top
   a_test : IrType → Top
   a_cast : IrType → Top
   a_helper : Helper → Top
+
+-- the variable that is the cell of a class
+abbrev pub cell_name : List ℕ → Name
+cell_name = class_binding Instance
 
 abbrev pub top_name : Top → Name
 top_name (a_function m) = member_name m
@@ -78,6 +86,9 @@ top_name (a_class c) = class_binding Class c
 top_name (some_constants c) = class_binding Constants c
 top_name (a_static c f t) = static_name c f
 top_name (a_setter c f t) = setter_name c f
+top_name (a_cell c) = cell_name c
+top_name (a_loader c) = load_name c
+top_name (a_storer c) = store_name c
 top_name (a_test t) = test_name t
 top_name (a_cast t) = cast_name t
 top_name (a_helper h) = helper_name h
@@ -93,13 +104,17 @@ is_usable has (a_class c) = has.live c
 is_usable has (some_constants c) = has.live c
 is_usable has (a_static c f t) = has.static_field c f t
 is_usable has (a_setter c f t) = has.static_setter c f t
+is_usable has (a_cell c) = has_cell has c
+is_usable has (a_loader c) = has.modules c
+is_usable has (a_storer c) = has.stored c
 is_usable has (a_test t) = has.tests t
 is_usable has (a_cast t) = has.casts t
 is_usable has (a_helper h) = has.helper (helper_name h)
 
--- and names it: any but the constants of a class, which the class alone names
+-- and names it: any but the constants of a class, which the class alone names, and its cell, which the functions that load and store its one object name
 abbrev pub is_named : Usable → Top → Bool
 is_named has (some_constants c) = false
+is_named has (a_cell c) = false
 is_named has t = is_usable has t
 
 -- what is fixed: the two programs, the names that stand for variables and labels, the file of each binding, what the code of each file can use, and the
@@ -263,23 +278,25 @@ pub record HoldsCharConstants (owned : ℕ → Option js.Stored) (cell : js.Cell
 pub data Holding (w : World) (t : IrType) : Option ir.Value → js.Cell → Type 0 where
   holding : (v : ir.Value) (x : js.Value) → SameValue w t v x → Holding w t (Some v) (js.holds false x)
 
--- what a binding at the top holds once its file has run, by what the emitted code has for itself; the variable of a static field changes, so that it is asked for
--- by itself
+-- what a binding at the top holds once its file has run, by what the emitted code has for itself; the variable of a static field and the cell of a class
+-- change, so that they are asked for by themselves
 abbrev pub TopHolds : Place → (ℕ → Option js.Stored) → Top → js.Cell → Type 0
 TopHolds p owned (a_function m) cell = cell ≡ js.holds false (function_of_member p m)
 TopHolds p owned (a_class c) cell = cell ≡ js.holds false (js.class (links_of p c))
 TopHolds p owned (some_constants c) cell = HoldsConstants owned c cell
 TopHolds p owned (a_static c f t) cell = Unit {0}
+TopHolds p owned (a_cell c) cell = Unit {0}
 TopHolds p owned (a_helper BoxedChar) cell = cell ≡ js.holds false (js.class (box_link p ∷ []))
 TopHolds p owned (a_helper (ConstantsOf kinds.Char)) cell = HoldsCharConstants owned cell
 TopHolds p owned t cell = cell ≡ js.holds false (top_function p t)
 
--- the states stand for each other: the heaps do; what the code of some file can use holds what it is to hold; and so do the static fields that it can use, each in
--- its variable
+-- the states stand for each other: the heaps do; what the code of some file can use holds what it is to hold; and so do the static fields and the cells of classes that it
+-- can use, each in its variable
 pub record SameState (p : Place) (w : World) (s : ir.State) (u : js.State) : Type 0 where
   pub heaps : SameHeap p w s.heap u.heap
   pub tops : (f : Name) (t : Top) → is_usable (p.has f) t ≡ true → TopHolds p w.owned t (u.tops (p.home t) (top_name t))
   pub statics : (g : Name) (c f : List ℕ) (t : IrType) → has_static (p.has g) c f t ≡ true → Holding w t (s.statics c f) (u.tops (p.home (a_static c f t)) (static_name c f))
+  pub cells : (g : Name) (c : List ℕ) → has_cell (p.has g) c ≡ true → Holding w (class_type c) (Some (s.cells c)) (u.tops (p.home (a_cell c)) (cell_name c))
 
 -- a name that no variable has: those of functions, and of whatever else stands at the top of a file
 abbrev pub OfNoVariable : Place → Name → Type 0
@@ -385,6 +402,14 @@ ReflectsAlike z m = (w : World) (v : ir.Value) (x : js.Value) (vs : List ir.Valu
 abbrev pub SetsAlike : Setting → List ℕ → List ℕ → IrType → Type 0
 SetsAlike z c f t = (w : World) (v : ir.Value) (x : js.Value) (env : ir.Env) (s : ir.State) (u : js.State) → SameValue w t v x → SameState z.place w s u → Sim z.direction (Valued z.place w env NoType) (ir_meaning.assign_static c f (v ∷ []) env s) (top_call z.place z.js_low (a_setter c f t) (x ∷ []) u)
 
+-- the object of a class is stored in its cell, and a call of the function that stores it
+abbrev pub StoresAlike : Setting → List ℕ → Type 0
+StoresAlike z c = (w : World) (v : ir.Value) (x : js.Value) (env : ir.Env) (s : ir.State) (u : js.State) → SameValue w (class_type c) v x → SameState z.place w s u → Sim z.direction (Valued z.place w env NoType) (ir_meaning.store c (v ∷ []) env s) (top_call z.place z.js_low (a_storer c) (x ∷ []) u)
+
+-- it is loaded, and made where there is none yet, and a call of the function that loads it
+abbrev pub LoadsAlike : Setting → List ℕ → Type 0
+LoadsAlike z c = (w : World) (env : ir.Env) (s : ir.State) (u : js.State) → SameState z.place w s u → Sim z.direction (Valued z.place w env (class_type c)) (ir_meaning.load z.place.classes z.low c (s.cells c) env s) (top_call z.place z.js_low (a_loader c) [] u)
+
 -- two fields of the classes have two properties, and a field has one type
 pub record FieldsDiffer (p : Place) : Type 0 where
   pub properties : (c f d g : List ℕ) (s t : IrType) → IsField p.classes c f s → IsField p.classes d g t → pointwise nat_eq (field_binding Property d g) (field_binding Property c f) ≡ (is_same_text d c && is_same_text g f)
@@ -407,7 +432,16 @@ pub record HasStatic (p : Place) (c f : List ℕ) (t : IrType) : Type 0 where
   pub value : HasValue t
   pub differ : StaticsDiffer p
 
--- subtyping is ordered, and what the levels below give of what is called, set and made; a class of which objects are made has its code there, and is not hijacked
+-- the classes have a class of this name
+pub record IsClass (classes : ir_world.World) (c : List ℕ) : Type 0 where
+  pub definition : ClassDef
+  pub found : ir_world.class_of classes c ≡ Some definition
+
+-- two classes have two cells
+abbrev pub CellsDiffer : Place → Type 0
+CellsDiffer p = (c d : List ℕ) → IsClass p.classes c → IsClass p.classes d → pointwise nat_eq (cell_name d) (cell_name c) ≡ is_same_text d c
+
+-- subtyping is ordered, and what the levels below give of what is called, set, stored and made; a class of which objects are made has its code there, and is not hijacked
 pub record Based (z : Setting) : Type 0 where
   pub ordered : IsSubtyping (IsSub z.place.classes)
   pub names : NamesDiffer z.place
@@ -415,6 +449,7 @@ pub record Based (z : Setting) : Type 0 where
   pub fields : (c f : List ℕ) (t : IrType) → (usable z).field c f t ≡ true → HasField z.place c f t
   pub statics : (c f : List ℕ) (t : IrType) → has_static (usable z) c f t ≡ true → HasStatic z.place c f t
   pub sets : (c f : List ℕ) (t : IrType) → (usable z).static_setter c f t ≡ true → SetsAlike z c f t
+  pub stores : (c : List ℕ) → (usable z).stored c ≡ true → StoresAlike z c
   pub calls : (m : Member) → (usable z).linked m ≡ true → CallsAlike z m
   pub receives : (m : Member) → (usable z).received (called_member (usable z).lookup m.namespace m) ≡ true → ReceivesAlike z m
   pub builds : (m : Member) → (usable z).built m ≡ true → BuildsAlike z m
@@ -462,11 +497,12 @@ BoxesAlike z = (t : IrType) (c : ℕ) (w : World) (env : ir.Env) (s : ir.State) 
 abbrev pub MayBox : Setting → IrType → IrType → Type 0
 MayBox z expected own = (is_char own && not (is_char expected)) ≡ true → ((usable z).helper (helper_name BoxedChar) ≡ true) × BoxesAlike z
 
--- what the levels below give to trees, with what is looked up and what helpers do
+-- what the levels below give to trees, with what is looked up and loaded and what helpers do
 pub record Lawful (z : Setting) : Type 0 where
   pub base : Based z
   pub looks : (c : List ℕ) (m : MethodName) → can_look_up (usable z) c m ≡ true → LooksUp ((usable z).lookup.has_hijacked c) z c m
   pub reflects : (m : MethodName) → (usable z).reflected m ≡ true → ReflectsAlike z m
+  pub loads : (c : List ℕ) → (usable z).modules c ≡ true → LoadsAlike z c
   pub checks : (usable z).helper check_name ≡ true → ChecksAlike z
   pub divisions : (o : BinaryOp) → divides (usable z) o ≡ true → DividesAlike z o
   pub boxes : can_box (usable z) ≡ true → BoxesAlike z
