@@ -11,9 +11,4 @@ trap 'rm -rf "$out"' EXIT
 ../../sjslink.sh link --optimize off entries "$out" "$out/classes"
 
 # The program ends by an exception that nothing catches; node names its class.
-if command -v node > /dev/null; then
-  cp "$out/1/main.js" "$out/main.mjs"
-  node "$out/main.mjs" 2> "$out/thrown" || grep -o -m 1 'c_java_lang_NullPointerException' "$out/thrown"
-else
-  cat "$out/1/main.js"
-fi
+../module.sh "$out/1/main.js" 2> "$out/thrown" || grep -o -m 1 'c_java_lang_NullPointerException' "$out/thrown"

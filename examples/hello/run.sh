@@ -11,9 +11,4 @@ mkdir "$out/classes"
 ../../sjsir.sh make java.lang.Object.listing "$out/classes/java.lang.Object.sjsir"
 ../../sjslink.sh link --optimize off entries "$out" "$out/classes"
 
-if command -v node > /dev/null; then
-  cp "$out/1/main.js" "$out/main.mjs"
-  node "$out/main.mjs"
-else
-  cat "$out/1/main.js"
-fi
+../module.sh "$out/1/main.js"

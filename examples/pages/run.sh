@@ -9,11 +9,6 @@ trap 'rm -rf "$out"' EXIT
 ../make.sh listings "$out/classes"
 ../../sjslink.sh link --split fewest --optimize off entries "$out" "$out/classes"
 
-echo '{"type": "module"}' > "$out/1/package.json"
 for page in shop admin; do
-  if command -v node > /dev/null; then
-    node "$out/1/$page.js"
-  else
-    cat "$out/1/$page.js"
-  fi
+  ../module.sh "$out/1/$page.js"
 done

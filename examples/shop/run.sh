@@ -10,9 +10,4 @@ trap 'rm -rf "$out"' EXIT
 ../make.sh listings "$out/classes"
 ../../sjslink.sh link --optimize off entries "$out" "$out/classes"
 
-if command -v node > /dev/null; then
-  cp "$out/1/main.js" "$out/main.mjs"
-  node "$out/main.mjs"
-else
-  cat "$out/1/main.js"
-fi
+../module.sh "$out/1/main.js"

@@ -19,10 +19,5 @@ status=0
 [ "$status" = 1 ]
 
 for edit in 1 2; do
-  if command -v node > /dev/null; then
-    cp "$out/$edit/main.js" "$out/main-$edit.mjs"
-    node "$out/main-$edit.mjs"
-  else
-    cat "$out/$edit/main.js"
-  fi
+  ../module.sh "$out/$edit/main.js"
 done

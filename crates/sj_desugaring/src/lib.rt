@@ -14,7 +14,7 @@ mod writing;
 pub use destinations::{Destination, Target, target_of, with_label};
 pub use forms::{
     CalledMember, Operation, SwitchCases, assigned, binary_value, branched, call_value, case_of,
-    declared, defined, logged, looped, looped_behind, switched, tested_loop, unary_value,
+    declared, defined, logged, looped, looped_behind, switched, tested_loop, tried, unary_value,
 };
 pub use jumps::{labeled, leaving};
 pub use objects::{
