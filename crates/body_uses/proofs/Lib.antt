@@ -45,3 +45,4 @@ pub use Rattle.object_folders.proofs.Topped
 pub use Rattle.object_folders.proofs.Facts
 pub use Rattle.object_folders.proofs.LinkedEntriesOne
 pub use Rattle.resolution_laws.proofs.Proxies
+pub use Rattle.object_folders.proofs.Stores

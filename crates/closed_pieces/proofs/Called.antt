@@ -9,7 +9,7 @@ use Rattle.linked_folders.specs.Built.{Usable, can_call, stands, is_built, are_b
 use Rattle.linked_folders.proofs.WrittenTrees.{written, written_below, all_written, cases_written}
 use Rattle.sj_desugar.specs.Desugar.{callee_of}
 use Rattle.sj_names.proofs.Same.{impossible}
-use Rattle.sj_trees.specs.Term.{Term, Terms, no_terms, more_terms, Cases, no_cases, more_cases, var_def, block_of, labeled, assign, return_to, if_then, while_loop, do_while, match_on, throw, new_object, select, select_static, apply, apply_statically, apply_static, unary_op, binary_op, is_instance_of, as_instance_of, var_ref, log_line}
+use Rattle.sj_trees.specs.Term.{Term, Terms, no_terms, more_terms, Cases, no_cases, more_cases, var_def, block_of, labeled, assign, return_to, if_then, while_loop, do_while, match_on, throw, new_object, store_module, select, select_static, apply, apply_statically, apply_static, unary_op, binary_op, is_instance_of, as_instance_of, var_ref, log_line}
 use Rattle.sj_trees.specs.TypeOf.{type_of_term}
 
 abbrev pub Called : Usable → Term → Type 0
@@ -58,6 +58,7 @@ module _ (has : Usable) (checked : Term → Bool) where
         let second = and_parts (are_built_cases has checked cs) (built d) first.1 in
         top (match_on p e cs d t) tt (pair (written e ++ cases_written cs) (written d) (pair (written e) (cases_written cs) (each_called e first.0) (cases_called cs second.0)) (each_called d second.1))
     each_called (new_object p c m ts) h = top (new_object p c m ts) tt (all_called ts (and_parts (own (new_object p c m ts)) (all_built ts) h).1)
+    each_called (store_module p c e) h = top (store_module p c e) tt (each_called e (and_parts (own (store_module p c e)) (built e) h).1)
     each_called (select p e c f t) h = top (select p e c f t) tt (each_called e (and_parts (own (select p e c f t)) (built e) h).1)
     each_called (apply p e m ts t) h =
         let first = and_parts (own (apply p e m ts t)) (built e && all_built ts) h in

@@ -1,14 +1,21 @@
--- What the pieces of an accepted folder declare: functions of needed bodies, live classes, static fields that are needed, tests of classes and casts to them, and helpers.
+-- What the pieces of an accepted folder declare: functions of needed bodies, live classes, static fields that are needed, cells of modules that are loaded or stored, tests of classes and casts to them, and helpers.
 use Rattle.std.proofs.Common.{◌≡◌, ◌↔◌, ◌++◌, ◌||◌, Bool, true, List, [], ◌∷◌, Option, Some, refl, sym, ap, subst, ◌∙◌, Contains}
 use Rattle.std.specs.List.{flat_map}
 use Rattle.std.proofs.lemmas.List.Elements.{Contains-append_left, Contains-append_right}
+use Rattle.std.proofs.lemmas.Bool.{or_left, or_right}
 use Rattle.std.proofs.lemmas.List.Sorted.{Contains-permutation}
 use Rattle.linked_folders.proofs.Blocks.{OwnPieces, own_pieces, method_there, helper_there, told_there}
+use Rattle.linked_folders.proofs.Calls.{needed}
+use Rattle.linked_folders.proofs.Classes.{class-keeps}
 use Rattle.linked_folders.proofs.Derivations.{closed}
+use Rattle.linked_folders.proofs.EachTyped.{in_all}
+use Rattle.linked_folders.proofs.Found.{here, owner_of}
+use Rattle.linked_folders.proofs.Stores.{stores_own}
+use Rattle.linked_folders.proofs.Worlds.{judged}
 use Rattle.linked_folders.proofs.DeclaredPiecesLive.{classes_kept, live_there}
 use Rattle.linked_folders.proofs.Made as made
 use Rattle.linked_folders.proofs.Members.{defined}
-use Rattle.linked_folders.proofs.Parts.{class_there, statics_among, in_statics, is_reached, test_among, cast_among}
+use Rattle.linked_folders.proofs.Parts.{class_there, statics_among, in_statics, is_reached, cell_among, loader_there, storer_there, test_among, cast_among}
 use Rattle.linked_folders.specs.Accepted.{IsAccepted}
 use Rattle.linked_folders.specs.Bodies.{AreBodies}
 use Rattle.linked_folders.specs.Classes.{HasForm}
@@ -28,9 +35,11 @@ use Rattle.helper_rules.specs.declared.kinds.Helper.{Helper}
 use Rattle.js_tree.specs.Terms.{Piece}
 use Rattle.module_rules.specs.Laws.{IsDeclared}
 use Rattle.linked_folders.proofs.Plain.{class_found}
-use Rattle.linked_folders.specs.PieceRulesPieces.{Parts, pieces, when, constants_of, class_of, module_of, tests_of, class_piece, variable_piece, setter_piece, all_statics, test_piece, cast_piece, kind_of_class}
-use Rattle.sj_emit_expr.specs.Templates.{member_name, static_name, setter_name}
-use Rattle.sj_emit_expr.specs.Uses.{function_binding, class_use, static_use, setter_use}
+use Rattle.linked_folders.specs.PieceRulesPieces.{Parts, pieces, when, constants_of, class_of, module_of, tests_of, class_piece, variable_piece, setter_piece, all_statics, load_piece, store_piece, test_piece, cast_piece, kind_of_class}
+use Rattle.sj_emit_expr.specs.Templates.{member_name, static_name, setter_name, load_name, store_name}
+use Rattle.sj_emit_expr.specs.Uses.{function_binding, class_use, static_use, setter_use, load_use, store_use}
+use Rattle.sj_infos.specs.Forms.{form_of, forms_by_body}
+use Rattle.sj_infos.specs.Trees.{trees}
 use Rattle.sj_infos.specs.declared.forms.BodyForm.TheVariants as forms
 use Rattle.sj_mangling.specs.Bindings.{class_binding}
 use Rattle.sj_mangling.specs.declared.bindings.ClassBinding.TheVariants.{IsInstance, AsInstance}
@@ -40,11 +49,13 @@ use Rattle.sj_names.specs.declared.folders.SourceFile.{SourceFile}
 use Rattle.sj_names.specs.declared.method_names.Member.{Member}
 use Rattle.sj_names.specs.declared.method_names.MethodName.{MethodName}
 use Rattle.sj_split.proofs.Members.{at_first}
+use Rattle.sj_trees.specs.Term.{Term, store_module}
 use Rattle.sj_trees.specs.declared.classes.ClassDef.{ClassDef}
 use Rattle.sj_trees.specs.declared.classes.FieldDef.{FieldDef}
+use Rattle.sj_trees.specs.declared.positions.Position.{Position}
 use Rattle.sj_trees.specs.declared.types.IrType.{IrType}
 use Rattle.sj_world.proofs.Searches.{contains_at}
-use Rattle.sj_world.specs.Known.{Name, Classes}
+use Rattle.sj_world.specs.Known.{Name, Classes, class_of}
 use Rattle.sj_world.specs.Linked.{Linked}
 use Rattle.sj_world.specs.Paths.{stay}
 use Rattle.sj_world.specs.declared.facts.Fact.{Fact}
@@ -56,6 +67,7 @@ pub record Declares (entries : List EntryPoint) (l : Linked) (having : List Help
   pub classes : (c : Name) → IsLive l.world l.facts c → IsDeclared ps (class_use c)
   pub made : (c : Name) → Reachable l.world entries (Made c) → IsDeclared ps (class_use c)
   pub statics : (c f : Name) (t : IrType) → HasFieldType l.world c f true t → Reachable l.world entries (NeededField c f true) → IsDeclared ps (static_use c f) × IsDeclared ps (setter_use c f)
+  pub loads : (c : Name) → HasForm l.world l.facts (forms.Load c) → Reachable l.world entries (Needed c) → IsDeclared ps (load_use c)
   pub listed : (f : Fact) → Reachable l.world entries f → Contains l.facts f
   pub tests : (c : Name) → HasForm l.world l.facts (forms.Test c) → Reachable l.world entries (Needed c) → IsDeclared ps (bound c (class_binding IsInstance c))
   pub casts : (c : Name) → HasForm l.world l.facts (forms.Cast c) → Reachable l.world entries (Needed c) → IsDeclared ps (bound c (class_binding AsInstance c))
@@ -127,6 +139,34 @@ module _ (entries : List EntryPoint) (files : List SourceFile) (l : Linked) (all
       let casts : Piece = cast_piece its.class.name in
       record { piece = casts; among = own.there casts (cast_among its (own.are.cast.1 form)); owned = named c own; named = ap (class_binding AsInstance) (named c own) }
 
+  its_loader : (c : Name) → HasForm w l.facts (forms.Load c) → Reachable w entries (Needed c) → IsDeclared ps (load_use c)
+  its_loader c form r =
+      let own = own_of c r in
+      let its = own.parts in
+      let loader : Piece = load_piece its.class.name in
+      let loaded = own.are.loaded.1 form in
+      record { piece = loader; among = own.there loader (cell_among its (or_left its.is_loaded its.is_stored loaded) loader (loader_there its.class.name its.is_loaded loaded)); owned = named c own; named = ap load_name (named c own) }
+
+  -- a module that the body of a method stores is that of the method's class
+  pub a_storer : (e : EmittedMethod) → Contains all e → (place : Position) (c : Name) (x : Term) → Contains (trees e.its_body) (store_module place c x) → IsDeclared ps (store_use c)
+  a_storer e i place c x among =
+      let found = (bodies.found e i).found in
+      let owner = owner_of w e.member e.definition found in
+      let kept = class-keeps owner.owner (judged entries files w bytes a owner.owner owner.in_world).unbroken e.definition owner.listed in
+      let same : c ≡ e.member.class = stores_own owner.owner e.definition e.its_body (bodies.found e i).has_body kept place c x among ∙ sym owner.class_is in
+      let d = defined w e.member e.definition found in
+      let own = own_pieces l all ps p c d.class (ap (class_of w) same ∙ d.is_class) in
+      let its = own.parts in
+      let storer : Piece = store_piece its.class.name in
+      let form : HasForm w l.facts (forms.Store c) = record {
+        member = e.member;
+        needed = (exact (Body e.member)).1 (needed w entries all bodies e i);
+        definition = e.definition;
+        defined = d;
+        has = subst (λ (b : Option Term). Contains (forms_by_body b) (forms.Store c)) (sym (bodies.found e i).has_body) (in_all form_of (trees e.its_body) (store_module place c x) (forms.Store c) among (here (forms.Store c) []));
+      } in
+      record { piece = storer; among = own.there storer (cell_among its (or_right its.is_loaded its.is_stored (own.are.stored.1 form)) storer (storer_there its.class.name its.is_loaded)); owned = named c own; named = ap store_name (named c own) }
+
   a_helper : (h : Helper) → Contains p.helpers h → IsDeclared ps (helper (helper_name h))
   a_helper h i =
       let k = made.present w entries a.resolved (classes_kept entries files w bytes a) object (closed w entries (Needed object) the_object) in
@@ -154,6 +194,7 @@ module _ (entries : List EntryPoint) (files : List SourceFile) (l : Linked) (all
     classes = class;
     made = λ c r. class c (record { made = c; is_made = (exact (Made c)).1 r; on_chain = stay });
     statics = its_static;
+    loads = its_loader;
     listed = λ f. (exact f).1;
     tests = its_test;
     casts = its_cast;

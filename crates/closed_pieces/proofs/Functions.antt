@@ -23,7 +23,7 @@ use Rattle.linked_folders.specs.Emitted.{EmittedMethod}
 use Rattle.linked_folders.specs.Pieces.{piece_of_member}
 use Rattle.linked_folders.specs.Reachable.{Reachable}
 use Rattle.linked_folders.specs.Refusals.{missing_class, missing_method, abstract_target, IsPresent, no_class, no_target, no_target_body, no_method, no_hijacked_body}
-use Rattle.linked_folders.specs.ReachRulesRules.{Reads, of_call, of_new, asked_body, new_made, field_needed, resolved_class, resolved_body, call, call_class, call_hijacked, class_named}
+use Rattle.linked_folders.specs.ReachRulesRules.{Reads, of_call, of_new, asked_body, new_made, field_needed, resolved_class, resolved_body, call, call_class, call_hijacked, class_named, load_needed}
 use Rattle.linked_folders.specs.Typed.{MeetsThere}
 use Rattle.dispatch_laws.proofs.WorkedOut.{targets_are_worked_out}
 use Rattle.dispatch_laws.specs.Laws.{found_by}
@@ -51,7 +51,7 @@ use Rattle.sj_core.specs.declared.callees.Callee.TheVariants as callees
 use Rattle.sj_desugar.specs.Desugar.{callee_of, member, desugared_member, body_code, completed, is_mutable_in, result_destination}
 use Rattle.sj_emit_expr.specs.Templates.{called_member}
 use Rattle.sj_emit_expr.specs.Tests.{same_name}
-use Rattle.sj_emit_expr.specs.Uses.{call_uses, looked_up_uses, object_binding, function_binding, helper_of, test_uses, cast_uses, uses_of_all}
+use Rattle.sj_emit_expr.specs.Uses.{call_uses, looked_up_uses, object_binding, function_binding, helper_of, test_uses, cast_uses, store_use, uses_of_all}
 use Rattle.sj_infos.specs.Forms.{form_of, of_test, forms_by_body, of_call as form_call}
 use Rattle.sj_infos.specs.Forms as of_form
 use Rattle.sj_infos.specs.Infos.{asks, asked_by_body, of_static_call, of_receiver, of_type, is_any, class_cast}
@@ -60,7 +60,7 @@ use Rattle.sj_infos.specs.Trees.{trees}
 use Rattle.sj_infos.specs.declared.forms.BodyForm.{BodyForm}
 use Rattle.sj_infos.specs.declared.forms.BodyForm.TheVariants as forms
 use Rattle.sj_infos.specs.declared.infos.Info.{Info}
-use Rattle.sj_infos.specs.declared.infos.Info.TheVariants.{New, Static, Field, Resolved, Class}
+use Rattle.sj_infos.specs.declared.infos.Info.TheVariants.{New, Load, Static, Field, Resolved, Class}
 use Rattle.sj_infos.specs.declared.infos.Info.TheVariants as asked_info
 use Rattle.sj_mangling.specs.Bindings.{class_binding}
 use Rattle.sj_mangling.specs.declared.bindings.ClassBinding.TheVariants.{IsInstance, AsInstance}
@@ -71,7 +71,7 @@ use Rattle.sj_names.specs.declared.method_names.Member.{Member}
 use Rattle.sj_names.specs.declared.method_names.MethodName.{MethodName}
 use Rattle.sj_names.specs.declared.method_names.Namespace.{Namespace}
 use Rattle.sj_names.specs.declared.method_names.Namespace.TheVariants.{Public, PublicStatic, Private, PrivateStatic, Constructor}
-use Rattle.sj_trees.specs.Term.{Term, Terms, new_object, select, select_static, apply, apply_statically, apply_static, binary_op, is_instance_of, as_instance_of}
+use Rattle.sj_trees.specs.Term.{Term, Terms, new_object, load_module, store_module, select, select_static, apply, apply_statically, apply_static, binary_op, is_instance_of, as_instance_of}
 use Rattle.sj_trees.specs.TypeOf.{type_of_term}
 use Rattle.sj_trees.specs.declared.classes.ClassDef.{ClassDef}
 use Rattle.sj_trees.specs.declared.operators.BinaryOp.{BinaryOp}
@@ -86,7 +86,7 @@ use Rattle.std.proofs.lemmas.Bool.{and_parts}
 use Rattle.sure_receivers.specs.Sure.{sure_locals}
 use Rattle.closed_pieces.proofs.Declared.{Declares}
 
-module _ (entries : List EntryPoint) (files : List SourceFile) (l : Linked) (all : List EmittedMethod) (having : List Helper) (ps : List Piece) (a : IsAccepted entries files l.world) (bodies : AreBodies l.world entries all) (built : (f : EmittedMethod) → Contains all f → is_object_body f.definition f.its_body ≡ true) (d : Declares entries l having ps) (e : EmittedMethod) (i : Contains all e) (helped : (h : Helper) → Contains (piece_of_member l.world e).uses (helper (helper_name h)) → IsDeclared ps (helper (helper_name h))) (apart : (c : Name) (m : MethodName) → Reachable l.world entries (CalledOn c m) → Contains (piece_of_member l.world e).uses (helper (dispatch_name m)) → IsDeclared ps (helper (dispatch_name m))) (by_name : (m : MethodName) → IsReflective l.world l.facts m → Contains (piece_of_member l.world e).uses (helper (reflective_name m)) → IsDeclared ps (helper (reflective_name m))) where
+module _ (entries : List EntryPoint) (files : List SourceFile) (l : Linked) (all : List EmittedMethod) (having : List Helper) (ps : List Piece) (a : IsAccepted entries files l.world) (bodies : AreBodies l.world entries all) (built : (f : EmittedMethod) → Contains all f → is_object_body f.definition f.its_body ≡ true) (d : Declares entries l having ps) (e : EmittedMethod) (i : Contains all e) (helped : (h : Helper) → Contains (piece_of_member l.world e).uses (helper (helper_name h)) → IsDeclared ps (helper (helper_name h))) (apart : (c : Name) (m : MethodName) → Reachable l.world entries (CalledOn c m) → Contains (piece_of_member l.world e).uses (helper (dispatch_name m)) → IsDeclared ps (helper (dispatch_name m))) (by_name : (m : MethodName) → IsReflective l.world l.facts m → Contains (piece_of_member l.world e).uses (helper (reflective_name m)) → IsDeclared ps (helper (reflective_name m))) (stored : (place : Position) (c : Name) (x : Term) → Contains (trees e.its_body) (store_module place c x) → IsDeclared ps (store_use c)) where
   abbrev w : Classes
   w = l.world
 
@@ -266,6 +266,8 @@ module _ (entries : List EntryPoint) (files : List SourceFile) (l : Linked) (all
   brings (select_static p c f t) among s calls =
       let its = d.statics c f t s.asked (closed w entries (NeededField c f true) (field_needed c f true (asked (select_static p c f t) among (Field c f true) (here (Field c f true) [])))) in
       (λ u. its.0, λ u. its.1)
+  brings (load_module p c) among s calls = λ u. d.loads c (formed (load_module p c) among (forms.Load c) (here (forms.Load c) [])) (closed w entries (Needed c) (load_needed c (asked (load_module p c) among (Load c) (here (Load c) []))))
+  brings (store_module p c x) among s calls = λ u. stored p c x among
   brings (is_instance_of p r t) among s calls = tested t (asked (is_instance_of p r t) among) (formed (is_instance_of p r t) among)
   brings (as_instance_of p r t) among s calls = casted t (λ o h. asked (as_instance_of p r t) among o (Contains-append_left (of_type t) (if is_any t then [] else class_cast) o h)) (formed (as_instance_of p r t) among)
   brings (binary_op p o x y) among s calls = (λ n. divided o, always o)

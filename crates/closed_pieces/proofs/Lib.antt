@@ -22,6 +22,7 @@ pub use Rattle.linked_folders.proofs.Uses as BodyUsesUses
 pub use Rattle.linked_folders.proofs.Markers
 pub use Rattle.linked_folders.proofs.Assembled
 pub use Rattle.linked_folders.proofs.Blocks
+pub use Rattle.linked_folders.proofs.Cells
 pub use Rattle.linked_folders.proofs.Chains
 pub use Rattle.linked_folders.proofs.Tested
 pub use Rattle.linked_folders.proofs.Calls

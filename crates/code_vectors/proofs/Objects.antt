@@ -5,7 +5,7 @@ use Rattle.std.proofs.lemmas.Bool.{and_parts}
 use Rattle.code_vectors.specs.Forms.{is_built_operator, is_public, is_object, is_built, are_built, are_built_cases, is_built_body}
 use Rattle.sj_names.proofs.Same.{impossible}
 use Rattle.sj_pieces.specs.Owners.{OnObjects, AllOnObjects, CasesOnObjects, BodyOnObjects}
-use Rattle.sj_trees.specs.Term.{Term, Terms, no_terms, more_terms, Cases, no_cases, more_cases, var_def, block_of, labeled, assign, return_to, if_then, while_loop, do_while, throw, match_on, new_object, select, select_static, apply, apply_statically, apply_static, unary_op, binary_op, is_instance_of, as_instance_of, var_ref, this_ref, log_line}
+use Rattle.sj_trees.specs.Term.{Term, Terms, no_terms, more_terms, Cases, no_cases, more_cases, var_def, block_of, labeled, assign, return_to, if_then, while_loop, do_while, throw, match_on, new_object, load_module, store_module, select, select_static, apply, apply_statically, apply_static, unary_op, binary_op, is_instance_of, as_instance_of, var_ref, this_ref, log_line}
 use Rattle.sj_trees.specs.TypeOf.{type_of_term}
 use Rattle.sj_trees.specs.Types.{class_type}
 use Rattle.sj_trees.specs.declared.positions.Position.{Position}
@@ -28,6 +28,7 @@ object-type (select p e c f t) h = not-true (is_sure_type t) h
 object-type (select_static p c f t) h = not-true (is_sure_type t) h
 object-type (apply_static p c n m ts t) h = not-true (is_sure_type t) h
 object-type (new_object p c m ts) h = class-primitive _ Any (Class c) refl refl
+object-type (load_module p c) h = class-primitive _ Any (Class c) refl refl
 object-type _ h = impossible h
 
 assigned : (t e : Term) → OnObjects t → OnObjects e → (p : Position) → OnObjects (assign p t e)
@@ -55,6 +56,7 @@ mutual
       let r = and_parts (are_built_cases cs) (is_built d) q.1 in
       (on_objects e q.0, cases_on_objects cs r.0, on_objects d r.1)
   on_objects (new_object p c m ts) h = all_on_objects ts h
+  on_objects (store_module p c e) h = on_objects e h
   on_objects (select p e c f t) h = let q = and_parts (is_object e) (is_built e) h in (object-type e q.0, on_objects e q.1)
   on_objects (apply_statically p e c n m ts t) h =
       let q = and_parts (not (is_public n)) (is_built e && are_built ts) h in

@@ -2,7 +2,7 @@
 use Rattle.std.specs.Prelude.{Bool, true, false, ◌&&◌, not, Option, Some, None}
 use Rattle.sj_names.specs.declared.method_names.Namespace.{Namespace}
 use Rattle.sj_names.specs.declared.method_names.Namespace.TheVariants.{Public}
-use Rattle.sj_trees.specs.Term.{Term, Terms, no_terms, more_terms, Cases, no_cases, more_cases, var_def, skip, block_of, labeled, assign, return_to, if_then, while_loop, do_while, throw, match_on, new_object, select, select_static, apply_statically, apply_static, unary_op, binary_op, undefined_literal, null_literal, boolean_literal, char_literal, byte_literal, short_literal, int_literal, long_literal, string_literal, var_ref, this_ref, log_line}
+use Rattle.sj_trees.specs.Term.{Term, Terms, no_terms, more_terms, Cases, no_cases, more_cases, var_def, skip, block_of, labeled, assign, return_to, if_then, while_loop, do_while, throw, match_on, new_object, load_module, store_module, select, select_static, apply_statically, apply_static, unary_op, binary_op, undefined_literal, null_literal, boolean_literal, char_literal, byte_literal, short_literal, int_literal, long_literal, string_literal, var_ref, this_ref, log_line}
 use Rattle.sj_trees.specs.declared.operators.BinaryOp.{BinaryOp}
 use Rattle.sj_trees.specs.declared.operators.BinaryOp.TheVariants.{StrictEqual, StrictNotEqual}
 use Rattle.sure_receivers.specs.Sure.{is_sure_type}
@@ -18,7 +18,7 @@ abbrev pub is_public : Namespace → Bool
 is_public Public = true
 is_public _ = false
 
--- This, a new object, or a local, a field or the result of a call of a type whose values aren't primitive
+-- This, a new object, the one object of a class, or a local, a field or the result of a call of a type whose values aren't primitive
 abbrev pub is_object : Term → Bool
 is_object (this_ref p t) = not (is_sure_type t)
 is_object (var_ref p x t) = not (is_sure_type t)
@@ -26,6 +26,7 @@ is_object (select p e c f t) = not (is_sure_type t)
 is_object (select_static p c f t) = not (is_sure_type t)
 is_object (apply_static p c n m ts t) = not (is_sure_type t)
 is_object (new_object p c m ts) = true
+is_object (load_module p c) = true
 is_object _ = false
 
 abbrev mutual
@@ -41,6 +42,7 @@ abbrev mutual
   is_built (throw p e) = is_built e
   is_built (match_on p e cs d t) = is_built e && (are_built_cases cs && is_built d)
   is_built (new_object p c m ts) = are_built ts
+  is_built (store_module p c e) = is_built e
   is_built (select p e c f t) = is_object e && is_built e
   is_built (apply_statically p e c n m ts t) = not (is_public n) && (is_built e && are_built ts)
   is_built (apply_static p c n m ts t) = are_built ts
@@ -48,6 +50,7 @@ abbrev mutual
   is_built (binary_op p o e d) = is_built_operator o && (is_built e && is_built d)
   is_built (log_line p e) = is_built e
   is_built (skip p) = true
+  is_built (load_module p c) = true
   is_built (select_static p c f t) = true
   is_built (undefined_literal p) = true
   is_built (null_literal p) = true

@@ -34,6 +34,7 @@ fn is_built_tree(tree: &Tree) -> bool
         | Tree::Return(_, value, _)
         | Tree::Throw(_, value)
         | Tree::UnaryOp(_, _, value)
+        | Tree::StoreModule(_, _, value)
         | Tree::Log(_, value) => is_built_tree(value),
         Tree::Block(_, trees) => are_built_trees(trees),
         Tree::New(_, _, _, trees) => are_built_trees(trees),
@@ -56,6 +57,7 @@ fn is_built_tree(tree: &Tree) -> bool
         }
         Tree::Skip(_)
         | Tree::SelectStatic(_, _, _, _)
+        | Tree::LoadModule(_, _)
         | Tree::Undefined(_)
         | Tree::Null(_)
         | Tree::BooleanLiteral(_, _)
@@ -69,8 +71,6 @@ fn is_built_tree(tree: &Tree) -> bool
         | Tree::This(_, _) => true,
         Tree::TryCatch(_, _, _, _, _)
         | Tree::TryFinally(_, _, _)
-        | Tree::LoadModule(_, _)
-        | Tree::StoreModule(_, _, _)
         | Tree::Apply(_, _, _, _, _)
         | Tree::NewArray(_, _, _)
         | Tree::ArrayValue(_, _, _)
@@ -115,7 +115,7 @@ fn is_object(tree: &Tree) -> bool
         | Tree::Select(_, _, _, _, tpe)
         | Tree::SelectStatic(_, _, _, tpe)
         | Tree::ApplyStatic(_, _, _, _, _, tpe) => !is_primitive(tpe),
-        Tree::New(_, _, _, _) => true,
+        Tree::New(_, _, _, _) | Tree::LoadModule(_, _) => true,
         _ => false,
     }
 }

@@ -8,9 +8,10 @@ use Rattle.module_uses.proofs.Tested.{kind_uses, cast_kind_uses}
 use Rattle.module_uses.proofs.Written.{divisors_fit}
 use Rattle.module_uses.proofs.Markers.{marked}
 use Rattle.module_uses.proofs.KindHelpers.{helpers_of}
-use Rattle.module_uses.specs.Declared.{Spread, all_items, Leads, FunctionDeclared, ClassDeclared, ChainDeclared, extends_none, extends_one, MadeDeclared, StaticDeclared, KindTestDeclared, ClassTestDeclared, by_marker, by_kind, TestDeclared, of_kind, of_class, KindCastDeclared, ClassCastDeclared, CastDeclared, to_kind, to_class, TargetDeclared, EntryDeclared, has_entry as entry_declared_here, has_none as no_entry_declared, CaseDeclared, DispatchDeclared, KindsDeclared, no_kinds, some_kinds, LookupDeclared, TellsApart, Uses as UsesTop, Makes as CanMake, ReflectedDeclared, ReflectedKind, no_case, has_case as has_case_declared, NoEntryDeclared, none_left, none_here, ProxyDeclared, proxy_here, AnswerDeclared, no_answer, has_answer, ReflectionDeclared}
+use Rattle.module_uses.specs.Declared.{Spread, all_items, Leads, FunctionDeclared, ClassDeclared, ChainDeclared, extends_none, extends_one, MadeDeclared, StaticDeclared, StoreDeclared, LoadDeclared, KindTestDeclared, ClassTestDeclared, by_marker, by_kind, TestDeclared, of_kind, of_class, KindCastDeclared, ClassCastDeclared, CastDeclared, to_kind, to_class, TargetDeclared, EntryDeclared, has_entry as entry_declared_here, has_none as no_entry_declared, CaseDeclared, DispatchDeclared, KindsDeclared, no_kinds, some_kinds, LookupDeclared, TellsApart, Uses as UsesTop, Makes as CanMake, ReflectedDeclared, ReflectedKind, no_case, has_case as has_case_declared, NoEntryDeclared, none_left, none_here, ProxyDeclared, proxy_here, AnswerDeclared, no_answer, has_answer, ReflectionDeclared}
 use Rattle.module_uses.specs.Placed.{placed}
 use Rattle.module_uses.proofs.Blocks.{method_there}
+use Rattle.module_uses.proofs.Cells.{CellThere, loaded_there, stored_there}
 use Rattle.module_uses.proofs.DeclaredPiecesBelow.{stands_above, kind_hijacked, told_below, none_below}
 use Rattle.module_uses.proofs.DeclaredPiecesChains.{Stands, Chained, whole_chain}
 use Rattle.module_uses.proofs.DeclaredPiecesLooked.{runs_target, target_of, called_free, dispatch_there, told_case, has_case, reflection_there, kind_target, answer_there, boxed, parameters_differ, differ_from_receiver}
@@ -26,7 +27,7 @@ use Rattle.module_uses.proofs.Parts.{uses_superclass, uses_constants}
 use Rattle.module_uses.proofs.Whole.{static_alone, received_runs, constructor_is, no_value, own_fields, whole_fields, method_of, Good, free, own, its, is_named, constants_here, class_of_its, class_here, super_good, live_good, made_is_live, entry_there, Needed, needed_static, variable_there, setter_there, class_test_there, class_cast_there, IsWritten, helper_written, helper_had, helper_listed}
 use Rattle.module_uses.specs.Accepted.{IsAccepted}
 use Rattle.module_uses.specs.Bodies.{AreBodies}
-use Rattle.module_uses.specs.Built.{can_look_up, Usable, has_static, is_static, has_kind, has_no_value, divides}
+use Rattle.module_uses.specs.Built.{can_look_up, Usable, has_static, has_cell, is_static, has_kind, has_no_value, divides}
 use Rattle.module_uses.specs.Closed.{IsClosed}
 use Rattle.module_uses.specs.FileDeclarationsDeclared.{Running, alone, on_receiver, completing, running, is_covered}
 use Rattle.module_uses.specs.Emitted.{EmittedMethod}
@@ -39,10 +40,10 @@ use Rattle.module_uses.specs.Reachable.{Reachable}
 use Rattle.module_uses.specs.ReachRulesRules.{on_hijacked}
 use Rattle.module_uses.specs.Targets.{has_hijacked_in}
 use Rattle.module_uses.specs.Linked.{has_function}
-use Rattle.module_uses.specs.Pieces.{Parts, members, class_piece, constants_piece, entry_member, variable_piece, setter_piece, test_piece, test_binding, test_uses as kind_tests, kind_of_class, cast_piece, box_uses}
+use Rattle.module_uses.specs.Pieces.{Parts, members, class_piece, constants_piece, entry_member, variable_piece, setter_piece, cell_piece, load_piece, store_piece, test_piece, test_binding, test_uses as kind_tests, kind_of_class, cast_piece, box_uses}
 use Rattle.module_uses.specs.LinkedPiecesPieces.{piece_of_member, AreLinkedPieces}
 use Rattle.module_uses.specs.Running.{CanRun}
-use Rattle.module_uses.specs.LinkedPiecesUsed.{used_of, makes, calls_on, tells_apart, is_among, is_received, is_constructor, is_constructor_without_value, uses_static, uses_helper as written_helper, uses_test, uses_cast, is_tested, is_cast}
+use Rattle.module_uses.specs.LinkedPiecesUsed.{used_of, makes, calls_on, tells_apart, is_among, is_received, is_constructor, is_constructor_without_value, uses_static, uses_helper as written_helper, uses_test, uses_cast, is_tested, is_cast, is_loaded}
 use Rattle.file_listings.specs.Listed.{AreBytes}
 use Rattle.helper_rules.specs.Helpers.{helper_name, helper_item, helper_piece, used_helpers, used_of_classes, failure_class, of}
 use Rattle.helper_rules.specs.Words.{kind_class, object_class, all_kinds, is_name, bound, public_function, helper as helper_binding}
@@ -52,7 +53,7 @@ use Rattle.helper_rules.specs.declared.kinds.Helper.{Helper}
 use Rattle.helper_rules.specs.declared.kinds.Helper.TheVariants as helpers
 use Rattle.helper_rules.specs.declared.kinds.Kind.{Kind}
 use Rattle.ir_mean.specs.Dispatch.{chain_of, is_ancestor, proxy_target}
-use Rattle.ir_mean.specs.Meaning.{with_message}
+use Rattle.ir_mean.specs.Meaning.{with_message, without_parameters}
 use Rattle.js_tree.specs.Terms.{Name, Item, Piece}
 use Rattle.js_tree.specs.declared.items.Binding.{Binding}
 use Rattle.module_uses.proofs.Found.{uses_are_owned}
@@ -64,12 +65,12 @@ use Rattle.module_uses.proofs.InFiles.{used_there}
 use Rattle.module_uses.specs.Used.{restricted, uses_in}
 use Rattle.module_uses.proofs.Chains.{byte_not}
 use Rattle.module_uses.proofs.Methods.{right_method}
-use Rattle.module_uses.proofs.Throwing.{exceptions, division, cast_throws, exception_made}
+use Rattle.module_uses.proofs.Throwing.{exceptions, division, cast_throws, exception_made, module_made}
 use Rattle.module_uses.specs.Rules.{RightMember}
 use Rattle.sj_desugar.specs.Desugar.{member}
 use Rattle.sj_emit_expr.specs.Templates.{check_name, static_name}
 use Rattle.sj_emit_expr.specs.Tests.{test_name, cast_name}
-use Rattle.sj_emit_expr.specs.Uses.{object_binding, function_binding, class_use, static_use, setter_use, test_uses, cast_uses, looked_up_uses, call_uses}
+use Rattle.sj_emit_expr.specs.Uses.{object_binding, function_binding, class_use, static_use, setter_use, load_use, store_use, test_uses, cast_uses, looked_up_uses, call_uses}
 use Rattle.sj_desugar.specs.CalleeVariants as callees
 use Rattle.sj_names.proofs.Same.{impossible}
 use Rattle.sj_names.specs.declared.entry_points.EntryPoint.{EntryPoint}
@@ -77,7 +78,7 @@ use Rattle.sj_names.specs.declared.folders.SourceFile.{SourceFile}
 use Rattle.sj_names.specs.declared.method_names.Member.{Member}
 use Rattle.sj_names.specs.declared.method_names.MethodName.{MethodName}
 use Rattle.sj_names.specs.declared.method_names.Namespace.TheVariants.{Public, Constructor}
-use Rattle.module_uses.specs.Settings.{Top, a_function, a_method, a_constructor, a_dispatch, a_reflection, a_class, some_constants, a_static, a_setter, a_test, a_cast, a_helper, top_name, is_named as is_named_top}
+use Rattle.module_uses.specs.Settings.{Top, a_function, a_method, a_constructor, a_dispatch, a_reflection, a_class, some_constants, a_static, a_setter, a_cell, a_loader, a_storer, a_test, a_cast, a_helper, top_name, is_named as is_named_top}
 use Rattle.sj_split.proofs.Members.{at_first, further, into_map}
 use Rattle.sj_split.specs.declared.plans.PlannedModule.{PlannedModule}
 use Rattle.sj_trees.specs.declared.classes.FieldDef.{FieldDef}
@@ -133,6 +134,9 @@ named_used has uses tests casts (a_class c) h = (and_parts (has.live c) (uses (c
 named_used has uses tests casts (some_constants c) h = impossible h
 named_used has uses tests casts (a_static c f t) h = (and_parts (has.static_field c f t) (uses (static_use c f)) h).1
 named_used has uses tests casts (a_setter c f t) h = (and_parts (has.static_setter c f t) (uses (setter_use c f)) h).1
+named_used has uses tests casts (a_cell c) h = impossible h
+named_used has uses tests casts (a_loader c) h = (and_parts (has.modules c) (uses (load_use c)) h).1
+named_used has uses tests casts (a_storer c) h = (and_parts (has.stored c) (uses (store_use c)) h).1
 named_used has uses tests casts (a_test k) h = let q = and_parts (has.tests k) (list_all uses (test_uses k)) h in tests k q.0 q.1
 named_used has uses tests casts (a_cast k) h = let q = and_parts (has.casts k) (list_all uses (cast_uses k)) h in casts k q.0 q.1
 named_used has uses tests casts (a_helper x) h = (and_parts (has.helper (helper_name x)) (uses (object_binding (helper_name x))) h).1
@@ -320,6 +324,46 @@ module _ (entries : List EntryPoint) (files : List SourceFile) (l : Linked) (all
         setter = stands_at_home (setter_piece c d) u.in_file setter u.need.here;
         beside = refl;
         leads = leads_to (home_of c) (a_static c g t) (subst (λ (n : Name). IsUsed (home_of c) (static_use c n)) u.need.field.named used);
+      }
+
+  -- cells of modules
+
+  -- the cell of a module that is written, in a file
+  record CellIn (c : Name) : Type 0 where
+    there_is : CellThere w ps written c
+    in_file : StandsThere c
+
+  cell_used : (f c : Name) → has_cell (z.has f) c ≡ true → CellIn c
+  cell_used f c h = elim (or_cases ((z.has f).modules c) ((z.has f).stored c) h) [
+    | inl loaded ↦ let q = and_parts (there.modules c) (uses_in modules ps f (load_use c)) loaded in record { there_is = (loaded_there entries files l all live written ps bytes a bodies p run c q.0).its; in_file = owner_stands f (load_use c) q.1 }
+    | inr stored ↦ let q = and_parts (there.stored c) (uses_in modules ps f (store_use c)) stored in record { there_is = stored_there entries files l all live written ps bytes a bodies p run c q.0; in_file = owner_stands f (store_use c) q.1 }
+  ]
+
+  store_declared : (f c : Name) → has_cell (z.has f) c ≡ true → StoreDeclared z c
+  store_declared f c h =
+      let u = cell_used f c h in
+      let used = used_at_home (store_piece c) u.in_file u.there_is.storer (binding_of (a_cell c)) (at_first (binding_of (a_cell c)) []) in
+      record {
+        class = record { definition = u.there_is.class; found = same-class w c ∙ u.there_is.found };
+        cell = stands_at_home (cell_piece c) u.in_file u.there_is.cell u.there_is.here;
+        storer = stands_at_home (store_piece c) u.in_file u.there_is.storer u.there_is.here;
+        beside = refl;
+        leads = leads_to (home_of c) (a_cell c) used;
+      }
+
+  load_declared : (f c : Name) → (z.has f).modules c ≡ true → LoadDeclared z c
+  load_declared f c h =
+      let q = and_parts (there.modules c) (uses_in modules ps f (load_use c)) h in
+      let its = loaded_there entries files l all live written ps bytes a bodies p run c q.0 in
+      let s = owner_stands f (load_use c) q.1 in
+      let can = module_made w l.facts all live p.helpers written c its.its.here (run.loads c (and_parts (is_among written c) (is_loaded all c) q.0).1) in
+      let used : (b : Binding) → Contains (load_piece c).uses b → IsUsed (home_of c) b = used_at_home (load_piece c) s its.loader in
+      let constructor = function_binding (member c Constructor without_parameters) in
+      record {
+        loader = stands_at_home (load_piece c) s its.loader its.its.here;
+        beside = refl;
+        made = and_from (there.made c) (uses_in modules ps (home_of c) (class_use c)) can.0 (used (class_use c) (further (binding_of (a_cell c)) (class_use c) (constructor ∷ class_use c ∷ []) (further constructor (class_use c) (class_use c ∷ []) (at_first (class_use c) []))));
+        built = and_from (there.built (member c Constructor without_parameters)) (uses_in modules ps (home_of c) constructor) can.1 (used constructor (further (binding_of (a_cell c)) constructor (constructor ∷ class_use c ∷ []) (at_first constructor (class_use c ∷ []))));
       }
 
   -- helpers
@@ -680,6 +724,8 @@ modules_declare entries files l all live written modules ps front last declared 
   made = λ f c h. let q = and_parts ((used_of l.world l.facts all live p.helpers written).made c) (uses_in modules ps f (class_use c)) h in and_from ((used_of l.world l.facts all live p.helpers written).live c) (uses_in modules ps f (class_use c)) (made_is_live entries files l all live written ps bytes a bodies p are are_live run owned c q.0) q.1;
   field = λ f. field_there l.world;
   static_field = static_declared entries files l all live written modules ps front last declared bytes a bodies p are are_live run owned covered together whole stand marks;
+  stored = store_declared entries files l all live written modules ps front last declared bytes a bodies p are are_live run owned covered together whole stand marks;
+  loaded = load_declared entries files l all live written modules ps front last declared bytes a bodies p are are_live run owned covered together whole stand marks;
   tests = test_declared entries files l all live written modules ps front last declared bytes a bodies p are are_live run owned covered together whole stand marks;
   casts = cast_declared entries files l all live written modules ps front last declared bytes a bodies p are are_live run owned covered together whole stand marks;
   marked = marks;

@@ -9,7 +9,7 @@ use Rattle.js_tree.specs.Terms.{Name, Property, Item, object_item, Piece}
 use Rattle.module_uses.specs.Files.{program_of}
 use Rattle.module_rules.specs.Modules.{file_with}
 use Rattle.module_uses.specs.Used.{restricted, uses_in}
-use Rattle.module_uses.specs.Settings.{Top, a_function, a_method, a_constructor, a_dispatch, a_reflection, a_class, some_constants, a_static, a_setter, a_test, a_cast, a_helper}
+use Rattle.module_uses.specs.Settings.{Top, a_function, a_method, a_constructor, a_dispatch, a_reflection, a_class, some_constants, a_static, a_setter, a_cell, a_loader, a_storer, a_test, a_cast, a_helper}
 use Rattle.sj_trees.specs.declared.types.IrType.TheVariants.{Class}
 use Rattle.sj_split.specs.declared.plans.PlannedModule.{PlannedModule}
 use Rattle.sj_world.specs.Known.{Classes}
@@ -25,6 +25,9 @@ owner_of (a_class c) = c
 owner_of (some_constants c) = c
 owner_of (a_static c f t) = c
 owner_of (a_setter c f t) = c
+owner_of (a_cell c) = c
+owner_of (a_loader c) = c
+owner_of (a_storer c) = c
 owner_of (a_test (Class c)) = c
 owner_of (a_test t) = object_class
 owner_of (a_cast (Class c)) = c

@@ -38,6 +38,7 @@ use Rattle.sj_names.specs.declared.entry_points.EntryPoint.{EntryPoint}
 use Rattle.sj_names.specs.declared.folders.SourceFile.{SourceFile}
 use Rattle.sj_names.specs.declared.method_names.MethodName.{MethodName}
 use Rattle.sj_trees.specs.Term.{Term, load_module, store_module, apply, new_array, array_value, is_instance_of, as_instance_of}
+use Rattle.sj_trees.specs.declared.classes.ClassDef.{ClassDef}
 use Rattle.sj_trees.specs.declared.positions.Position.{Position}
 use Rattle.sj_trees.specs.declared.references.BaseRef.{BaseRef}
 use Rattle.sj_trees.specs.declared.types.IrType.{IrType}
@@ -49,14 +50,16 @@ use Rattle.sj_world.specs.declared.facts.Fact.TheVariants.{Needed, Body}
 use Rattle.worklist.proofs.Inserted.{nothing_in, only_one}
 
 -- the cell of a module that is written, and the function that stores it
-pub record CellThere (ps : List Piece) (written : List Name) (c : Name) : Type 0 where
+pub record CellThere (w : Classes) (ps : List Piece) (written : List Name) (c : Name) : Type 0 where
   pub here : Contains written c
+  pub class : ClassDef
+  pub found : class_of w c ≡ Some class
   pub cell : Contains ps (cell_piece c)
   pub storer : Contains ps (store_piece c)
 
 -- with the function that loads it
-pub record LoaderThere (ps : List Piece) (written : List Name) (c : Name) : Type 0 where
-  pub its : CellThere ps written c
+pub record LoaderThere (w : Classes) (ps : List Piece) (written : List Name) (c : Name) : Type 0 where
+  pub its : CellThere w ps written c
   pub loader : Contains ps (load_piece c)
 
 -- a tree that stores the module
@@ -115,17 +118,19 @@ module _ (entries : List EntryPoint) (files : List SourceFile) (l : Linked) (all
   abbrev w : Classes
   w = l.world
 
-  its_cell : (c : Name) → Contains written c → (own : OwnPieces l all ps p c) → (own.parts.is_loaded || own.parts.is_stored) ≡ true → CellThere ps written c
+  its_cell : (c : Name) → Contains written c → (own : OwnPieces l all ps p c) → (own.parts.is_loaded || own.parts.is_stored) ≡ true → CellThere w ps written c
   its_cell c here own h =
       let n = own.parts.class.name in
       let named : n ≡ c = (class_found w c own.parts.class own.are.class_is).1 in
       record {
         here = here;
+        class = own.parts.class;
+        found = own.are.class_is;
         cell = subst (λ (x : Name). Contains ps (cell_piece x)) named (own.there (cell_piece n) (cell_among own.parts h (cell_piece n) (cell_there n own.parts.is_loaded)));
         storer = subst (λ (x : Name). Contains ps (store_piece x)) named (own.there (store_piece n) (cell_among own.parts h (store_piece n) (storer_there n own.parts.is_loaded)));
       }
 
-  pub loaded_there : (c : Name) → (is_among written c && is_loaded all c) ≡ true → LoaderThere ps written c
+  pub loaded_there : (c : Name) → (is_among written c && is_loaded all c) ≡ true → LoaderThere w ps written c
   loaded_there c h =
       let q = and_parts (is_among written c) (is_loaded all c) h in
       let form = load_form w entries l.facts all bodies run.listed c q.1 in
@@ -149,7 +154,7 @@ module _ (entries : List EntryPoint) (files : List SourceFile) (l : Linked) (all
       let kept = class-keeps its.owner (judged entries files w bytes a its.owner its.in_world).unbroken e.definition its.listed in
       ap (class_of w) (stores_own its.owner e.definition e.its_body (bodies.found e i).has_body kept s.place c s.value (subst (Contains (trees e.its_body)) s.is o.among) ∙ sym its.class_is)
 
-  pub stored_there : (c : Name) → (is_among written c && is_stored all c) ≡ true → CellThere ps written c
+  pub stored_there : (c : Name) → (is_among written c && is_stored all c) ≡ true → CellThere w ps written c
   stored_there c h =
       let q = and_parts (is_among written c) (is_stored all c) h in
       let m = Any-from_list_any (λ (e : EmittedMethod). list_any (is_store_of c) (forms_in e.its_body)) all q.1 in

@@ -26,7 +26,7 @@ use Rattle.sj_names.specs.declared.folders.SourceFile.{SourceFile}
 use Rattle.sj_pieces.specs.Keys.{HasKeys}
 use Rattle.sj_pieces.specs.Owners.{OnObjects, AllOnObjects, CasesOnObjects, BodyOnObjects, FieldsHaveOwners}
 use Rattle.body_soundness.specs.Emitted.{EmittedMethod}
-use Rattle.sj_trees.specs.Term.{Term, Terms, no_terms, more_terms, Cases, no_cases, more_cases, var_def, block_of, labeled, assign, return_to, if_then, while_loop, do_while, throw, match_on, new_object, select, select_static, apply, apply_statically, apply_static, unary_op, binary_op, is_instance_of, as_instance_of, var_ref, log_line}
+use Rattle.sj_trees.specs.Term.{Term, Terms, no_terms, more_terms, Cases, no_cases, more_cases, var_def, block_of, labeled, assign, return_to, if_then, while_loop, do_while, throw, match_on, new_object, store_module, select, select_static, apply, apply_statically, apply_static, unary_op, binary_op, is_instance_of, as_instance_of, var_ref, log_line}
 use Rattle.sj_trees.specs.TypeOf.{type_of_term}
 use Rattle.sj_trees.specs.Types.{class_type}
 use Rattle.sj_trees.specs.declared.classes.ClassDef.{ClassDef}
@@ -73,6 +73,7 @@ mutual
       let front = ahead IsOfObject (trees e ++ cases_below cs) (trees d) all in
       (on_objects e (ahead IsOfObject (trees e) (cases_below cs) front), cases_on_objects cs (after IsOfObject (trees e) (cases_below cs) front), on_objects d (after IsOfObject (trees e ++ cases_below cs) (trees d) all))
   on_objects (new_object p c m ts) h = all_on_objects ts (All-tail IsOfObject (new_object p c m ts) (all_below ts) h)
+  on_objects (store_module p c e) h = on_objects e (All-tail IsOfObject (store_module p c e) (trees e) h)
   on_objects (select p e c f t) h = (All-head IsOfObject (select p e c f t) (trees e) h, on_objects e (All-tail IsOfObject (select p e c f t) (trees e) h))
   on_objects (apply p e m ts t) h = let all = All-tail IsOfObject (apply p e m ts t) (trees e ++ all_below ts) h in (on_objects e (ahead IsOfObject (trees e) (all_below ts) all), all_on_objects ts (after IsOfObject (trees e) (all_below ts) all))
   on_objects (apply_statically p e c n m ts t) h = let all = All-tail IsOfObject (apply_statically p e c n m ts t) (trees e ++ all_below ts) h in (on_objects e (ahead IsOfObject (trees e) (all_below ts) all), all_on_objects ts (after IsOfObject (trees e) (all_below ts) all))

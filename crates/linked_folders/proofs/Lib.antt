@@ -7,6 +7,7 @@ pub use Rattle.declared_pieces.proofs.Same
 pub use Rattle.declared_pieces.proofs.Calls
 pub use Rattle.declared_pieces.proofs.Members
 pub use Rattle.declared_pieces.proofs.Blocks
+pub use Rattle.declared_pieces.proofs.Cells
 pub use Rattle.declared_pieces.proofs.Objects
 pub use Rattle.declared_pieces.proofs.Worlds
 pub use Rattle.declared_pieces.proofs.Given
@@ -52,3 +53,5 @@ pub use Rattle.declared_pieces.proofs.Facts
 pub use Rattle.declared_pieces.proofs.LinkedEntriesOne
 pub use Rattle.declared_pieces.proofs.Proxies
 pub use Rattle.declared_pieces.proofs.ReflectedCases
+pub use Rattle.declared_pieces.proofs.Stores
+pub use Rattle.declared_pieces.proofs.Classes

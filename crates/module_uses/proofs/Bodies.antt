@@ -13,13 +13,13 @@ use Rattle.running_modules.specs.BodyUsesLaws.{used_by}
 use Rattle.js_tree.specs.declared.items.Binding.{Binding}
 use Rattle.sj_desugar.specs.Desugar.{desugared_member, body_code, is_mutable_in, result_destination, member}
 use Rattle.sj_emit_expr.specs.Templates.{check_name}
-use Rattle.sj_emit_expr.specs.Uses.{object_binding, function_binding, class_use, static_use, setter_use, test_uses, cast_uses, looked_up_uses, call_uses, uses_of_all}
+use Rattle.sj_emit_expr.specs.Uses.{object_binding, function_binding, class_use, static_use, setter_use, load_use, store_use, test_uses, cast_uses, looked_up_uses, call_uses, uses_of_all}
 use Rattle.sj_desugar.specs.CalleeVariants as callees
 use Rattle.sj_infos.specs.Trees.{trees}
 use Rattle.sj_names.specs.declared.method_names.MethodName.{MethodName}
 use Rattle.sj_names.specs.declared.method_names.Namespace.{Namespace}
 use Rattle.sj_names.specs.declared.method_names.Namespace.TheVariants.{Constructor, Public, Private}
-use Rattle.sj_trees.specs.Term.{Term, new_object, select, select_static, apply_statically, apply_static, is_instance_of, as_instance_of, binary_op, apply}
+use Rattle.sj_trees.specs.Term.{Term, new_object, load_module, store_module, select, select_static, apply_statically, apply_static, is_instance_of, as_instance_of, binary_op, apply}
 use Rattle.sj_trees.specs.declared.classes.MethodDef.{MethodDef}
 use Rattle.sure_receivers.specs.Sure.{is_sure, sure_locals}
 use Rattle.module_uses.specs.Laws.{BodiesUseNoMore, DivisorsFit}
@@ -63,6 +63,8 @@ module _ (has : Usable) (uses : Binding → Bool) where
     gives (new_object p c m ts) i = λ h k f u. (and_from (has.built (member c Constructor m)) (uses (function_binding (member c Constructor m))) k f, and_from (has.made c) (uses (class_use c)) h u)
     gives (select p d c f t) i = λ h. h
     gives (select_static p c f t) i = (and_from (has.static_field c f t) (uses (static_use c f)), and_from (has.static_setter c f t) (uses (setter_use c f)))
+    gives (load_module p c) i = and_from (has.modules c) (uses (load_use c))
+    gives (store_module p c d) i = and_from (has.stored c) (uses (store_use c))
     gives (is_instance_of p d t) i = λ h u. and_from (has.tests t) (list_all uses (test_uses t)) h (all_used (test_uses t) u)
     gives (as_instance_of p d t) i = λ h u. and_from (has.casts t) (list_all uses (cast_uses t)) h (all_used (cast_uses t) u)
     gives (binary_op p o a d) i = λ h. fit p o a d i

@@ -5,6 +5,7 @@ pub use Rattle.running_modules.proofs.KindHelpers
 pub use Rattle.running_modules.proofs.Markers
 pub use Rattle.running_modules.proofs.Assembled
 pub use Rattle.running_modules.proofs.Blocks
+pub use Rattle.running_modules.proofs.Cells
 pub use Rattle.running_modules.proofs.Chains
 pub use Rattle.running_modules.proofs.Tested
 pub use Rattle.running_modules.proofs.Calls

@@ -12,7 +12,9 @@ use Rattle.helper_rules.specs.declared.kinds.Failure.{Failure}
 use Rattle.helper_rules.specs.declared.kinds.Failure.TheVariants.{NullReceiver, Division, Cast}
 use Rattle.helper_rules.specs.declared.kinds.Helper.{Helper}
 use Rattle.helper_rules.specs.declared.kinds.Helper.TheVariants.{TestOf, CastTo, ConstantsOf, NotNull, IntQuotient, IntRemainder, LongQuotient, LongRemainder, Throws}
-use Rattle.ir_mean.specs.Meaning.{with_message}
+use Rattle.ir_mean.specs.Meaning.{with_message, without_parameters}
+use Rattle.linked_entries.specs.Files.{HasFunction}
+use Rattle.linked_entries.specs.ReachRulesRules.{plain_constructor}
 use Rattle.linked_entries.proofs.Facts.{made_told}
 use Rattle.linked_entries.specs.Used.{used_of, is_among, makes, uses_helper, is_cast as is_cast_to}
 use Rattle.object_folders.specs.Running.{CanRun, CanBeThrown}
@@ -33,6 +35,7 @@ use Rattle.sj_trees.specs.declared.types.IrType.TheVariants.{Undefined, Boolean,
 use Rattle.sj_world.proofs.OnCycles.{among}
 use Rattle.sj_world.specs.Known.{Name, Classes}
 use Rattle.sj_world.specs.declared.facts.Fact.{Fact}
+use Rattle.sj_world.specs.declared.facts.Fact.TheVariants.{Made}
 
 -- the null check, by its name
 abbrev is_check : Name → Bool
@@ -102,6 +105,12 @@ pub exception_made : (w : Classes) (facts : List Fact) (all : List EmittedMethod
 exception_made w facts all live helpers written c h =
     let is_written : is_among written c ≡ true = (among written c).1 h.is_written in
     (and_from (is_among written c) (list_any (makes c) facts) is_written (made_told facts c h.is_made), and_from (is_among written c) (has_function all (member c Constructor with_message)) is_written (has_function-from all (member c Constructor with_message) h.constructor))
+
+-- and so can the object of a class that is written and made, and whose constructor is among the methods
+pub module_made : (w : Classes) (facts : List Fact) (all : List EmittedMethod) (live : List Name) (helpers : List Helper) (written : List Name) (c : Name) → Contains written c → Contains facts (Made c) × HasFunction all (plain_constructor c) → ((used_of w facts all live helpers written).made c ≡ true) × ((used_of w facts all live helpers written).built (member c Constructor without_parameters) ≡ true)
+module_made w facts all live helpers written c here h =
+    let is_written : is_among written c ≡ true = (among written c).1 here in
+    (and_from (is_among written c) (list_any (makes c) facts) is_written (made_told facts c h.0), and_from (is_among written c) (has_function all (member c Constructor without_parameters)) is_written (has_function-from all (member c Constructor without_parameters) h.1))
 
 module _ (w : Classes) (entries : List EntryPoint) (facts : List Fact) (all : List EmittedMethod) (live : List Name) (helpers : List Helper) (written : List Name) (run : CanRun w entries facts all live helpers written) where
   abbrev has : Usable

@@ -16,11 +16,11 @@ use Rattle.file_listings.specs.Listed.{AreBytes}
 use Rattle.helper_rules.specs.declared.kinds.Helper.{Helper}
 use Rattle.linked_entries.proofs.Statics.{static_is}
 use Rattle.linked_entries.proofs.Facts.{made_known}
-use Rattle.linked_entries.specs.Used.{used_of, is_among, makes, is_received, is_constructor_without_value, has_static_in, needs_static}
+use Rattle.linked_entries.specs.Used.{used_of, is_among, makes, is_received, is_constructor_without_value, has_static_in, needs_static, is_loaded}
 use Rattle.object_folders.proofs.Fields.{field_there, type_there, static_there, static_type_there}
 use Rattle.object_folders.proofs.Made.{live_free}
 use Rattle.object_folders.proofs.Methods.{once, right_member}
-use Rattle.object_folders.proofs.Throwing.{exceptions, division, cast_throws}
+use Rattle.object_folders.proofs.Throwing.{exceptions, division, cast_throws, module_made}
 use Rattle.object_folders.specs.Laws.{AcceptedFoldersCarryObjects, AcceptedFoldersLinkRightMembers}
 use Rattle.object_folders.specs.Running.{CanRun}
 use Rattle.linked_entries.specs.Refusals.{hijacked}
@@ -69,6 +69,7 @@ carry entries files w facts all live helpers written bytes a bodies run = record
   exceptions = exceptions w entries facts all live helpers written run;
   divisions = division w entries facts all live helpers written run;
   casts = cast_throws w entries facts all live helpers written run;
+  modules = λ c h. let q = and_parts (is_among written c) (is_loaded all c) h in module_made w facts all live helpers written c ((among written c).0 q.0) (run.loads c q.1);
 }
   where
     static_known : (c f : Name) (t : IrType) → has_static (used_of w facts all live helpers written) c f t ≡ true → has_static_in (class_of w c) f t ≡ true

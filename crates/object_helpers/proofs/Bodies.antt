@@ -23,7 +23,7 @@ use Rattle.sj_core.specs.Terms as core
 use Rattle.sj_desugar.specs.Desugar.{member, desugared_member, body_code, completed, is_mutable_in, result_destination, callee_of}
 use Rattle.sj_emit_expr.specs.Templates.{check_name, called_member}
 use Rattle.sj_emit_expr.specs.Tests.{same_name}
-use Rattle.sj_emit_expr.specs.Uses.{object_binding, function_binding, class_use, static_use, setter_use, helper_of, test_uses, cast_uses, uses_of_all, is_same_binding, once_each, uses, looked_up_uses, call_uses}
+use Rattle.sj_emit_expr.specs.Uses.{object_binding, function_binding, class_use, static_use, setter_use, load_use, store_use, helper_of, test_uses, cast_uses, uses_of_all, is_same_binding, once_each, uses, looked_up_uses, call_uses}
 use Rattle.sj_infos.specs.Infos.{asks, asked_in, of_receiver, of_static_call, of_division, of_type, of_cast, is_any, is_other_than_zero, null_pointer, arithmetic, class_cast, of_apply, of_call, no_such_method}
 use Rattle.sj_infos.specs.Infos as infos
 use Rattle.sj_infos.specs.Sure.{sure_among}
@@ -41,7 +41,7 @@ use Rattle.sj_names.specs.declared.method_names.Member.{Member}
 use Rattle.sj_names.specs.declared.method_names.MethodName.{MethodName}
 use Rattle.sj_names.specs.declared.method_names.Namespace.{Namespace}
 use Rattle.sj_names.specs.declared.method_names.Namespace.TheVariants.{Public, PublicStatic, Private, PrivateStatic, Constructor}
-use Rattle.sj_trees.specs.Term.{Term, new_object, select, select_static, apply_statically, apply_static, binary_op, is_instance_of, as_instance_of, apply}
+use Rattle.sj_trees.specs.Term.{Term, new_object, load_module, store_module, select, select_static, apply_statically, apply_static, binary_op, is_instance_of, as_instance_of, apply}
 use Rattle.sj_trees.specs.TypeOf.{type_of_term}
 use Rattle.sj_trees.specs.declared.classes.ClassDef.{ClassDef}
 use Rattle.sj_trees.specs.declared.classes.MethodDef.{MethodDef}
@@ -195,6 +195,8 @@ module _ (runs : Lookup) (c : ClassDef) (d : MethodDef) (e : Term) (body : d.bod
   brings (new_object p k m ts) among = (only_function (UsesIt asked) (member k Constructor m), λ h same. no_helper (class_use k) 1 refl refl h same)
   brings (select p r k f t) among = λ u. check (told (select p r k f t) among (Throws (codes "java.lang.NullPointerException")) (there (Field k f false) (of_receiver names r) (Throws (codes "java.lang.NullPointerException")) (receiver_asks r u)))
   brings (select_static p k f t) among = (λ h same. no_helper (static_use k f) 2 refl refl h same, λ h same. no_helper (setter_use k f) 3 refl refl h same)
+  brings (load_module p k) among = λ h same. no_helper (load_use k) 5 refl refl h same
+  brings (store_module p k a) among = λ h same. no_helper (store_use k) 6 refl refl h same
   brings (is_instance_of p a t) among = tested t
   brings (as_instance_of p a t) among = casted t (λ n. told (as_instance_of p a t) among cast_exception (cast_asks t n))
   brings (binary_op p o a b) among = (λ n. divided o (binary_op p o a b) a b (λ h. told (binary_op p o a b) among (Throws (codes "java.lang.ArithmeticException")) (division_asks o b h)) n, always o)

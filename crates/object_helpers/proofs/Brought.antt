@@ -18,12 +18,12 @@ use Rattle.sj_desugar.specs.Plain.{is_plain}
 use Rattle.sj_desugar.specs.Spill.{Destination, discard, to_variable, to_result, Code, one, put_first, Operand, all_plain, texts, Spilled, spill, spill_case, then_use}
 use Rattle.sj_desugar.specs.Texts.{text_of, operand_of}
 use Rattle.sj_emit_expr.specs.Templates.{check_name, is_nonzero_literal, called_member}
-use Rattle.sj_emit_expr.specs.Uses.{object_binding, function_binding, class_use, static_use, setter_use, helper_of, test_uses, cast_uses, uses_in, uses_in_all, uses_of, uses_of_all, uses_of_cases, call_uses}
+use Rattle.sj_emit_expr.specs.Uses.{object_binding, function_binding, class_use, static_use, setter_use, load_use, store_use, helper_of, test_uses, cast_uses, uses_in, uses_in_all, uses_of, uses_of_all, uses_of_cases, call_uses}
 use Rattle.sj_infos.specs.Infos.{is_other_than_zero}
 use Rattle.sj_names.proofs.Same.{impossible}
 use Rattle.sj_names.specs.declared.method_names.Namespace.TheVariants.{Constructor}
 use Rattle.sj_names.specs.declared.references.TypeRef.{TypeRef}
-use Rattle.sj_trees.specs.Term.{Term, Terms, no_terms, more_terms, Cases, no_cases, more_cases, var_def, block_of, labeled, assign, return_to, if_then, while_loop, do_while, match_on, throw, new_object, select, select_static, apply_statically, apply_static, unary_op, binary_op, is_instance_of, as_instance_of, undefined_literal, null_literal, boolean_literal, char_literal, byte_literal, short_literal, int_literal, long_literal, string_literal, var_ref, this_ref, log_line, apply}
+use Rattle.sj_trees.specs.Term.{Term, Terms, no_terms, more_terms, Cases, no_cases, more_cases, var_def, block_of, labeled, assign, return_to, if_then, while_loop, do_while, match_on, throw, new_object, load_module, store_module, select, select_static, apply_statically, apply_static, unary_op, binary_op, is_instance_of, as_instance_of, undefined_literal, null_literal, boolean_literal, char_literal, byte_literal, short_literal, int_literal, long_literal, string_literal, var_ref, this_ref, log_line, apply}
 use Rattle.sj_trees.specs.TypeOf.{type_of_term, unary_result, binary_result}
 use Rattle.sj_trees.specs.Types.{class_type, reference_type}
 use Rattle.sj_trees.specs.declared.operators.BinaryOp.{BinaryOp}
@@ -162,6 +162,8 @@ module _ (Q : Binding → Type 0) (runs : Lookup) (box : Q (object_binding (code
     Brings (new_object p c m ts) = Q (function_binding (member c Constructor m)) × Q (class_use c)
     Brings (select p e c f t) = is_sure sure e ≡ false → Q (object_binding check_name)
     Brings (select_static p c f t) = Q (static_use c f) × Q (setter_use c f)
+    Brings (load_module p c) = Q (load_use c)
+    Brings (store_module p c e) = Q (store_use c)
     Brings (is_instance_of p e t) = All Q (test_uses t)
     Brings (as_instance_of p e t) = All Q (cast_uses t)
     Brings (binary_op p o e d) = (is_other_than_zero d ≡ false → All Q (helper_of false o)) × All Q (helper_of true o)
@@ -242,6 +244,7 @@ module _ (Q : Binding → Type 0) (runs : Lookup) (box : Q (object_binding (code
           All-cons Q (function_binding (member c Constructor m)) (class_use c ∷ arguments) (own tree g).0 (All-cons Q (class_use c) arguments (own tree g).1 (arguments_in m.params (types_of ts) (all_expressions sure ts) (expressions_in ts (inner tree g))))
       expression_in (select p e c f t) g = received_in (is_sure sure e) (expression_of sure e) (own (select p e c f t) g) (expression_in e (inner (select p e c f t) g))
       expression_in (select_static p c f t) g = All-cons Q (static_use c f) [] (own (select_static p c f t) g).0 none
+      expression_in (load_module p c) g = All-cons Q (load_use c) [] (own (load_module p c) g) none
       expression_in (unary_op p o e) g = expression_in e (inner (unary_op p o e) g)
       expression_in (is_instance_of p e t) g = join (test_uses t) (uses_in runs (coerced Any (type_of_term e) (expression_of sure e))) (own (is_instance_of p e t) g) (coerced_in Any (type_of_term e) (expression_of sure e) (expression_in e (inner (is_instance_of p e t) g)))
       expression_in (as_instance_of p e t) g = join (cast_uses t) (uses_in runs (coerced Any (type_of_term e) (expression_of sure e))) (own (as_instance_of p e t) g) (coerced_in Any (type_of_term e) (expression_of sure e) (expression_in e (inner (as_instance_of p e t) g)))
@@ -412,6 +415,8 @@ module _ (Q : Binding → Type 0) (runs : Lookup) (box : Q (object_binding (code
             let xs = (spill os j).expressions in
             use_in os (target_in e (own (select p e c f t) g) i0 (tree e i0) ts, tt) j (λ xs. finish k p t false (core.field_of (first_of xs) c f)) (λ i r. finish_in k p t false (core.field_of (first_of xs) c f) i (first_in xs r))
         tree (select_static p c f t) g ts k j = finish_in k p t false (core.static_of c f) j (All-cons Q (static_use c f) [] (own (select_static p c f t) g).0 none)
+        tree (load_module p c) g ts k j = finish_in k p (class_type c) false (core.module_of c) j (All-cons Q (load_use c) [] (own (load_module p c) g) none)
+        tree (store_module p c e) g ts k j = let i0 = inner (store_module p c e) g in act_in e i0 (tree e i0) ts j (λ es. one (core.store_module_of (Some p) c (coerced (class_type c) (type_of_term e) (first_of es)))) (λ x i f. alone (core.store_module_of (Some p) c (coerced (class_type c) (type_of_term e) (first_of x))) (All-cons Q (store_use c) (uses_in runs (coerced (class_type c) (type_of_term e) (first_of x))) (own (store_module p c e) g) (coerced_in (class_type c) (type_of_term e) (first_of x) f)))
         tree (this_ref p t) g ts k j = finish_in k p t true (core.variable_use core.receiver) j none
         tree (throw p e) g ts k j = let i0 = inner (throw p e) g in act_in e i0 (tree e i0) ts j (λ es. one (core.throw_of (Some p) (coerced Any (type_of_term e) (first_of es)))) (λ x i f. alone (core.throw_of (Some p) (coerced Any (type_of_term e) (first_of x))) (coerced_in Any (type_of_term e) (first_of x) f))
         tree (unary_op p o e) g ts k j = let i0 = inner (unary_op p o e) g in act_in e i0 (tree e i0) ts j (λ es. finish k p (unary_result o) false (core.unary_of o (first_of es))) (λ x i f. finish_in k p (unary_result o) false (core.unary_of o (first_of x)) i f)

@@ -50,3 +50,4 @@ pub use Rattle.body_uses.proofs.Facts
 pub use Rattle.proper_pieces.proofs.Apart
 pub use Rattle.body_uses.proofs.LinkedEntriesOne
 pub use Rattle.body_uses.proofs.Proxies
+pub use Rattle.body_uses.proofs.Stores

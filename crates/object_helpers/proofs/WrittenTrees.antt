@@ -4,7 +4,7 @@ use Rattle.std.specs.List.{All}
 use Rattle.std.proofs.lemmas.List.Elements.{All-nil, All-cons, All-head, All-tail}
 use Rattle.body_uses.proofs.Uses.{ahead, after, combine}
 use Rattle.sj_infos.specs.Trees.{trees, below, all_below, cases_below}
-use Rattle.sj_trees.specs.Term.{Term, Terms, no_terms, more_terms, Cases, no_cases, more_cases, var_def, block_of, labeled, assign, return_to, if_then, while_loop, do_while, match_on, throw, new_object, select, apply, apply_statically, apply_static, unary_op, binary_op, is_instance_of, as_instance_of, log_line}
+use Rattle.sj_trees.specs.Term.{Term, Terms, no_terms, more_terms, Cases, no_cases, more_cases, var_def, block_of, labeled, assign, return_to, if_then, while_loop, do_while, match_on, throw, new_object, store_module, select, apply, apply_statically, apply_static, unary_op, binary_op, is_instance_of, as_instance_of, log_line}
 
 abbrev mutual
   -- the written trees in a tree
@@ -20,6 +20,7 @@ abbrev mutual
   written_below (throw p e) = e ∷ written_below e
   written_below (match_on p e cs d t) = (e ∷ written_below e) ++ cases_written cs ++ (d ∷ written_below d)
   written_below (new_object p c m ts) = all_written ts
+  written_below (store_module p c e) = e ∷ written_below e
   written_below (select p e c f t) = e ∷ written_below e
   written_below (apply p e m ts t) = (e ∷ written_below e) ++ all_written ts
   written_below (apply_statically p e c n m ts t) = (e ∷ written_below e) ++ all_written ts
@@ -65,6 +66,7 @@ module _ (P : Term → Type 0) where
     each_below (throw p e) h = under e (each_below e) h
     each_below (match_on p e cs d t) h = two (trees e ++ cases_below cs) (trees d) (written e ++ cases_written cs) (written d) (two (trees e) (cases_below cs) (written e) (cases_written cs) (under e (each_below e)) (each_of_cases cs)) (under d (each_below d)) h
     each_below (new_object p c m ts) h = each_of_all ts h
+    each_below (store_module p c e) h = under e (each_below e) h
     each_below (select p e c f t) h = under e (each_below e) h
     each_below (apply p e m ts t) h = two (trees e) (all_below ts) (written e) (all_written ts) (under e (each_below e)) (each_of_all ts) h
     each_below (apply_statically p e c n m ts t) h = two (trees e) (all_below ts) (written e) (all_written ts) (under e (each_below e)) (each_of_all ts) h

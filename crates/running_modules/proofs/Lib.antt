@@ -23,6 +23,7 @@ pub use Rattle.declared_files.proofs.KindHelpers
 pub use Rattle.closed_pieces.proofs.Markers
 pub use Rattle.closed_pieces.proofs.Assembled
 pub use Rattle.closed_pieces.proofs.Blocks
+pub use Rattle.closed_pieces.proofs.Cells
 pub use Rattle.closed_pieces.proofs.Chains
 pub use Rattle.closed_pieces.proofs.Tested
 pub use Rattle.closed_pieces.proofs.Calls

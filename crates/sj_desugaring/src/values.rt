@@ -1,5 +1,5 @@
 // Literals, locals, This, static fields and the one objects of classes as statements.
-ghost use Rattle.std.specs.Prelude.{◌≡◌, true, IfOk};
+ghost use Rattle.std.specs.Prelude.{◌≡◌, true, false, IfOk};
 ghost use Rattle.sj_core.specs.Terms as terms;
 ghost use Rattle.sj_desugar.specs.Desugar as desugar;
 ghost use Rattle.sj_desugaring.specs.Forms.{value_code};
@@ -141,7 +141,34 @@ pub fn value_of(
         Tree::LoadModule(position, class) => {
             module_value(alloc, destination, next, *position, class)
         }
-        _ => Ok(nothing(alloc, next)),
+        Tree::VarDef(_, _, _, _, _)
+        | Tree::Skip(_)
+        | Tree::Block(_, _)
+        | Tree::Labeled(_, _, _, _)
+        | Tree::Assign(_, _, _)
+        | Tree::Return(_, _, _)
+        | Tree::If(_, _, _, _, _)
+        | Tree::While(_, _, _)
+        | Tree::DoWhile(_, _, _)
+        | Tree::TryCatch(_, _, _, _, _)
+        | Tree::TryFinally(_, _, _)
+        | Tree::Throw(_, _)
+        | Tree::Match(_, _, _, _, _)
+        | Tree::New(_, _, _, _)
+        | Tree::StoreModule(_, _, _)
+        | Tree::Select(_, _, _, _, _)
+        | Tree::Apply(_, _, _, _, _)
+        | Tree::ApplyStatically(_, _, _, _, _, _, _)
+        | Tree::ApplyStatic(_, _, _, _, _, _)
+        | Tree::UnaryOp(_, _, _)
+        | Tree::BinaryOp(_, _, _, _)
+        | Tree::NewArray(_, _, _)
+        | Tree::ArrayValue(_, _, _)
+        | Tree::ArrayLength(_, _)
+        | Tree::ArraySelect(_, _, _, _)
+        | Tree::IsInstanceOf(_, _, _)
+        | Tree::AsInstanceOf(_, _, _)
+        | Tree::Log(_, _) => Ok(nothing(alloc, next)),
     }
 }
 
