@@ -13,7 +13,7 @@ use Rattle.sj_desugar.specs.Spill.{Code, discard, one, put_first, spill, then_us
 use Rattle.sj_desugar.specs.Texts.{operand_of}
 use Rattle.sj_desugaring.specs.Arguments.{coerced_argument, with_arguments}
 use Rattle.sj_desugaring.specs.Forms.{behind, for_last}
-use Rattle.sj_desugarer.proofs.Rows.{assignment-row, if-joins, log-joins, test-joins, cast-joins, unary-joins, binary-joins, match-joins, turn-joins, loop-joins, received-sure, received-checked, checked-brought, receive-joins, field-joins, throw-joins, store-joins}
+use Rattle.sj_desugarer.proofs.Rows.{assignment-row, if-joins, try-joins, log-joins, test-joins, cast-joins, unary-joins, binary-joins, match-joins, turn-joins, loop-joins, received-sure, received-checked, checked-brought, receive-joins, field-joins, throw-joins, store-joins}
 use Rattle.sj_desugarer.proofs.Runs.{slice-rest, block-step, arguments-step, cases-take}
 use Rattle.sj_desugarer.proofs.trees.+trees.Goals as goal
 use Rattle.sj_desugarer.specs.Operands.{comes_to, comes_received, owner_place, assigned_code}
@@ -22,14 +22,14 @@ use Rattle.sj_trees.proofs.trees.Tree.TheLaws.{the_size}
 use Rattle.sj_desugaring.specs.Placing.{brought}
 use Rattle.sj_trees.specs.declared.types.IrType.TheVariants.{Any, Boolean}
 use Rattle.sj_trees.specs.Types.{class_type}
-use Rattle.sj_trees.specs.Term.{Term, select, select_static, apply, apply_statically, throw, store_module, var_ref, assign, if_then, while_loop, do_while, match_on, unary_op, binary_op, is_instance_of, as_instance_of, log_line}
+use Rattle.sj_trees.specs.Term.{Term, select, select_static, apply, apply_statically, throw, store_module, var_ref, assign, if_then, while_loop, do_while, try_catch, match_on, unary_op, binary_op, is_instance_of, as_instance_of, log_line}
 use Rattle.sj_trees.specs.TypeOf.{type_of_term, binary_result}
 use Rattle.sj_trees.specs.View.{view, terms_view, cases_view, view_case, view_step, case_step, Case}
 use Rattle.sj_trees.specs.declared.trees.Tree.{Tree}
 use Rattle.sj_trees.specs.declared.trees.Tree.TheFolds.{fold-roll-Tree, fold_out-MatchCase}
 use Rattle.sj_trees.specs.declared.trees.Tree.TheOpen.{Tree-F}
 use Rattle.sj_trees.specs.declared.trees.Tree.TheViews.{sized-Match}
-use Rattle.sj_trees.specs.declared.trees.Tree.TheVariants.{rolls-Assign, rolls-Select, rolls-SelectStatic, rolls-Apply, rolls-ApplyStatically, rolls-Throw, rolls-StoreModule, rolls-VarRef, rolls-If, rolls-While, rolls-DoWhile, rolls-Match, rolls-UnaryOp, rolls-BinaryOp, rolls-IsInstanceOf, rolls-AsInstanceOf, rolls-Log}
+use Rattle.sj_trees.specs.declared.trees.Tree.TheVariants.{rolls-Assign, rolls-Select, rolls-SelectStatic, rolls-Apply, rolls-ApplyStatically, rolls-Throw, rolls-StoreModule, rolls-VarRef, rolls-If, rolls-TryCatch, rolls-While, rolls-DoWhile, rolls-Match, rolls-UnaryOp, rolls-BinaryOp, rolls-IsInstanceOf, rolls-AsInstanceOf, rolls-Log}
 
 pub statements_of-returns-in-If : goal.statements_of-returns-in-If
 statements_of-returns-in-If t c =
