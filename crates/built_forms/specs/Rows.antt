@@ -13,7 +13,7 @@ use Rattle.sj_trees.specs.declared.operators.BinaryOp.TheVariants.{StrictEqual, 
 use Rattle.sj_trees.specs.declared.types.IrType.{IrType}
 use Rattle.sj_trees.specs.declared.types.IrType.TheVariants.{Any, Boolean, Char, Int, Long, String, Null, Class, Array, NoType}
 use Rattle.sj_desugar.specs.Lookup.{own_targets}
-use Rattle.built_forms.specs.Built.{Usable, is_built, is_built_method, not_built, body_boxes}
+use Rattle.built_forms.specs.Built.{Usable, anything, is_built, is_built_method, not_built, body_boxes}
 
 abbrev pub method_name : TypeRef → MethodName
 method_name param = record { simple = codes "m"; params = param ∷ []; result = Some TypeRef.Void }
