@@ -1,5 +1,5 @@
 -- The rules of bodies, in one statement: each tree meets the rule of its form, is of the forms that are built, and finds what it uses around it.
-use Rattle.std.specs.Prelude.{◌≡◌, ℕ, ◌^◌, ◌<◌, true, List, [], ◌∷◌, ◌⊎◌, FitsSigned, Some, Bool, ◌||◌}
+use Rattle.std.specs.Prelude.{◌≡◌, ℕ, ◌^◌, ◌<◌, true, List, [], ◌∷◌, ◌⊎◌, FitsSigned, Some, Bool, ◌||◌, false}
 use Rattle.std.specs.Int.{w32, w64}
 use Rattle.built_forms.specs.Built.{Usable, stands, is_built_method}
 use Rattle.sj_emit_expr.specs.Templates.{check_name}
