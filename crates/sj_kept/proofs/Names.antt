@@ -1,5 +1,5 @@
 -- A method in which nothing is declared twice defines no local twice, whatever its forms are.
-use Rattle.std.proofs.Common.{ℕ, refl, List, [], ◌∷◌, ◌++◌, sym, ap, subst, ◌⊎◌, inl, inr, ⊎_elim}
+use Rattle.std.proofs.Common.{ℕ, refl, List, [], ◌∷◌, ◌++◌, sym, ap, subst, ◌⊎◌, inl, inr, ⊎_elim, false}
 use Rattle.sj_kept.proofs.Distinct.{Has, declares, Fresh, parts, in-left, in-right}
 use Rattle.sj_local.specs.Nodes.{Context, Node, node, inside, in_a_block, with_label, with_local, caught, behind, below, statements_below, all_below, cases_below}
 use Rattle.sj_local.specs.declared.walks.Declaration.TheVariants as declaration
