@@ -72,27 +72,27 @@ module _ (z : Setting) (lawful : Lawful z) (c : Context) (ss : core.Statements) 
   shown_statements = statement_templates z.place.name z.place.label (usable z).lookup ss
 
   -- a variable that isn't declared is no declared name
-  not_declared : (y : core.Variable) → (Declares ss y → ⊥) → is_among (declared shown_statements) (z.place.name y) ≡ false
+  pub not_declared : (y : core.Variable) → (Declares ss y → ⊥) → is_among (declared shown_statements) (z.place.name y) ≡ false
   not_declared y h = go (is_among (declared shown_statements) (z.place.name y)) refl
     where
       go : (b : Bool) → is_among (declared shown_statements) (z.place.name y) ≡ b → is_among (declared shown_statements) (z.place.name y) ≡ false
       go false e = e
       go true e = let n = declared-named z.place.name z.place.label (usable z).lookup ss (z.place.name y) e in absurd (h (subst (Declares ss) (lawful.base.names.variables n.variable y n.name) n.declares))
 
-  not_among : (x : Name) → OfNoVariable z.place x → is_among (declared shown_statements) x ≡ false
+  pub not_among : (x : Name) → OfNoVariable z.place x → is_among (declared shown_statements) x ≡ false
   not_among x none = go (is_among (declared shown_statements) x) refl
     where
       go : (b : Bool) → is_among (declared shown_statements) x ≡ b → is_among (declared shown_statements) x ≡ false
       go false e = e
       go true e = let n = declared-named z.place.name z.place.label (usable z).lookup ss x e in absurd (none n.variable n.name)
 
-  entered : (sc : js.Scope) (n : Name) → is_among (declared shown_statements) n ≡ false → (js_meaning.enter shown_statements sc).bindings n ≡ sc.bindings n
+  pub entered : (sc : js.Scope) (n : Name) → is_among (declared shown_statements) n ≡ false → (js_meaning.enter shown_statements sc).bindings n ≡ sc.bindings n
   entered sc n h = bind-undeclared shown_statements sc.bindings n h
 
   behind_block : (outer inner : js.Scope) (n : Name) → is_among (declared shown_statements) n ≡ false → (js_meaning.leave shown_statements outer inner).bindings n ≡ inner.bindings n
   behind_block outer inner n h = ap (λ (b : Bool). if b then outer.bindings n else inner.bindings n) h
 
-  enter-ready : (w : World) (env : ir.Env) (sc : js.Scope) → Ready z.place z.code c.scope c.writable w env sc → Ready z.place z.code c.scope c.writable w env (js_meaning.enter shown_statements sc)
+  pub enter-ready : (w : World) (env : ir.Env) (sc : js.Scope) → Ready z.place z.code c.scope c.writable w env sc → Ready z.place z.code c.scope c.writable w env (js_meaning.enter shown_statements sc)
   enter-ready w env sc r = record {
     sees = record { inside = record { file = r.sees.inside.file; free = λ x none. entered sc x (not_among x none) ∙ r.sees.inside.free x none }; this = subst (Receiving w z.code.owner env.this_value) (sym (entered sc (z.place.name core.receiver) (not_declared core.receiver free.receiver))) r.sees.this; sure = r.sees.sure; locals = λ x t i. subst (Holding w t (env.locals x)) (sym (entered sc (z.place.name (core.named x)) (not_declared (core.named x) (free.scope x t i)))) (r.sees.locals x t i) };
     «open» = λ y i. record { value = (r.«open» y i).value; is = entered sc (z.place.name y) (not_declared y (free.writable y i)) ∙ (r.«open» y i).is };

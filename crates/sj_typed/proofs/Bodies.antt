@@ -27,6 +27,7 @@ use Rattle.sj_trees.specs.declared.classes.ClassDef.{ClassDef}
 use Rattle.sj_trees.specs.declared.classes.MethodDef.{MethodDef}
 use Rattle.sj_trees.specs.declared.classes.ParamDef.{ParamDef}
 use Rattle.sj_trees.specs.declared.types.IrType.{IrType}
+use Rattle.sj_trees.specs.declared.types.IrType.TheVariants.{Any}
 use Rattle.sure_receivers.specs.Sure.{sure_locals}
 use Rattle.sj_typed.proofs.Values.{all_have_values, fits, fits_long}
 use Rattle.sj_world.specs.Known.{Classes}
