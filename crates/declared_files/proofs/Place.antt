@@ -2,9 +2,9 @@
 use Rattle.std.specs.Prelude.{is_some, not}
 use Rattle.std.proofs.Common.{◌≡◌, ◌≤◌, ℕ, suc, Bool, true, false, List, [], ◌∷◌, ◌++◌, length, map, slice_get, refl, sym, ap, ◌∙◌, subst, Contains, inl, inr, ⊎_elim, Option, Some, None, cond, codes, arith, if◌then◌else◌}
 use Rattle.body_rules.proofs.Lists.{nothing_in, in_front_or_behind, at_front, further_on}
-use Rattle.built_forms.proofs.Statics.{set_static, static_among}
-use Rattle.built_forms.specs.Built.{has_static, can_box, divides, compares, can_look_up}
-use Rattle.file_declarations.proofs.Fields.{fields_differ, begins, statics_differ, static_begins}
+use Rattle.built_forms.proofs.Statics.{set_static, static_among, store_cell}
+use Rattle.built_forms.specs.Built.{has_static, has_cell, can_box, divides, compares, can_look_up}
+use Rattle.file_declarations.proofs.Fields.{fields_differ, begins, statics_differ, cells_differ, static_begins}
 use Rattle.file_declarations.proofs.Items.{IsClassItem, alone as class_alone, extending, code_found, members_found}
 use Rattle.file_declarations.proofs.Begun.{marker_held, same_classes, chain_length, zero_literal_is}
 use Rattle.file_declarations.specs.Declarations.{behind}
@@ -20,6 +20,7 @@ use Rattle.helper_rules.specs.declared.kinds.Helper.TheVariants as helpers
 use Rattle.helper_rules.specs.declared.kinds.Kind.{Kind}
 use Rattle.helper_rules.specs.declared.kinds.Kind.TheVariants as kinds
 use Rattle.ir_mean.specs.Dispatch.{chain_of, longest}
+use Rattle.ir_mean.specs.States as ir
 use Rattle.ir_mean.specs.World as ir_world
 use Rattle.js_mean.specs.Classes.{members_in, members_of, method_in, method_among, method_code}
 use Rattle.js_mean.specs.Objects.{method_on}
@@ -31,7 +32,7 @@ use Rattle.js_tree.specs.Terms.{Name, Statements, Member, constructor_of, Item, 
 use Rattle.js_tree.specs.Views.{statements_of}
 use Rattle.outcomes.specs.Agreement.{Room}
 use Rattle.outcomes.specs.Shown as shown_ends
-use Rattle.file_declarations.specs.Pieces.{is_char as is_char_result, class_item_of, constructor_body, setter, test_piece, cast_piece, zero_of as zero_literal}
+use Rattle.file_declarations.specs.Pieces.{is_char as is_char_result, class_item_of, constructor_body, setter, cell_piece, load_piece, store_piece, test_piece, cast_piece, zero_of as zero_literal}
 use Rattle.file_declarations.proofs.Shapes.{stands_there, zero_alike}
 use Rattle.file_declarations.specs.Bridges.{bridge}
 use Rattle.file_declarations.specs.Chains as chains
@@ -50,12 +51,12 @@ use Rattle.file_declarations.specs.Methods.{Linked, parameters_in, function_of}
 use Rattle.file_declarations.specs.Names.{emitted_in}
 use Rattle.file_declarations.specs.Objects.{RunsOn, Constructs, function_on, body_of}
 use Rattle.file_declarations.specs.Objects as on_objects
-use Rattle.file_declarations.specs.Worlds.{IsMade, CanCheck, CanDivide, ThrowsCast, CanCast, CanCastClass, Casted, to_kind, to_class, StaticStands, setter_code, HasObjects}
+use Rattle.file_declarations.specs.Worlds.{IsMade, CanCheck, CanDivide, ThrowsCast, CanCast, CanCastClass, Casted, to_kind, to_class, StaticStands, setter_code, CellStands, StoreStands, LoadStands, HasObjects}
 use Rattle.sj_core.specs.Terms.{named, receiver}
 use Rattle.sj_desugar.specs.Desugar.{is_mutable_in, names_of, body_code, completed, desugared_member, member}
 use Rattle.sj_emit_expr.specs.Members.{with_receiver, member_piece}
 use Rattle.sj_emit_expr.specs.Names.{variable_name, label_name}
-use Rattle.sj_emit_expr.specs.Templates.{check_name, member_name, static_name, setter_name, parameter_names, statement_templates}
+use Rattle.sj_emit_expr.specs.Templates.{check_name, member_name, static_name, setter_name, load_name, store_name, parameter_names, statement_templates}
 use Rattle.sj_emit_expr.specs.Tests.{test_name, cast_name}
 use Rattle.sj_names.proofs.Same.{impossible}
 use Rattle.sj_names.specs.MethodNames.{spelled_method}
@@ -66,8 +67,11 @@ use Rattle.sj_names.specs.declared.method_names.Member.{Member as MemberName}
 use Rattle.sj_names.specs.declared.method_names.MethodName.{MethodName}
 use Rattle.sj_names.specs.declared.method_names.Namespace.{Namespace}
 use Rattle.sj_names.specs.declared.method_names.Namespace.TheVariants.{Public, PublicStatic, Private, PrivateStatic, Constructor}
-use Rattle.file_declarations.specs.Settings.{Place, Top, a_function, a_method, a_constructor, a_dispatch, a_reflection, a_class, some_constants, a_static, a_setter, a_test, a_cast, a_helper, top_name, is_usable, IsField, HasField, Holding, holding, HoldsConstants, TopHolds, SameHeap, SameState, Reaches, link_of, box_link, division_helper}
-use Rattle.file_declarations.specs.SjPlainWorlds.{World}
+use Rattle.file_declarations.specs.Settings.{Place, Top, a_function, a_method, a_constructor, a_dispatch, a_reflection, a_class, some_constants, a_static, a_setter, a_cell, a_loader, a_storer, cell_name, a_test, a_cast, a_helper, top_name, is_usable, IsField, HasField, Holding, holding, HoldsConstants, TopHolds, SameHeap, SameState, Reaches, link_of, box_link, division_helper}
+use Rattle.file_declarations.specs.SjPlainWorlds.{World, SameValue}
+use Rattle.file_declarations.specs.Modules.{loader_code, storer_code}
+use Rattle.sj_names.specs.Same.{is_same_text}
+use Rattle.sj_trees.specs.Types.{class_type}
 use Rattle.sj_trees.specs.Term.{Term}
 use Rattle.sj_world.specs.Known.{is_hijacked}
 use Rattle.sj_trees.specs.declared.classes.ClassDef.{ClassDef}
@@ -76,7 +80,7 @@ use Rattle.sj_trees.specs.declared.classes.MethodDef.{MethodDef}
 use Rattle.sj_trees.specs.declared.operators.BinaryOp.{BinaryOp}
 use Rattle.sj_trees.specs.declared.operators.BinaryOp.TheVariants.{IntDivide, IntRemainder, LongDivide, LongRemainder}
 use Rattle.sj_trees.specs.declared.types.IrType.{IrType}
-use Rattle.sj_trees.specs.declared.types.IrType.TheVariants.{Class}
+use Rattle.sj_trees.specs.declared.types.IrType.TheVariants.{Any, Class}
 use Rattle.built_forms.specs.Built.{Usable}
 use Rattle.declared_files.specs.Declared as declared
 use Rattle.declared_files.specs.Declared.{Spread, all_items, Stands, FunctionDeclared, ClassDeclared, ChainDeclared, KindTestDeclared, ClassTestDeclared, TestDeclared, CastThrows, KindCastDeclared, ClassCastDeclared, CastDeclared, TargetDeclared, EntryDeclared, CaseDeclared, KindsDeclared, ReflectedDeclared, ReflectedKind, NoEntryDeclared, ProxyDeclared, AnswerDeclared, BoxesDeclared, Declared, IsLawful}
@@ -263,6 +267,21 @@ module _ (z : Spread) where
         beside = its.beside;
         sets = function_there (z.home (a_setter c g t)) (setter_name c g) (setter_code c g).parameters (setter_code c g).body (subst (λ n. Stands z (a_setter c g t) (setter (setter_name c n) (static_name c n))) its.field.named its.setter);
         owned = its.leads ∙ ap Some its.beside;
+      }
+
+      cell_here : (f c : Name) → has_cell (z.has f) c ≡ true → CellStands place c
+      cell_here f c l = let its = can.stored f c l in record { class = its.class; differ = cells_differ place can.kept; owned = its.leads }
+
+      store_here : (f c : Name) → (z.has f).stored c ≡ true → StoreStands place c
+      store_here f c l = let its = can.stored f c (store_cell (z.has f) c l) in record { beside = its.beside; stores = function_there (z.home (a_storer c)) (store_name c) (storer_code c).parameters (storer_code c).body its.storer }
+
+      load_here : (f c : Name) → (z.has f).modules c ≡ true → LoadStands place c
+      load_here f c l = let its = can.loaded f c l in record {
+        beside = its.beside;
+        loads = function_there (z.home (a_loader c)) (load_name c) (loader_code c).parameters (loader_code c).body its.loader;
+        reaches = reaches (z.home (a_loader c));
+        built = its.built;
+        made = its.made;
       }
 
       check_here : (f : Name) → (z.has f).helper check_name ≡ true → CanCheck place
@@ -477,7 +496,7 @@ module _ (z : Spread) where
       target_here f m l = let same = (laws.among f).targets m in subst (IsTargetOf z.classes m) same (laws.objects.targets m (subst (λ (o : MemberName). all.received o ≡ true) (sym same) ((laws.among f).tops (a_method ((z.has f).lookup.target m)) l)))
 
       pub has_objects : HasObjects place
-      has_objects = record { linked = linked_here; received = runs_here; targets = target_here; looked = looked_here; reflected = reflected_here; built = constructs_here; made = made_here; lives = can.made; objects = object_here; field = field_here; statics = static_here; checked = check_here; divided = divided_here; boxes = box_here; tested = tested_here; cast = cast_here; compared = compared_here; each = omega arith; beyond = omega arith }
+      has_objects = record { linked = linked_here; received = runs_here; targets = target_here; looked = looked_here; reflected = reflected_here; built = constructs_here; made = made_here; lives = can.made; objects = object_here; field = field_here; statics = static_here; cells = cell_here; stores = store_here; loads = load_here; checked = check_here; divided = divided_here; boxes = box_here; tested = tested_here; cast = cast_here; compared = compared_here; each = omega arith; beyond = omega arith }
 
     -- the state behind the declarations
     module _ (t : js.State) (hold : AllHold z.program t 0 (all_items z)) (made : (a : ℕ) (y : js.Stored) → slice_get t.heap a ≡ Some y → OfPlaced (all_items z) y) where
@@ -562,6 +581,9 @@ module _ (z : Spread) where
       top_held f (some_constants c) l = let k = can.live f c l in first_constants c k.above k.classes
       top_held f (a_static c g k) l = tt
       top_held f (a_setter c g k) l = let its = can.static_field f c g k (set_static (z.has f) c g k l) in (held_in (z.home (a_setter c g k)) (setter (setter_name c g) (static_name c g)) (subst (λ n. Stands z (a_setter c g k) (setter (setter_name c n) (static_name c n))) its.field.named its.setter)).1
+      top_held f (a_cell c) l = tt
+      top_held f (a_loader c) l = (held_in (z.home (a_loader c)) (load_piece c).item (can.loaded f c l).loader).1
+      top_held f (a_storer c) l = (held_in (z.home (a_storer c)) (store_piece c).item (can.stored f c (store_cell (z.has f) c l)).storer).1
       top_held f (a_test k) l = test_held f k (can.tests f k l)
       top_held f (a_cast k) l = cast_held f k (can.casts f k l)
       top_held f (a_helper h) l = let k = can.helper f h l in helper_held h k.0 k.1
@@ -577,5 +599,16 @@ module _ (z : Spread) where
           let same = some_same held.value (zero_value k) (sym held.literal ∙ ap (λ u. literal_value (zero_literal u)) its.field.typed ∙ zero_literal_is k) in
           subst (λ o. Holding begun k o (t.tops home (static_name c g))) (sym its_zero.zero) (subst (Holding begun k (Some (ir_world.zero_of k))) (sym (ap (λ n. t.tops home (static_name c n)) (sym its.field.named) ∙ held.held ∙ ap (js.holds false) same)) (holding (ir_world.zero_of k) (zero_value k) (zero_alike begun k its_zero.values)))
 
+      -- the cell of a class holds null
+      cell_held : (f c : Name) → has_cell (z.has f) c ≡ true → Holding begun (class_type c) (Some ir.null) (t.tops (z.home (a_cell c)) (cell_name c))
+      cell_held f c l =
+          let home = z.home (a_cell c) in
+          let held = (held_in home (cell_piece c).item (can.stored f c l).cell).1 in
+          subst (Holding begun (class_type c) (Some ir.null)) (sym (held.held ∙ ap (js.holds false) (some_same held.value js.null (sym held.literal)))) (holding ir.null js.null (null_alike (is_same_text c (codes "java.lang.Object"))))
+        where
+          null_alike : (b : Bool) → SameValue begun (if b then Any else Class c) ir.null js.null
+          null_alike true = zero_alike begun Any (λ e. cc)
+          null_alike false = zero_alike begun (Class c) (λ e. cc)
+
       pub same_begins : SameState place begun (ir_world.opening z.classes) t
-      same_begins = record { heaps = heaps_begin; tops = top_held; statics = static_held }
+      same_begins = record { heaps = heaps_begin; tops = top_held; statics = static_held; cells = cell_held }

@@ -14,7 +14,7 @@ use Rattle.body_soundness.specs.Laws.{null_pointer, arithmetic}
 use Rattle.body_soundness.specs.Rules.{RightMember}
 use Rattle.body_soundness.specs.Worked.{class_name, field_name, init_name, get_name, init_method, get_method, main_method, gets, gets_field, its_field, object_world, main_member, object_use}
 use Rattle.body_soundness.specs.Worked as worked
-use Rattle.built_forms.specs.Built.{Usable, has_static, members_alone, divides, can_look_up}
+use Rattle.built_forms.specs.Built.{Usable, has_static, has_cell, members_alone, divides, can_look_up}
 use Rattle.file_declarations.specs.Declared.{alone, on_receiver, completing, is_covered, FieldsAreKept}
 use Rattle.file_tops.proofs.Run.{some_same}
 use Rattle.helper_rules.specs.Helpers.{helper_name, helper_item, used_helpers, constants}
@@ -37,7 +37,7 @@ use Rattle.sj_names.specs.declared.entry_points.EntryPoint.{EntryPoint}
 use Rattle.sj_names.specs.declared.method_names.MethodName.{MethodName}
 use Rattle.sj_names.specs.declared.method_names.Member.{Member}
 use Rattle.sj_names.specs.declared.method_names.Namespace.TheVariants.{Private, Constructor}
-use Rattle.file_declarations.specs.Settings.{Top, a_function, a_method, a_constructor, a_dispatch, a_reflection, a_class, some_constants, a_static, a_setter, a_test, a_cast, a_helper, is_named, is_usable, IsField}
+use Rattle.file_declarations.specs.Settings.{Top, a_function, a_method, a_constructor, a_dispatch, a_reflection, a_class, some_constants, a_static, a_setter, a_cell, a_loader, a_storer, a_test, a_cast, a_helper, is_named, is_usable, IsField}
 use Rattle.body_soundness.specs.Emitted.{initializer_member}
 use Rattle.body_soundness.specs.Methods.{KeepsRules}
 use Rattle.sj_trees.specs.Term.{skip}
@@ -50,7 +50,7 @@ use Rattle.sj_world.specs.Known.{is_same}
 use Rattle.sj_world.specs.Subtypes.{equal}
 use Rattle.sj_world.specs.Tables.{AreAncestors}
 use Rattle.typing_rules.specs.Rules.{nothing_wanted, fitting, HasFieldType}
-use Rattle.declared_files.specs.Declared.{Leads, Stands, Makes, Uses, FunctionDeclared, ClassDeclared, extends_none, extends_one, MadeDeclared, StaticDeclared, LookupDeclared, TellsApart, ReflectionDeclared, Declared, IsAmong, IsPublic, IsLawful, all_items, TestDeclared, CastDeclared, AreConstants}
+use Rattle.declared_files.specs.Declared.{Leads, Stands, Makes, Uses, FunctionDeclared, ClassDeclared, extends_none, extends_one, MadeDeclared, StaticDeclared, StoreDeclared, LoadDeclared, LookupDeclared, TellsApart, ReflectionDeclared, Declared, IsAmong, IsPublic, IsLawful, all_items, TestDeclared, CastDeclared, AreConstants}
 use Rattle.declared_files.specs.Placed.{Placed, placed}
 use Rattle.declared_files.specs.Worked.{object_constants, object_class, its_constants, its_class, init_function, get_function, main_function, main_file, class_file, object_file, main_use, class_use, use_of, three_files, spread}
 use Rattle.declared_files.proofs.Whole.{files_agree}
@@ -78,6 +78,9 @@ main_leads (a_class c) h = subst (λ k. Leads spread main_file (a_class k)) (is-
 main_leads (some_constants c) h = impossible h
 main_leads (a_static c g t) h = impossible h
 main_leads (a_setter c g t) h = impossible h
+main_leads (a_cell c) h = impossible h
+main_leads (a_loader c) h = impossible h
+main_leads (a_storer c) h = impossible h
 main_leads (a_test t) h = impossible h
 main_leads (a_cast t) h = impossible h
 main_leads (a_helper k) h = impossible h
@@ -92,6 +95,9 @@ class_leads (a_class c) h = subst (λ k. Leads spread class_file (a_class k)) (i
 class_leads (some_constants c) h = impossible h
 class_leads (a_static c g t) h = impossible h
 class_leads (a_setter c g t) h = impossible h
+class_leads (a_cell c) h = impossible h
+class_leads (a_loader c) h = impossible h
+class_leads (a_storer c) h = impossible h
 class_leads (a_test t) h = impossible h
 class_leads (a_cast t) h = impossible h
 class_leads (a_helper k) h = impossible h
@@ -106,6 +112,9 @@ nothing_leads f (a_class c) h = impossible h
 nothing_leads f (some_constants c) h = impossible h
 nothing_leads f (a_static c g t) h = impossible h
 nothing_leads f (a_setter c g t) h = impossible h
+nothing_leads f (a_cell c) h = impossible h
+nothing_leads f (a_loader c) h = impossible h
+nothing_leads f (a_storer c) h = impossible h
 nothing_leads f (a_test t) h = impossible h
 nothing_leads f (a_cast t) h = impossible h
 nothing_leads f (a_helper k) h = impossible h
@@ -305,6 +314,8 @@ all_declared = record {
   made = by_file (λ f u. (c : Name) → u.made c ≡ true → u.live c ≡ true) (λ c h. h) (λ c h. h) (λ f c h. impossible h);
   field = by_file (λ f u. (c g : Name) (t : IrType) → u.field c g t ≡ true → IsField object_world c g t) (λ c g t h. impossible h) (λ c g t h. field_declared c g t (field_is c g t h)) (λ f c g t h. impossible h);
   static_field = by_file (λ f u. (c g : Name) (t : IrType) → has_static u c g t ≡ true → StaticDeclared spread c g t) (λ c g t h. impossible h) (λ c g t h. impossible h) (λ f c g t h. impossible h);
+  stored = by_file (λ f u. (c : Name) → has_cell u c ≡ true → StoreDeclared spread c) (λ c h. impossible h) (λ c h. impossible h) (λ f c h. impossible h);
+  loaded = by_file (λ f u. (c : Name) → u.modules c ≡ true → LoadDeclared spread c) (λ c h. impossible h) (λ c h. impossible h) (λ f c h. impossible h);
   tests = by_file (λ f u. (t : IrType) → u.tests t ≡ true → TestDeclared spread f t) (λ t h. impossible h) (λ t h. impossible h) (λ f t h. impossible h);
   casts = by_file (λ f u. (t : IrType) → u.casts t ≡ true → CastDeclared spread f t) (λ t h. impossible h) (λ t h. impossible h) (λ f t h. impossible h);
   marked = λ f x ps i. each_tells (all_items spread) all_tell (placed f (object_item x ps)) i x ps refl;
@@ -327,6 +338,9 @@ main_among (a_class c) h = subst (λ k. object_use.live k ≡ true) (is-equal cl
 main_among (some_constants c) h = subst (λ k. object_use.live k ≡ true) (is-equal class_name c h) refl
 main_among (a_static c g t) h = impossible h
 main_among (a_setter c g t) h = impossible h
+main_among (a_cell c) h = impossible h
+main_among (a_loader c) h = impossible h
+main_among (a_storer c) h = impossible h
 main_among (a_test t) h = impossible h
 main_among (a_cast t) h = impossible h
 main_among (a_helper k) h = impossible h
@@ -341,6 +355,9 @@ class_among (a_class c) h = subst (λ k. object_use.live k ≡ true) (is-equal o
 class_among (some_constants c) h = subst (λ k. object_use.live k ≡ true) (is-equal object_name c h) refl
 class_among (a_static c g t) h = impossible h
 class_among (a_setter c g t) h = impossible h
+class_among (a_cell c) h = impossible h
+class_among (a_loader c) h = impossible h
+class_among (a_storer c) h = impossible h
 class_among (a_test t) h = impossible h
 class_among (a_cast t) h = impossible h
 class_among (a_helper k) h = impossible h
@@ -355,6 +372,9 @@ none_among (a_class c) h = impossible h
 none_among (some_constants c) h = impossible h
 none_among (a_static c g t) h = impossible h
 none_among (a_setter c g t) h = impossible h
+none_among (a_cell c) h = impossible h
+none_among (a_loader c) h = impossible h
+none_among (a_storer c) h = impossible h
 none_among (a_test t) h = impossible h
 none_among (a_cast t) h = impossible h
 none_among (a_helper k) h = impossible h

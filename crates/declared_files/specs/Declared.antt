@@ -4,7 +4,7 @@ use Rattle.std.specs.List.{Contains, list_all}
 use Rattle.body_soundness.specs.Laws.{ObjectLaws, null_pointer, arithmetic, class_cast}
 use Rattle.body_soundness.specs.Rules.{RightMember}
 use Rattle.body_soundness.specs.Targets.{IsTargetOf}
-use Rattle.built_forms.specs.Built.{Usable, has_static, divides, can_look_up}
+use Rattle.built_forms.specs.Built.{Usable, has_static, has_cell, divides, can_look_up}
 use Rattle.file_declarations.specs.Declared.{Running, alone, on_receiver, completing, running, is_covered, FieldsAreKept}
 use Rattle.helper_rules.specs.Helpers.{Above, helper_name, helper_item, used_helpers, constants}
 use Rattle.helper_rules.specs.Words.{marker, kind_class, worded_kinds, entry_name, parameters_of, units_of}
@@ -14,7 +14,7 @@ use Rattle.helper_rules.specs.declared.kinds.Kind.{Kind}
 use Rattle.file_declarations.specs.Helpers.{kind_of}
 use Rattle.helper_rules.specs.declared.kinds.Helper.TheVariants.{BoxedChar, Throws, TestOf, CastTo}
 use Rattle.ir_mean.specs.Dispatch.{chain_of, is_ancestor, proxy_target}
-use Rattle.ir_mean.specs.Meaning.{with_message, no_such_method}
+use Rattle.ir_mean.specs.Meaning.{with_message, without_parameters, no_such_method}
 use Rattle.ir_mean.specs.World.{World, class_of}
 use Rattle.js_mean.specs.Classes.{method_among, method_in, members_of}
 use Rattle.js_mean.specs.Proper.{are_distinct}
@@ -30,7 +30,7 @@ use Rattle.file_declarations.specs.Dispatch.{Told, dispatch_item, Reflected, ref
 use Rattle.file_declarations.specs.Looked.{HasCase}
 use Rattle.file_declarations.specs.Reflected.{HasReflected}
 use Rattle.file_declarations.specs.Reflecting.{proxy_code}
-use Rattle.file_declarations.specs.Pieces.{is_char as is_char_result, constants_piece, class_item_of, constructor_body, variable_piece, setter_piece, test_piece, cast_piece}
+use Rattle.file_declarations.specs.Pieces.{is_char as is_char_result, constants_piece, class_item_of, constructor_body, variable_piece, setter_piece, cell_piece, load_piece, store_piece, test_piece, cast_piece}
 use Rattle.sj_desugar.specs.Desugar.{desugared_member, member}
 use Rattle.sj_emit_expr.specs.Members.{member_piece}
 use Rattle.sj_emit_expr.specs.Templates.{check_name, member_name}
@@ -40,7 +40,7 @@ use Rattle.sj_names.specs.declared.entry_points.EntryPoint.{EntryPoint}
 use Rattle.sj_names.specs.declared.method_names.Member.{Member as MemberName}
 use Rattle.sj_names.specs.declared.method_names.MethodName.{MethodName}
 use Rattle.sj_names.specs.declared.method_names.Namespace.TheVariants.{Public, Constructor}
-use Rattle.file_declarations.specs.Settings.{Top, a_function, a_method, a_constructor, a_dispatch, a_reflection, a_class, some_constants, a_static, a_setter, a_test, a_cast, a_helper, top_name, is_usable, is_named, IsField, IsStaticField}
+use Rattle.file_declarations.specs.Settings.{Top, a_function, a_method, a_constructor, a_dispatch, a_reflection, a_class, some_constants, a_static, a_setter, a_cell, a_loader, a_storer, a_test, a_cast, a_helper, top_name, is_usable, is_named, IsField, IsStaticField, IsClass}
 use Rattle.body_soundness.specs.Emitted.{initializer_member, call_item_of}
 use Rattle.sj_trees.specs.declared.classes.ClassDef.{ClassDef}
 use Rattle.sj_trees.specs.declared.classes.FieldDef.{FieldDef}
@@ -123,6 +123,21 @@ pub record StaticDeclared (z : Spread) (c f : Name) (t : IrType) : Type 0 where
   pub setter : Stands z (a_setter c f t) (setter_piece c field.field).item
   pub beside : z.home (a_static c f t) ≡ z.home (a_setter c f t)
   pub leads : Leads z (z.home (a_setter c f t)) (a_static c f t)
+
+-- a class whose one object can be loaded or stored: its cell, which begins with null, and in the same file the function that stores it
+pub record StoreDeclared (z : Spread) (c : Name) : Type 0 where
+  pub class : IsClass z.classes c
+  pub cell : Stands z (a_cell c) (cell_piece c).item
+  pub storer : Stands z (a_storer c) (store_piece c).item
+  pub beside : z.home (a_storer c) ≡ z.home (a_cell c)
+  pub leads : Leads z (z.home (a_cell c)) (a_cell c)
+
+-- in that file too the function that loads it, where the object can be made and its constructor can be used
+pub record LoadDeclared (z : Spread) (c : Name) : Type 0 where
+  pub loader : Stands z (a_loader c) (load_piece c).item
+  pub beside : z.home (a_loader c) ≡ z.home (a_cell c)
+  pub made : Makes z (a_loader c) c
+  pub built : Uses z (a_loader c) (a_constructor (member c Constructor without_parameters))
 
 -- a primitive type whose test the code of this file can use: it is the helper of its kind
 pub record KindTestDeclared (z : Spread) (f : Name) (t : IrType) : Type 0 where
@@ -269,7 +284,7 @@ pub record AreConstants (w : World) (ps : List Property) : Type 0 where
   pub above : AreAncestors w class ancestors
 
 -- all that the code of some file can use is declared, and its file leads to what it names: each member as it runs, and each method that can be looked up, each reflective name by which receivers can be called, a constructor without a value; each class whose
--- code it has, among them each that is made; each field and each static field; tests and casts; and each helper, whose file can use those that it uses, and that of
+-- code it has, among them each that is made; each field and each static field; each class whose one object can be loaded or stored; tests and casts; and each helper, whose file can use those that it uses, and that of
 -- a failure the exception of it. Each object that is declared is the constants of a class
 pub record Declared (z : Spread) : Type 0 where
   pub leads : (f : Name) (t : Top) → is_named (z.has f) t ≡ true → Leads z f t
@@ -283,6 +298,8 @@ pub record Declared (z : Spread) : Type 0 where
   pub made : (f c : Name) → (z.has f).made c ≡ true → (z.has f).live c ≡ true
   pub field : (f c g : Name) (t : IrType) → (z.has f).field c g t ≡ true → IsField z.classes c g t
   pub static_field : (f c g : Name) (t : IrType) → has_static (z.has f) c g t ≡ true → StaticDeclared z c g t
+  pub stored : (f c : Name) → has_cell (z.has f) c ≡ true → StoreDeclared z c
+  pub loaded : (f c : Name) → (z.has f).modules c ≡ true → LoadDeclared z c
   pub tests : (f : Name) (t : IrType) → (z.has f).tests t ≡ true → TestDeclared z f t
   pub casts : (f : Name) (t : IrType) → (z.has f).casts t ≡ true → CastDeclared z f t
   pub marked : (f x : Name) (ps : List Property) → Contains (all_items z) (placed f (object_item x ps)) → AreConstants z.classes ps

@@ -1,4 +1,4 @@
--- The fields of classes that keep the rules: two have two properties, or two variables where they are static, and each begins at the zero of its type.
+-- The fields of classes that keep the rules: two have two properties, or two variables where they are static, and each begins at the zero of its type. Two classes have two cells.
 use Rattle.std.proofs.Common.{◌≡◌, ℕ, Bool, true, false, List, [], ◌∷◌, ◌++◌, ◌&&◌, not, append_assoc, refl, sym, ap, ◌∙◌, subst, Contains, Option, Some, IsTrue, ⊎_elim, cond, codes, ◌<◌, arith}
 use Rattle.std.specs.Prelude.{nat_eq}
 use Rattle.std.specs.Cmp.Lexicographic.{pointwise}
@@ -21,7 +21,7 @@ use Rattle.sj_names.specs.Same.{is_same_text}
 use Rattle.sj_names.specs.declared.method_names.MethodName.{MethodName}
 use Rattle.sj_names.specs.declared.method_names.Namespace.TheVariants.{Public}
 use Rattle.sj_names.specs.declared.references.TypeRef.TheVariants.{Void}
-use Rattle.sj_calls.specs.Settings.{Place, IsField, FieldsDiffer, IsStaticField, StaticsDiffer}
+use Rattle.sj_calls.specs.Settings.{Place, IsField, FieldsDiffer, IsStaticField, StaticsDiffer, IsClass, CellsDiffer, cell_name}
 use Rattle.sj_calls.proofs.SjProperNames.{tails}
 use Rattle.sj_trees.specs.declared.classes.ClassDef.{ClassDef}
 use Rattle.sj_trees.specs.declared.classes.FieldDef.{FieldDef}
@@ -164,6 +164,20 @@ module _ (p : Place) (kept : FieldsAreKept p.classes) where
 
   pub statics_differ : StaticsDiffer p
   statics_differ = record { variables = variables; types = static_type }
+
+  class_grammar : (c : Name) → IsClass p.classes c → IsTrue (is_class_name c)
+  class_grammar c i = let r = found_in p.classes c i.definition i.found in subst (λ x. IsTrue (is_class_name x)) r.named (kept.class_names i.definition r.listed)
+
+  pub cells_differ : CellsDiffer p
+  cells_differ c d i j = go (is_same_text d c) refl
+    where
+      -- the name of a property is made of that of a cell
+      same : cell_name d ≡ cell_name c → d ≡ c
+      same e = (properties_differ c (codes "x") d (codes "x") (class_grammar c i) (class_grammar d j) refl refl (ap (λ x. codes "f_" ++ x ++ codes "__" ++ mangled (codes "x")) (tails 95 95 (mangled d) (mangled c) (tails 110 110 (95 ∷ mangled d) (95 ∷ mangled c) e)))).0
+
+      go : (b : Bool) → is_same_text d c ≡ b → pointwise nat_eq (cell_name d) (cell_name c) ≡ is_same_text d c
+      go true h = ap (λ x. pointwise nat_eq (cell_name x) (cell_name c)) (is-equal d c h) ∙ equals (cell_name c) ∙ sym h
+      go false h = differs (cell_name d) (cell_name c) (λ e. unlike d c h (same e)) ∙ sym h
 
   static_zero_is : (fs : List FieldDef) (f : FieldDef) → Contains fs f → f.is_static ≡ true → ((g : FieldDef) → Contains fs g → g.is_static ≡ true → g.name ≡ f.name → g ≡ f) → static_zero fs f.name ≡ Some (zero_of f.tpe)
   static_zero_is [] f h s one = nothing_in f h

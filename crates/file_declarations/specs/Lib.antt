@@ -16,6 +16,7 @@ pub use Rattle.sj_calls.specs.SjPlainWorlds
 pub use Rattle.sj_calls.specs.Bridges
 pub use Rattle.sj_calls.specs.ClassTestsKinds
 pub use Rattle.sj_calls.specs.Dispatch
+pub use Rattle.sj_calls.specs.Modules
 pub use Rattle.sj_calls.specs.Looked
 pub use Rattle.sj_calls.specs.Reflected
 pub use Rattle.sj_calls.specs.Reflecting

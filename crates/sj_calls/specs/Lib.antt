@@ -18,4 +18,5 @@ pub mod Reflected
 pub use Rattle.class_casts.specs.Bridges
 pub use Rattle.class_casts.specs.ClassTestsKinds
 pub use Rattle.class_casts.specs.Dispatch
+pub use Rattle.class_casts.specs.Modules
 pub use Rattle.class_casts.specs.Reflecting
