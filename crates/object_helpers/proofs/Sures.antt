@@ -217,8 +217,8 @@ caught_adds sure p x y = go (sure y) (is_same_text y x)
 caught_behind : (p : Position) (x : List ℕ) (sure : List ℕ → Bool) (ds es : List Definition) (y : List ℕ) → sure_behind sure (ds ++ record { name = x; is_mutable = false; value = null_literal p } ∷ es) y ≡ sure_behind sure (ds ++ es) y
 caught_behind p x sure ds es y = behind_append sure ds (record { name = x; is_mutable = false; value = null_literal p } ∷ es) y ∙ ap (λ (s : List ℕ → Bool). sure_behind s es y) (fun_ext (caught_adds (sure_behind sure ds) p x)) ∙ sym (behind_append sure ds es y)
 
-caught_walk : (p : Position) (x : List ℕ) (a b : Term) (sure : List ℕ → Bool) (hidden : List (List ℕ)) {names : List (List ℕ)} → ((y : List ℕ) → infos.is_among names y ≡ true → (sure_behind sure (definitions a ++ definitions b) y ≡ true) ⊎ IsAmong hidden y) → (y : List ℕ) → infos.is_among names y ≡ true → (sure_behind sure (definitions a ++ record { name = x; is_mutable = false; value = null_literal p } ∷ definitions b) y ≡ true) ⊎ IsAmong hidden y
-caught_walk p x a b sure hidden walked y h = ⊎_elim (λ i. inl (caught_behind p x sure (definitions a) (definitions b) y ∙ i)) (λ i. inr i) (walked y h)
+caught_walk : (p : Position) (x : List ℕ) (a b : Term) (sure : List ℕ → Bool) (hidden names : List (List ℕ)) → ((y : List ℕ) → infos.is_among names y ≡ true → (sure_behind sure (definitions a ++ definitions b) y ≡ true) ⊎ IsAmong hidden y) → (y : List ℕ) → infos.is_among names y ≡ true → (sure_behind sure (definitions a ++ record { name = x; is_mutable = false; value = null_literal p } ∷ definitions b) y ≡ true) ⊎ IsAmong hidden y
+caught_walk p x a b sure hidden names walked y h = ⊎_elim (λ i. inl (caught_behind p x sure (definitions a) (definitions b) y ∙ i)) (λ i. inr i) (walked y h)
 
 -- two trees one behind the other, and a receiver with arguments
 walk_two : (a b : Term) (c : Context) (hidden : List (List ℕ)) → New c (At c a ++ At c b) → (New c (At c a) → Step hidden (At c a) (trees a) (definitions a)) → (New c (At c b) → Step hidden (At c b) (trees b) (definitions b)) → Step hidden (At c a ++ At c b) (trees a ++ trees b) (definitions a ++ definitions b)
@@ -242,7 +242,7 @@ mutual
   walk (do_while p a b) c hidden out new names sure free reads fresh within = walk_two a b c hidden new (walk a c hidden out) (walk b c hidden out) names sure free reads.1 fresh within
   walk (try_catch p a x b t) c hidden out new names sure free reads fresh within =
       let d : Context = with_caught (caught x) c in
-      caught_walk p x a b sure hidden (two hidden (At c a) (At d b) (trees a) (trees b) (definitions a) (definitions b) (walk a c hidden out (λ z n. new z (inr (in-left (At c a) (At d b) (declaration.Local z) n)))) (walk b d hidden (λ z n. other_local c.scope (caught x) z (out z n) (λ e. free z n (inl (ap declaration.Local e)))) (λ z n. other_local c.scope (caught x) z (new z (inr (in-right (At c a) (At d b) (declaration.Local z) n))) (λ e. fresh.0 (subst (λ (v : List ℕ). Has (declares (At c a ++ At d b)) (declaration.Local v)) e (in-right (At c a) (At d b) (declaration.Local z) n))))) names sure (λ z n i. free z n (inr i)) reads.1 fresh.1 within)
+      caught_walk p x a b sure hidden (sure_among names (trees a ++ trees b)) (two hidden (At c a) (At d b) (trees a) (trees b) (definitions a) (definitions b) (walk a c hidden out (λ z n. new z (inr (in-left (At c a) (At d b) (declaration.Local z) n)))) (walk b d hidden (λ z n. other_local c.scope (caught x) z (out z n) (λ e. free z n (inl (ap declaration.Local e)))) (λ z n. other_local c.scope (caught x) z (new z (inr (in-right (At c a) (At d b) (declaration.Local z) n))) (λ e. fresh.0 (subst (λ (v : List ℕ). Has (declares (At c a ++ At d b)) (declaration.Local v)) e (in-right (At c a) (At d b) (declaration.Local z) n))))) names sure (λ z n i. free z n (inr i)) reads.1 fresh.1 within)
   walk (try_finally p a b) c hidden out new names sure free reads fresh within = walk_two a b c hidden new (walk a c hidden out) (walk b c hidden out) names sure free reads.1 fresh within
   walk (throw p e) c hidden out new names sure free reads fresh within = walk e c hidden out new names sure free reads.1 fresh within
   walk (match_on p e cs d t) c hidden out new names sure free reads fresh within =
