@@ -239,6 +239,7 @@ variable_is s x t (Some d) e h = let k = and_parts (is_same_type d.tpe t) d.«mu
 found : (around : List (List ℕ)) (s : Scene) (t : Term) → Once around t → is_found s t ≡ true → Finds s t
 found around s (var_def p x t b e) o h = (when_not (has_no_value t) h, o.0)
 found around s (assign p (var_ref q x t) e) o h = variable_is s x t (local_of s.locals x) refl h
+found around s (try_catch p e x d t) o h = o.1
 found around s (new_object p c m ts) o h = impossible h
 found around s (apply p e m ts t) o h = impossible h
 found around s (apply_statically p e c n m ts t) o h = impossible h
