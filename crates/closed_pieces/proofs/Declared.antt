@@ -1,5 +1,5 @@
 -- What the pieces of an accepted folder declare: functions of needed bodies, live classes, static fields that are needed, cells of modules that are loaded or stored, tests of classes and casts to them, and helpers.
-use Rattle.std.proofs.Common.{◌≡◌, ◌↔◌, ◌++◌, ◌||◌, Bool, true, List, [], ◌∷◌, Option, Some, refl, sym, ap, subst, ◌∙◌, Contains}
+use Rattle.std.proofs.Common.{◌≡◌, ◌↔◌, ◌||◌, Bool, true, List, [], Option, Some, refl, sym, ap, subst, ◌∙◌, Contains}
 use Rattle.std.specs.List.{flat_map}
 use Rattle.std.proofs.lemmas.List.Elements.{Contains-append_left, Contains-append_right}
 use Rattle.std.proofs.lemmas.Bool.{or_left, or_right}
@@ -35,7 +35,7 @@ use Rattle.helper_rules.specs.declared.kinds.Helper.{Helper}
 use Rattle.js_tree.specs.Terms.{Piece}
 use Rattle.module_rules.specs.Laws.{IsDeclared}
 use Rattle.linked_folders.proofs.Plain.{class_found}
-use Rattle.linked_folders.specs.PieceRulesPieces.{Parts, pieces, when, constants_of, class_of, module_of, tests_of, class_piece, variable_piece, setter_piece, all_statics, load_piece, store_piece, test_piece, cast_piece, kind_of_class}
+use Rattle.linked_folders.specs.PieceRulesPieces.{Parts, class_piece, variable_piece, setter_piece, all_statics, load_piece, store_piece, test_piece, cast_piece, kind_of_class}
 use Rattle.sj_emit_expr.specs.Templates.{member_name, static_name, setter_name, load_name, store_name}
 use Rattle.sj_emit_expr.specs.Uses.{function_binding, class_use, static_use, setter_use, load_use, store_use}
 use Rattle.sj_infos.specs.Forms.{form_of, forms_by_body}
@@ -48,14 +48,13 @@ use Rattle.sj_names.specs.declared.entry_points.EntryPoint.{EntryPoint}
 use Rattle.sj_names.specs.declared.folders.SourceFile.{SourceFile}
 use Rattle.sj_names.specs.declared.method_names.Member.{Member}
 use Rattle.sj_names.specs.declared.method_names.MethodName.{MethodName}
-use Rattle.sj_split.proofs.Members.{at_first}
 use Rattle.sj_trees.specs.Term.{Term, store_module}
 use Rattle.sj_trees.specs.declared.classes.ClassDef.{ClassDef}
 use Rattle.sj_trees.specs.declared.classes.FieldDef.{FieldDef}
 use Rattle.sj_trees.specs.declared.positions.Position.{Position}
 use Rattle.sj_trees.specs.declared.types.IrType.{IrType}
 use Rattle.sj_world.proofs.Searches.{contains_at}
-use Rattle.sj_world.specs.Known.{Name, Classes, class_of as class_in}
+use Rattle.sj_world.specs.Known.{Name, Classes, class_of}
 use Rattle.sj_world.specs.Linked.{Linked}
 use Rattle.sj_world.specs.Paths.{stay}
 use Rattle.sj_world.specs.declared.facts.Fact.{Fact}
@@ -155,7 +154,7 @@ module _ (entries : List EntryPoint) (files : List SourceFile) (l : Linked) (all
       let kept = class-keeps owner.owner (judged entries files w bytes a owner.owner owner.in_world).unbroken e.definition owner.listed in
       let same : c ≡ e.member.class = stores_own owner.owner e.definition e.its_body (bodies.found e i).has_body kept place c x among ∙ sym owner.class_is in
       let d = defined w e.member e.definition found in
-      let own = own_pieces l all ps p c d.class (ap (class_in w) same ∙ d.is_class) in
+      let own = own_pieces l all ps p c d.class (ap (class_of w) same ∙ d.is_class) in
       let its = own.parts in
       let storer : Piece = store_piece its.class.name in
       let form : HasForm w l.facts (forms.Store c) = record {

@@ -18,7 +18,7 @@ use Rattle.linked_folders.proofs.Bodies.{once_in}
 use Rattle.linked_folders.specs.PieceRulesPieces.{Parts, pieces}
 use Rattle.sj_emit_expr.specs.Uses.{once_each}
 use Rattle.sj_names.specs.WellKnown.{is_object}
-use Rattle.sj_split.proofs.Members.{at_first, further, cons_cases, from_map}
+use Rattle.sj_split.proofs.Members.{cons_cases, from_map}
 use Rattle.sj_world.specs.Linked.{Linked}
 use Rattle.linked_folders.proofs.Forms.{in_one}
 use Rattle.worklist.proofs.Inserted.{nothing_in}

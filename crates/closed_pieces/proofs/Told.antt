@@ -1,6 +1,6 @@
 -- What a function that tells receivers apart uses is declared: the tests of kinds, and the functions of methods whose bodies are needed; one of a reflective name uses boxed chars too, and what
 -- throws where there is no method.
-use Rattle.std.proofs.Common.{◌≡◌, ◌⊎◌, ◌++◌, Bool, true, false, List, [], ◌∷◌, inl, inr, sym, subst, Contains, codes, if◌then◌else◌}
+use Rattle.std.proofs.Common.{◌⊎◌, ◌++◌, Bool, true, false, List, [], ◌∷◌, inl, inr, sym, subst, Contains, codes, if◌then◌else◌}
 use Rattle.std.specs.List.{flat_map}
 use Rattle.std.proofs.lemmas.List.Elements.{Contains-append_cases}
 use Rattle.linked_folders.proofs.Forms.{in_one}
