@@ -55,7 +55,7 @@ use Rattle.sj_trees.specs.declared.classes.FieldDef.{FieldDef}
 use Rattle.sj_trees.specs.declared.positions.Position.{Position}
 use Rattle.sj_trees.specs.declared.types.IrType.{IrType}
 use Rattle.sj_world.proofs.Searches.{contains_at}
-use Rattle.sj_world.specs.Known.{Name, Classes, class_of}
+use Rattle.sj_world.specs.Known.{Name, Classes, class_of as class_in}
 use Rattle.sj_world.specs.Linked.{Linked}
 use Rattle.sj_world.specs.Paths.{stay}
 use Rattle.sj_world.specs.declared.facts.Fact.{Fact}
@@ -155,7 +155,7 @@ module _ (entries : List EntryPoint) (files : List SourceFile) (l : Linked) (all
       let kept = class-keeps owner.owner (judged entries files w bytes a owner.owner owner.in_world).unbroken e.definition owner.listed in
       let same : c ≡ e.member.class = stores_own owner.owner e.definition e.its_body (bodies.found e i).has_body kept place c x among ∙ sym owner.class_is in
       let d = defined w e.member e.definition found in
-      let own = own_pieces l all ps p c d.class (ap (class_of w) same ∙ d.is_class) in
+      let own = own_pieces l all ps p c d.class (ap (class_in w) same ∙ d.is_class) in
       let its = own.parts in
       let storer : Piece = store_piece its.class.name in
       let form : HasForm w l.facts (forms.Store c) = record {

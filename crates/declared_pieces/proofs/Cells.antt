@@ -40,7 +40,7 @@ use Rattle.sj_names.specs.declared.method_names.MethodName.{MethodName}
 use Rattle.sj_trees.specs.Term.{Term, load_module, store_module, apply, new_array, array_value, is_instance_of, as_instance_of}
 use Rattle.sj_trees.specs.declared.classes.ClassDef.{ClassDef}
 use Rattle.sj_trees.specs.declared.positions.Position.{Position}
-use Rattle.sj_trees.specs.declared.references.BaseRef.{BaseRef}
+use Rattle.sj_names.specs.declared.references.BaseRef.{BaseRef}
 use Rattle.sj_trees.specs.declared.types.IrType.{IrType}
 use Rattle.sj_world.proofs.OnCycles.{among}
 use Rattle.sj_world.specs.Known.{Name, Classes, class_of}
@@ -68,7 +68,7 @@ record IsStore (t : Term) (c : Name) : Type 0 where
   value : Term
   is : t ≡ store_module place c value
 
-is_store : BodyForm → Bool
+abbrev is_store : BodyForm → Bool
 is_store (forms.Store n) = true
 is_store _ = false
 

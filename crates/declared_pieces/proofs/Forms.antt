@@ -119,7 +119,7 @@ load_is : (c : Name) (f : BodyForm) → is_load_of c f ≡ true → f ≡ forms.
 load_is c (forms.Load d) h = ap forms.Load (sym (text-same c d h))
 load_is c _ h = impossible h
 
-store_is : (c : Name) (f : BodyForm) → is_store_of c f ≡ true → f ≡ forms.Store c
+pub store_is : (c : Name) (f : BodyForm) → is_store_of c f ≡ true → f ≡ forms.Store c
 store_is c (forms.Store d) h = ap forms.Store (sym (text-same c d h))
 store_is c _ h = impossible h
 

@@ -18,7 +18,7 @@ use Rattle.sj_trees.specs.declared.classes.MethodDef.{MethodDef}
 use Rattle.sj_trees.specs.declared.positions.Position.{Position}
 use Rattle.sj_world.specs.Known.{Name}
 
-tree_of : Node → Term
+abbrev tree_of : Node → Term
 tree_of n = n.tree
 
 -- two lists of nodes with these trees, one behind the other
@@ -29,6 +29,9 @@ joined xs ys ts us p q = map-append tree_of xs ys ∙ ap (λ (l : List Term). l 
 under : (x y : Context) (t : Term) → map tree_of (below y t) ≡ trees_below t → map tree_of (node x t ∷ below y t) ≡ trees t
 under x y t = ap (λ (l : List Term). t ∷ l)
 
+two : (x y : Context) (a b : Term) → map tree_of (below x a) ≡ trees_below a → map tree_of (below y b) ≡ trees_below b → map tree_of ((node x a ∷ below x a) ++ (node y b ∷ below y b)) ≡ trees a ++ trees b
+two x y a b p q = joined (node x a ∷ below x a) (node y b ∷ below y b) (trees a) (trees b) (under x x a p) (under y y b q)
+
 mutual
   -- the nodes in a tree are its trees, wherever it stands
   same_below : (x : Context) (t : Term) → map tree_of (below x t) ≡ trees_below t
@@ -37,13 +40,13 @@ mutual
   same_below x (labeled p l t e) = under (with_label l x) (with_label l x) e (same_below (with_label l x) e)
   same_below x (assign p a b) = two x x a b (same_below x a) (same_below x b)
   same_below x (return_to p e l) = under x x e (same_below x e)
-  same_below x (if_then p c a b t) = joined (node x c ∷ below x c) ((node x a ∷ below x a) ++ (node x b ∷ below x b)) (trees c) (trees a ++ trees b) (under x x c (same_below x c)) (two x x a b (same_below x a) (same_below x b))
+  same_below x (if_then p c a b t) = joined ((node x c ∷ below x c) ++ (node x a ∷ below x a)) (node x b ∷ below x b) (trees c ++ trees a) (trees b) (two x x c a (same_below x c) (same_below x a)) (under x x b (same_below x b))
   same_below x (while_loop p c b) = two x x c b (same_below x c) (same_below x b)
   same_below x (do_while p b c) = two x x b c (same_below x b) (same_below x c)
   same_below x (try_catch p b n h t) = two x (with_local (caught n) x) b h (same_below x b) (same_below (with_local (caught n) x) h)
   same_below x (try_finally p b f) = two x x b f (same_below x b) (same_below x f)
   same_below x (throw p e) = under x x e (same_below x e)
-  same_below x (match_on p s cs d t) = joined (node x s ∷ below x s) (cases_below x cs ++ (node x d ∷ below x d)) (trees s) (cases_trees_below cs ++ trees d) (under x x s (same_below x s)) (joined (cases_below x cs) (node x d ∷ below x d) (cases_trees_below cs) (trees d) (same_cases x cs) (under x x d (same_below x d)))
+  same_below x (match_on p s cs d t) = joined ((node x s ∷ below x s) ++ cases_below x cs) (node x d ∷ below x d) (trees s ++ cases_trees_below cs) (trees d) (joined (node x s ∷ below x s) (cases_below x cs) (trees s) (cases_trees_below cs) (under x x s (same_below x s)) (same_cases x cs)) (under x x d (same_below x d))
   same_below x (new_object p c m ts) = same_all x ts
   same_below x (store_module p c e) = under x x e (same_below x e)
   same_below x (select p e c f t) = under x x e (same_below x e)
@@ -60,9 +63,6 @@ mutual
   same_below x (as_instance_of p e t) = under x x e (same_below x e)
   same_below x (log_line p e) = under x x e (same_below x e)
   same_below x _ = refl
-
-  two : (x y : Context) (a b : Term) → map tree_of (below x a) ≡ trees_below a → map tree_of (below y b) ≡ trees_below b → map tree_of ((node x a ∷ below x a) ++ (node y b ∷ below y b)) ≡ trees a ++ trees b
-  two x y a b p q = joined (node x a ∷ below x a) (node y b ∷ below y b) (trees a) (trees b) (under x x a p) (under y y b q)
 
   same_statements : (x : Context) (ts : Terms) → map tree_of (statements_below x ts) ≡ all_trees_below ts
   same_statements x no_terms = refl
@@ -93,7 +93,7 @@ has_node (x ∷ xs) t i = go (in_front_or_behind (tree_of x) (map tree_of xs) t 
 own_name : (c : ClassDef) (space : Namespace) (p : Position) (k : Name) (e t : Term) → t ≡ store_module p k e → breaks_store c space t ≡ false → k ≡ c.name
 own_name c space p k e t is h =
     let kept = not_broken (is_module_constructor c space && is_same_text k c.name && is_this e) (subst (λ (u : Term). breaks_store c space u ≡ false) is h) in
-    text-same k c.name (and_parts (is_same_text k c.name) (is_this e) (and_parts (is_module_constructor c space) (is_same_text k c.name && is_this e) kept).1).0
+    text-same k c.name (and_parts (is_module_constructor c space) (is_same_text k c.name) (and_parts (is_module_constructor c space && is_same_text k c.name) (is_this e) kept).0).1
   where
     not_broken : (b : Bool) → not b ≡ false → b ≡ true
     not_broken true e = refl

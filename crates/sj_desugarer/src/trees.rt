@@ -17,8 +17,9 @@ use sj_desugaring::{
     checked, checked_operand, coerced_argument, declared, defined, expression_of, field_set,
     field_value, in_place, is_fixed, is_plain, is_sure, joined, kept, labeled, leaving,
     local_destination, logged, looked_up_value, looped, looped_behind, made_value, member_value,
-    module_stored, nothing, number_behind, operand_destination, position_of, static_set, switched, target_of,
-    tested_loop, tested_value, thrown, tried, unary_value, value_of, with_label, without_first,
+    module_stored, nothing, number_behind, operand_destination, position_of, static_set, switched,
+    target_of, tested_loop, tested_value, thrown, tried, unary_value, value_of, with_label,
+    without_first,
 };
 use sj_names::{LocalName, NoMemory, TypeRef};
 use sj_trees::{MatchCase, Position, Tree, type_of};
