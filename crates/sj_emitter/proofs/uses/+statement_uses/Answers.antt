@@ -1,9 +1,9 @@
 use Rattle.std.proofs.Common.{◌≡◌, ◌∙◌, ◌++◌, ap, sym, refl}
-use Rattle.sj_core.specs.Terms.{Statement, assign_field, if_of, while_of, switch_of}
-use Rattle.sj_core.specs.Views.{expression_view, statement_view, statements_view, cases_view, statement_step, case_step, Case}
+use Rattle.sj_core.specs.Terms.{Statement, assign_field, if_of, while_of, switch_of, try_of}
+use Rattle.sj_core.specs.Views.{variable_view, expression_view, statement_view, statements_view, cases_view, statement_step, case_step, Case}
 use Rattle.sj_core.specs.declared.statements.CoreStatement.TheFolds.{fold-roll-CoreStatement}
 use Rattle.sj_core.specs.declared.statements.CoreStatement.TheOpen.{CoreStatement-F}
-use Rattle.sj_core.specs.declared.statements.CoreStatement.TheVariants.{rolls-AssignField, rolls-If, rolls-While, rolls-Switch}
+use Rattle.sj_core.specs.declared.statements.CoreStatement.TheVariants.{rolls-AssignField, rolls-If, rolls-While, rolls-Switch, rolls-Try}
 use Rattle.sj_emit_expr.specs.Uses.{uses_in, uses_of, uses_of_all, uses_of_cases}
 use Rattle.sj_emitter.proofs.Collected.{more-uses, case-step}
 use Rattle.sj_emitter.proofs.uses.+statement_uses.Goals as goal
@@ -49,3 +49,12 @@ add_uses_of-returns-in_ok-add_uses_in-in-AssignField t c =
     let second = uses_in (lookup_of c.args.known.now) (expression_view n.value) in
     let parts : first ++ second ≡ uses_of (lookup_of c.args.known.now) (statement_view c.args.statement.now) = rw (v) refl in
     rw (← more-uses _ _ first second _ c.in_ok-add_uses_in-in-AssignField.ensures parts) c.add_uses_in-in-AssignField.ensures
+
+pub add_uses_of-returns-in_ok-add_uses_of_all-in-Try : goal.add_uses_of-returns-in_ok-add_uses_of_all-in-Try
+add_uses_of-returns-in_ok-add_uses_of_all-in-Try t c =
+    let n = c.in-Try in
+    let v : statement_view c.args.statement.now ≡ try_of n.field-0 (statements_view n.block.items) (variable_view n.field-2) (statements_view n.handler.items) = ap statement_view (n.is ∙ sym (rolls-Try n.field-0 n.block n.field-2 n.handler)) ∙ fold-roll-CoreStatement Statement Case statement_step case_step (CoreStatement-F.Try n.field-0 n.block n.field-2 n.handler) in
+    let first = uses_of_all (lookup_of c.args.known.now) (statements_view c.deref-in-Try.result.now) in
+    let second = uses_of_all (lookup_of c.args.known.now) (statements_view c.deref-in-Try-2.result.now) in
+    let parts : first ++ second ≡ uses_of (lookup_of c.args.known.now) (statement_view c.args.statement.now) = rw (v, c.deref-in-Try.ensures.value, c.deref-in-Try-2.ensures.value) refl in
+    rw (← more-uses _ _ first second _ c.in_ok-add_uses_of_all-in-Try.ensures parts) c.add_uses_of_all-in-Try-2.ensures
