@@ -5,7 +5,7 @@ use Rattle.sj_emit_expr.specs.Desugar.{has_no_value}
 use Rattle.sj_emit_expr.specs.Plain.{is_among}
 use Rattle.sj_trees.specs.declared.types.IrType.{IrType}
 use Rattle.sj_trees.specs.declared.classes.ParamDef.{ParamDef}
-use Rattle.sj_trees.specs.Term.{Term, Terms, no_terms, more_terms, Cases, no_cases, more_cases, var_def, block_of, labeled, assign, return_to, if_then, while_loop, do_while, try_catch, match_on, throw, new_object, select, apply, apply_statically, apply_static, unary_op, binary_op, is_instance_of, as_instance_of, log_line, store_module}
+use Rattle.sj_trees.specs.Term.{Term, Terms, no_terms, more_terms, Cases, no_cases, more_cases, var_def, block_of, labeled, assign, return_to, if_then, while_loop, do_while, try_catch, try_finally, match_on, throw, new_object, select, apply, apply_statically, apply_static, unary_op, binary_op, is_instance_of, as_instance_of, log_line, store_module}
 
 abbrev mutual
   -- the locals that a tree of the forms that are built defines
@@ -21,6 +21,7 @@ abbrev mutual
   Own (while_loop p c b) y = Own c y ⊎ Own b y
   Own (do_while p b c) y = Own b y ⊎ Own c y
   Own (try_catch p e x d t) y = (x ≡ y) ⊎ (Own e y ⊎ Own d y)
+  Own (try_finally p e d) y = Own e y ⊎ Own d y
   Own (match_on p e cs d t) y = Own e y ⊎ (OwnCases cs y ⊎ Own d y)
   Own (new_object p c m ts) y = OwnAll ts y
   Own (store_module p c e) y = Own e y

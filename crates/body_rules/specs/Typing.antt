@@ -8,7 +8,7 @@ use Rattle.sj_names.specs.declared.method_names.Namespace.TheVariants.{PublicSta
 use Rattle.sj_emit_expr.specs.Sure.{is_sure, sure_locals}
 use Rattle.sj_names.specs.declared.references.TypeRef.{TypeRef}
 use Rattle.body_rules.specs.Locals.{Own, OwnAll, local_of, HasValue}
-use Rattle.sj_trees.specs.Term.{Term, Terms, no_terms, more_terms, Cases, no_cases, more_cases, var_def, block_of, labeled, assign, return_to, if_then, while_loop, do_while, try_catch, match_on, throw, new_object, select, select_static, apply, apply_statically, this_ref, apply_static, unary_op, binary_op, is_instance_of, as_instance_of, boolean_literal, char_literal, byte_literal, short_literal, int_literal, long_literal, var_ref, log_line, store_module}
+use Rattle.sj_trees.specs.Term.{Term, Terms, no_terms, more_terms, Cases, no_cases, more_cases, var_def, block_of, labeled, assign, return_to, if_then, while_loop, do_while, try_catch, try_finally, match_on, throw, new_object, select, select_static, apply, apply_statically, this_ref, apply_static, unary_op, binary_op, is_instance_of, as_instance_of, boolean_literal, char_literal, byte_literal, short_literal, int_literal, long_literal, var_ref, log_line, store_module}
 use Rattle.sj_trees.specs.Types.{class_type, reference_type}
 use Rattle.sj_trees.specs.declared.classes.MethodDef.{MethodDef}
 use Rattle.sj_trees.specs.declared.classes.ParamDef.{ParamDef}
@@ -122,6 +122,7 @@ module _ (w : Classes) (has : Usable) where
     Typed s (while_loop p c b) = Here s (while_loop p c b) × Typed s c × Typed s b
     Typed s (do_while p b c) = Here s (do_while p b c) × Typed s b × Typed s c
     Typed s (try_catch p e x d t) = Here s (try_catch p e x d t) × Typed s e × Typed (catching x s) d
+    Typed s (try_finally p e d) = Here s (try_finally p e d) × Typed s e × Typed s d
     Typed s (throw p e) = Here s (throw p e) × Typed s e
     Typed s (match_on p e cs d t) = Here s (match_on p e cs d t) × Typed s e × TypedCases s t cs × Typed s d
     Typed s (new_object p c m ts) = Here s (new_object p c m ts) × TypedAll s ts

@@ -6,7 +6,7 @@ use Rattle.sj_desugar.specs.Desugar.{Targets}
 use Rattle.sj_desugar.specs.Plain.{is_plain}
 use Rattle.sj_desugar.specs.Spill.{Destination, discard, to_variable, to_result}
 use Rattle.sj_names.specs.declared.references.TypeRef.{TypeRef}
-use Rattle.sj_trees.specs.Term.{Term, Terms, no_terms, more_terms, Cases, no_cases, more_cases, var_def, block_of, labeled, assign, return_to, if_then, while_loop, do_while, try_catch, match_on, throw, new_object, load_module, store_module, select, select_static, apply, apply_statically, this_ref, apply_static, unary_op, binary_op, is_instance_of, as_instance_of, char_literal, var_ref, log_line}
+use Rattle.sj_trees.specs.Term.{Term, Terms, no_terms, more_terms, Cases, no_cases, more_cases, var_def, block_of, labeled, assign, return_to, if_then, while_loop, do_while, try_catch, try_finally, match_on, throw, new_object, load_module, store_module, select, select_static, apply, apply_statically, this_ref, apply_static, unary_op, binary_op, is_instance_of, as_instance_of, char_literal, var_ref, log_line}
 use Rattle.sj_trees.specs.TypeOf.{type_of_term, unary_result, binary_result}
 use Rattle.sj_trees.specs.Types.{class_type, reference_type}
 use Rattle.sj_trees.specs.declared.operators.BinaryOp.{BinaryOp}
@@ -93,6 +93,7 @@ abbrev mutual
   boxes ls k (while_loop p c b) = (if is_plain c then boxes_as_text c else boxes ls (brought_to (type_of_term c)) c) || boxes ls given_up b
   boxes ls k (do_while p b c) = boxes ls given_up b || (if is_plain c then boxes_as_text c else boxes ls (brought_to (type_of_term c)) c)
   boxes ls k (try_catch p e x d t) = boxes ls k e || boxes ls k d
+  boxes ls k (try_finally p e d) = boxes ls k e || boxes ls given_up d
   boxes ls k (match_on p e cs d t) = (if is_plain e then boxes_as_text e else boxes ls (brought_to (type_of_term e)) e) || (cases_box ls k cs || boxes ls k d)
   boxes ls k (throw p e) = is_boxed Any e || (if is_plain e then boxes_as_text e else boxes ls (brought_to (type_of_term e)) e)
   boxes ls k (new_object p c m ts) = is_boxed_at k (class_type c) || (any_is_boxed m.params ts || operands_box ls ts)

@@ -13,7 +13,7 @@ use Rattle.sj_names.specs.declared.references.TypeRef.TheVariants.{Void}
 use Rattle.sj_names.specs.declared.method_names.Member.{Member}
 use Rattle.sj_names.specs.declared.method_names.MethodName.{MethodName}
 use Rattle.sj_desugar.specs.Sure.{is_sure_type}
-use Rattle.sj_trees.specs.Term.{Term, Terms, no_terms, more_terms, Cases, no_cases, more_cases, var_def, skip, block_of, labeled, assign, return_to, if_then, while_loop, do_while, try_catch, match_on, throw, new_object, load_module, store_module, select, select_static, apply, apply_statically, this_ref, apply_static, unary_op, binary_op, is_instance_of, as_instance_of, undefined_literal, null_literal, boolean_literal, char_literal, byte_literal, short_literal, int_literal, long_literal, string_literal, var_ref, log_line}
+use Rattle.sj_trees.specs.Term.{Term, Terms, no_terms, more_terms, Cases, no_cases, more_cases, var_def, skip, block_of, labeled, assign, return_to, if_then, while_loop, do_while, try_catch, try_finally, match_on, throw, new_object, load_module, store_module, select, select_static, apply, apply_statically, this_ref, apply_static, unary_op, binary_op, is_instance_of, as_instance_of, undefined_literal, null_literal, boolean_literal, char_literal, byte_literal, short_literal, int_literal, long_literal, string_literal, var_ref, log_line}
 use Rattle.sj_trees.specs.TypeOf.{type_of_term}
 use Rattle.sj_trees.specs.declared.classes.MethodDef.{MethodDef}
 use Rattle.sj_trees.specs.declared.operators.BinaryOp.{BinaryOp}
@@ -129,6 +129,7 @@ module _ (has : Usable) (checked : Term → Bool) where
   stands (while_loop p c b) = true
   stands (do_while p b c) = true
   stands (try_catch p e x d t) = has.objects
+  stands (try_finally p e d) = true
   stands (throw p e) = has.objects
   stands (match_on p e cs d t) = true
   stands (new_object p c m ts) = has.made c && has.built (member c Constructor m)
@@ -173,6 +174,7 @@ module _ (has : Usable) (checked : Term → Bool) where
     is_built (while_loop p c b) = is_built c && is_built b
     is_built (do_while p b c) = is_built b && is_built c
     is_built (try_catch p e x d t) = stands (try_catch p e x d t) && (is_built e && is_built d)
+    is_built (try_finally p e d) = is_built e && is_built d
     is_built (throw p e) = stands (throw p e) && is_built e
     is_built (match_on p e cs d t) = is_built e && (are_built_cases cs && is_built d)
     is_built (new_object p c m ts) = stands (new_object p c m ts) && are_built ts

@@ -70,6 +70,7 @@ mutual
     labeled_of : Origin → List ℕ → Statements → Statement
     switch_of : Origin → Expression → Cases → Statements → Statement
     try_of : Origin → Statements → Variable → Statements → Statement
+    finally_of : Origin → Statements → Statements → Statement
 
   pub data Statements : Type 0 where
     no_statements : Statements

@@ -1,6 +1,6 @@
 -- The terms that expressions, statements and methods of the core stand for.
 use Rattle.std.specs.Prelude.{List, [], ◌∷◌, ℤ, map}
-use Rattle.sj_core.specs.Terms.{Variable, named, numbered, receiver, Expression, field_of, static_of, module_of, checked_value, made_of, receiver_call, test_of, cast_of, assign_field, assign_static, store_module_of, throw_of, undefined_value, null_value, boolean_value, number_value, long_value, text_value, variable_use, boxed_char, char_text, value_text, choice_of, static_call, unary_of, binary_of, Expressions, no_expressions, expression, Statement, constant_of, define_of, declare_of, assign_to, evaluate_of, return_of, log_of, leave_label, break_nearest, if_of, while_of, loop_of, labeled_of, switch_of, try_of, Statements, no_statements, statement, Cases, no_cases, switch_case, Method}
+use Rattle.sj_core.specs.Terms.{Variable, named, numbered, receiver, Expression, field_of, static_of, module_of, checked_value, made_of, receiver_call, test_of, cast_of, assign_field, assign_static, store_module_of, throw_of, undefined_value, null_value, boolean_value, number_value, long_value, text_value, variable_use, boxed_char, char_text, value_text, choice_of, static_call, unary_of, binary_of, Expressions, no_expressions, expression, Statement, constant_of, define_of, declare_of, assign_to, evaluate_of, return_of, log_of, leave_label, break_nearest, if_of, while_of, loop_of, labeled_of, switch_of, try_of, finally_of, Statements, no_statements, statement, Cases, no_cases, switch_case, Method}
 use Rattle.sj_core.specs.declared.expressions.CoreVariable.{CoreVariable}
 use Rattle.sj_core.specs.declared.expressions.CoreVariable.TheVariants as Variables
 use Rattle.sj_core.specs.declared.expressions.CoreExpression.{CoreExpression, fold-CoreExpression}
@@ -93,6 +93,7 @@ statement_step (CoreStatement-F.Loop p ss) = loop_of p (statements_of ss.items)
 statement_step (CoreStatement-F.Labeled p l ss) = labeled_of p l (statements_of ss.items)
 statement_step (CoreStatement-F.Switch p e cs ss) = switch_of p (expression_view e) (cases_of cs.items) (statements_of ss.items)
 statement_step (CoreStatement-F.Try p ss x ts) = try_of p (statements_of ss.items) (variable_view x) (statements_of ts.items)
+statement_step (CoreStatement-F.Finally p ss ts) = finally_of p (statements_of ss.items) (statements_of ts.items)
 
 abbrev pub case_step : CoreCase-F Statement Case → Case
 case_step c = (c.keys, statements_of c.body.items)

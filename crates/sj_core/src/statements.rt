@@ -42,6 +42,8 @@ pub enum CoreStatement {
     Switch(Option<Position>, CoreExpression, Vec<CoreCase>, Vec<CoreStatement>),
     /// What the one block throws is caught under a name, for the other.
     Try(Option<Position>, Vec<CoreStatement>, CoreVariable, Vec<CoreStatement>),
+    /// However the one block ends, the other runs behind it.
+    Finally(Option<Position>, Vec<CoreStatement>, Vec<CoreStatement>),
 }
 
 impl Drop for CoreStatement {
@@ -67,6 +69,7 @@ impl Drop for CoreStatement {
             CoreStatement::Labeled(_, _one, _two) => {}
             CoreStatement::Switch(_, _one, _two, _three) => {}
             CoreStatement::Try(_, _one, _two, _three) => {}
+            CoreStatement::Finally(_, _one, _two) => {}
         }
     }
 }

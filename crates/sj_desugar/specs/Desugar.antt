@@ -17,11 +17,12 @@ use Rattle.sj_core.specs.Position.{Position}
 use Rattle.sj_core.specs.IrType.{IrType}
 use Rattle.sj_core.specs.IrTypeVariants.{Any, Array, Nothing, Undefined, Boolean, Char, Byte, Short, Int, Long, String, Null, NoType}
 use Rattle.sj_core.specs.Terms as core
-use Rattle.sj_core.specs.Terms.{named, Expression, field_of, static_of, module_of, made_of, receiver_call, test_of, cast_of, checked_value, undefined_value, null_value, boolean_value, number_value, long_value, text_value, variable_use, choice_of, static_call, unary_of, binary_of, Statement, define_of, declare_of, assign_to, evaluate_of, return_of, log_of, assign_field, assign_static, store_module_of, throw_of, leave_label, break_nearest, if_of, while_of, loop_of, labeled_of, switch_of, try_of, Statements, no_statements, statement, followed, Method}
+use Rattle.sj_core.specs.Terms.{named, Expression, field_of, static_of, module_of, made_of, receiver_call, test_of, cast_of, checked_value, undefined_value, null_value, boolean_value, number_value, long_value, text_value, variable_use, choice_of, static_call, unary_of, binary_of, Statement, define_of, declare_of, assign_to, evaluate_of, return_of, log_of, assign_field, assign_static, store_module_of, throw_of, leave_label, break_nearest, if_of, while_of, loop_of, labeled_of, switch_of, try_of, finally_of, Statements, no_statements, statement, followed, Method}
 use Rattle.sj_core.specs.Views.{expressions_of}
 use Rattle.sj_core.specs.declared.callees.Callee.{Callee}
 use Rattle.sj_core.specs.declared.callees.Callee.TheVariants as callees
 use Rattle.sj_desugar.specs.Coercions.{coerced, coerced_arguments, coerced_receiver}
+use Rattle.sj_desugar.specs.Finalizers.{finalizer_code}
 use Rattle.sj_desugar.specs.Plain.{is_no_type, is_plain, is_fixed, is_among, mutable_in, mutable_params}
 use Rattle.sj_desugar.specs.Texts.{operand_of}
 use Rattle.sj_world.specs.Calls.{receiver_class}
@@ -225,6 +226,13 @@ tried p x first second = record { statements = statement (try_of (Some p) first.
 abbrev pub tries : Position → List ℕ → Code → (ℕ → Code) → Code
 tries p x first second = tried p x first (second first.next)
 
+abbrev pub finished : Position → Code → Code → Code
+finished p first second = record { statements = statement (finally_of (Some p) first.statements second.statements) no_statements; next = second.next }
+
+-- however the first code ends, the second runs behind it
+abbrev pub finishes : Position → Code → (ℕ → Code) → Code
+finishes p first second = finished p first (second first.next)
+
 -- a receiver as an operand, with its null check unless it is sure: with it, it isn't fixed, and where it isn't plain it is spilled by itself
 abbrev pub received : Bool → Operand → Operand
 received true o = o
@@ -253,6 +261,7 @@ module _ (is_mutable sure : List ℕ → Bool) where
     into ls k j (while_loop p c b) = elim (is_plain c) [ true ↦ wrapped (while_of (Some p) (expression_of sure c)) (into ls discard j b) | false ↦ wrapped (while_of (Some p) (boolean_value true)) (then_use (spill (operand c (λ k j. into ls k j c) ∷ []) j) (λ es j. put_first (break_unless (first_of es)) (into ls discard j b))) ]
     into ls k j (do_while p b c) = wrapped (loop_of (Some p)) (then_code (into ls discard j b) (λ j. then_use (spill (operand c (λ k j. into ls k j c) ∷ []) j) (λ es. one (break_unless (first_of es)))))
     into ls k j (try_catch p e x d t) = tries p x (into ls k j e) (λ j. into ls k j d)
+    into ls k j (try_finally p e d) = finishes p (into ls k j e) (λ j. finalizer_code (target_of ls) d j (λ i. into ls discard i d))
     into ls k j (match_on p e cs d t) = then_use (spill (operand e (λ k j. into ls k j e) ∷ []) j) (λ es j. switch_code p (first_of es) (cases ls k j cs) (λ j. into ls k j d))
     into ls k j (apply_static p c n m ts t) = then_use (spill (operands ls ts) j) (λ es. finish k p t false (static_call (member c n m) (expressions_of (coerced_arguments m.params (types_of ts) es))))
     into ls k j (apply p e m ts t) = then_use (spill (receiver e (λ k j. into ls k j e) ∷ operands ls ts) j) (λ es. finish k p t false (receiver_call (callee_of (type_of_term e) m) (coerced_receiver (type_of_term e) (first_of es)) (expressions_of (coerced_arguments m.params (types_of ts) (rest_of es)))))

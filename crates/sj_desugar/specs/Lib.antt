@@ -1,5 +1,6 @@
 pub mod Coercions
 pub mod Desugar
+pub mod Finalizers
 pub mod Plain
 pub mod Rows
 pub mod Spill

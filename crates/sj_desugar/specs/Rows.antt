@@ -1,16 +1,17 @@
 -- Fields and calls on receivers and the one objects of classes, and what is written for them.
-use Rattle.std.specs.Prelude.{◌≡◌, ℕ, Bool, false, List, [], ◌∷◌, Some, codes, pos}
+use Rattle.std.specs.Prelude.{◌≡◌, ℕ, Bool, false, List, [], ◌∷◌, Some, None, codes, pos}
 use Rattle.sj_core.specs.Terms as core
-use Rattle.sj_core.specs.Terms.{Statements, statement, no_statements, try_of, throw_of, named, numbered, variable_use, field_of, module_of, store_module_of, checked_value, receiver_call, number_value, expression, no_expressions, constant_of, assign_to, evaluate_of, return_of}
+use Rattle.sj_core.specs.Terms.{Statement, Statements, statement, no_statements, try_of, finally_of, throw_of, named, numbered, variable_use, field_of, module_of, store_module_of, checked_value, receiver_call, number_value, expression, no_expressions, constant_of, assign_to, evaluate_of, return_of}
 use Rattle.sj_core.specs.declared.callees.Callee.TheVariants as callees
-use Rattle.sj_desugar.specs.Desugar.{into, member}
-use Rattle.sj_desugar.specs.Spill.{discard, to_result}
+use Rattle.sj_desugar.specs.Desugar.{Targets, target_of, into, member}
+use Rattle.sj_desugar.specs.Finalizers.{kept}
+use Rattle.sj_desugar.specs.Spill.{discard, to_variable, to_result}
 use Rattle.sj_core.specs.Same.{is_same_text}
 use Rattle.sj_core.specs.MethodName.{MethodName}
 use Rattle.sj_core.specs.NamespaceVariants.{Private}
 use Rattle.sj_core.specs.TypeRef.{TypeRef}
 use Rattle.sj_core.specs.Erase.{nowhere}
-use Rattle.sj_core.specs.Term.{Term, no_terms, more_terms, skip, block_of, try_catch, throw, load_module, store_module, select, apply_statically, int_literal, var_ref}
+use Rattle.sj_core.specs.Term.{Term, no_terms, more_terms, skip, block_of, labeled, return_to, try_catch, try_finally, throw, load_module, store_module, select, apply_statically, int_literal, var_ref}
 use Rattle.sj_core.specs.IrTypeVariants.{Class, Int, NoType}
 
 -- the local `a` is never null, and `b` may be
@@ -66,3 +67,40 @@ pub record ModulesAreLoaded : Type 0 where
   pub as_a_receiver : returned (select nowhere loaded (codes "A") (codes "f") Int) ≡ statement (return_of (Some nowhere) (field_of (module_of (codes "A")) (codes "A") (codes "f"))) no_statements
   pub stored : dropped (store_module nowhere (codes "A") (use_of (codes "a"))) ≡ statement (store_module_of (Some nowhere) (codes "A") (variable_use (named (codes "a")))) no_statements
   pub stored_in_pieces : dropped (store_module nowhere (codes "A") loading) ≡ statement (core.declare_of (Some nowhere) (numbered 1)) (statement (assign_to (Some nowhere) (numbered 1) (module_of (codes "A"))) (statement (store_module_of (Some nowhere) (codes "A") (variable_use (numbered 1))) no_statements))
+
+-- one label around, whose value goes to the local `x`
+abbrev labels_around : Targets
+labels_around = record { label = codes "l"; goes_to = to_variable (named (codes "x")) Int } ∷ []
+
+-- m: { try { leave l with 2 } finally { leave m } }
+abbrev gives_its_jump_up : Term
+gives_its_jump_up = labeled nowhere (codes "m") NoType (try_finally nowhere (return_to nowhere (int_literal nowhere (pos 2)) (codes "l")) (return_to nowhere (skip nowhere) (codes "m")))
+
+-- m: { leave m }
+abbrev jumps_to_itself : Term
+jumps_to_itself = labeled nowhere (codes "m") NoType (return_to nowhere (skip nowhere) (codes "m"))
+
+-- l: { try { leave l with 2 } finally { } }
+abbrev jumps_within_itself : Term
+jumps_within_itself = labeled nowhere (codes "l") NoType (try_finally nowhere (return_to nowhere (int_literal nowhere (pos 2)) (codes "l")) (skip nowhere))
+
+-- the statements of a tree inside the label, whose value goes to `x`
+abbrev labelled : Term → Statements
+labelled t = (into (λ x. false) is_a labels_around (to_variable (named (codes "x")) Int) 1 t).statements
+
+-- `x = 2; break l;`, and the jump alone
+abbrev leaves_with : ℕ → Statements
+leaves_with n = statement (assign_to (Some nowhere) (named (codes "x")) (number_value (pos n))) (statement (core.leave_label (Some nowhere) (codes "l")) no_statements)
+
+abbrev inner_try : Statements → Statement
+inner_try ss = core.labeled_of (Some nowhere) (codes "m") (statement (finally_of (Some nowhere) ss (statement (core.leave_label (Some nowhere) (codes "m")) no_statements)) no_statements)
+
+-- a finalizer's value isn't used. In `x = l: { try { leave l with 1 } finally { m: { try { leave l with 2 } finally { leave m } } } }` the inner try may write
+-- `x` before its jump is given up, so `x` is kept in `$1` and given back. A finalizer whose jumps are to labels in it keeps nothing, also where one of them
+-- has the name of a label around it.
+pub record FinalizersRun : Type 0 where
+  pub value_dropped : returned (try_finally nowhere (int_literal nowhere (pos 1)) (use_of (codes "b"))) ≡ statement (finally_of (Some nowhere) (statement (return_of (Some nowhere) (number_value (pos 1))) no_statements) no_statements) no_statements
+  pub given_back : labelled (try_finally nowhere (return_to nowhere (int_literal nowhere (pos 1)) (codes "l")) gives_its_jump_up) ≡ statement (finally_of (Some nowhere) (leaves_with 1) (statement (constant_of None (numbered 1) (variable_use (named (codes "x")))) (statement (inner_try (leaves_with 2)) (statement (assign_to None (named (codes "x")) (variable_use (numbered 1))) no_statements)))) no_statements
+  pub left_alone : labelled (try_finally nowhere (return_to nowhere (int_literal nowhere (pos 1)) (codes "l")) (return_to nowhere (int_literal nowhere (pos 2)) (codes "l"))) ≡ statement (finally_of (Some nowhere) (leaves_with 1) (leaves_with 2)) no_statements
+  pub own_label : kept (target_of labels_around) jumps_to_itself ≡ []
+  pub same_name : kept (target_of labels_around) jumps_within_itself ≡ []

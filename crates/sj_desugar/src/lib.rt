@@ -3,7 +3,7 @@
 //! `specs/` defines it. The functions here are laws.
 #![tactic(auto)]
 
-ghost use Rattle.sj_desugar.specs.Rows.{ReceiversAreChecked, ThrowsAreCaught, ModulesAreLoaded};
+ghost use Rattle.sj_desugar.specs.Rows.{ReceiversAreChecked, ThrowsAreCaught, FinalizersRun, ModulesAreLoaded};
 
 /// Worked trees: a receiver that is never null isn't checked, and the check of any other comes in front of the arguments.
 pub fn worked_receivers()
@@ -18,4 +18,11 @@ pub fn worked_modules()
 /// Worked trees: the value of a block and that of its handler go where the value of the whole goes.
 pub fn worked_tries()
     ensures { ThrowsAreCaught }
+{}
+
+/// Worked trees: a value that leaves to a label by a jump travels with the jump, but in the emitted code it is in the label's variable before the jump is
+/// made. A finalizer may write such a variable and then give its jump up, where another try in it ends with a jump of its own. So where a finalizer holds
+/// a try, the variables that its jumps may write are kept in front of it and given back behind it.
+pub fn worked_finalizers()
+    ensures { FinalizersRun }
 {}

@@ -8,7 +8,7 @@ use Rattle.js_tree.specs.declared.operators.HostOperation.TheVariants.{BigIntAsI
 use Rattle.js_tree.specs.declared.operators.UnaryOperator.TheVariants.{Not}
 use Rattle.sj_desugar.specs.Lookup.{Lookup}
 use Rattle.sj_desugar.specs.Terms as core
-use Rattle.sj_desugar.specs.Terms.{Variable, undefined_value, null_value, boolean_value, number_value, long_value, text_value, variable_use, boxed_char, char_text, value_text, choice_of, static_call, field_of, static_of, checked_value, made_of, receiver_call, constant_of, define_of, assign_to, assign_field, assign_static, evaluate_of, log_of, leave_label, if_of, loop_of, switch_of, try_of, Method}
+use Rattle.sj_desugar.specs.Terms.{Variable, undefined_value, null_value, boolean_value, number_value, long_value, text_value, variable_use, boxed_char, char_text, value_text, choice_of, static_call, field_of, static_of, checked_value, made_of, receiver_call, constant_of, define_of, assign_to, assign_field, assign_static, evaluate_of, log_of, leave_label, if_of, loop_of, switch_of, try_of, finally_of, Method}
 use Rattle.sj_desugar.specs.Callee.{Callee}
 use Rattle.sj_desugar.specs.CalleeVariants as callees
 use Rattle.sj_emit_expr.specs.Names.{variable_name, label_name}
@@ -225,6 +225,7 @@ module _ (name : Variable → Name) (label : List ℕ → Name) (known : Lookup)
     statement_template (core.labeled_of p l ss) = js.labeled_of (label l) (statement_templates ss)
     statement_template (switch_of p e cs ss) = switch_on (expression_template e) (case_templates cs) (statement_templates ss)
     statement_template (try_of p ss x ts) = js.try_catch (statement_templates ss) (name x) (statement_templates ts)
+    statement_template (finally_of p ss ts) = js.try_finally (statement_templates ss) (statement_templates ts)
 
     pub statement_templates : core.Statements → js.Statements
     statement_templates core.no_statements = js.no_statements

@@ -6,7 +6,7 @@ use Rattle.js_tree.specs.declared.items.Binding.{Binding}
 use Rattle.sj_desugar.specs.Lookup.{Lookup}
 use Rattle.sj_desugar.specs.Callee.{Callee}
 use Rattle.sj_desugar.specs.CalleeVariants as callees
-use Rattle.sj_desugar.specs.Terms.{Expression, boxed_char, char_text, value_text, choice_of, static_call, field_of, static_of, module_of, checked_value, made_of, receiver_call, test_of, cast_of, unary_of, binary_of, Expressions, no_expressions, expression, Statement, constant_of, define_of, declare_of, assign_to, evaluate_of, return_of, log_of, assign_field, assign_static, store_module_of, throw_of, leave_label, break_nearest, if_of, while_of, loop_of, labeled_of, switch_of, try_of, Statements, no_statements, statement, Cases, no_cases, switch_case}
+use Rattle.sj_desugar.specs.Terms.{Expression, boxed_char, char_text, value_text, choice_of, static_call, field_of, static_of, module_of, checked_value, made_of, receiver_call, test_of, cast_of, unary_of, binary_of, Expressions, no_expressions, expression, Statement, constant_of, define_of, declare_of, assign_to, evaluate_of, return_of, log_of, assign_field, assign_static, store_module_of, throw_of, leave_label, break_nearest, if_of, while_of, loop_of, labeled_of, switch_of, try_of, finally_of, Statements, no_statements, statement, Cases, no_cases, switch_case}
 use Rattle.sj_emit_expr.specs.Tests.{test_name, cast_name, same_name}
 use Rattle.sj_emit_expr.specs.Templates.{called_member, member_name, class_name, static_name, setter_name, load_name, store_name, check_name, is_nonzero_literal}
 use Rattle.sj_mangling.specs.Bindings.{method_binding}
@@ -120,6 +120,7 @@ module _ (known : Lookup) where
     uses_of (labeled_of p l ss) = uses_of_all ss
     uses_of (switch_of p e cs ss) = uses_in e ++ uses_of_cases cs ++ uses_of_all ss
     uses_of (try_of p ss x ts) = uses_of_all ss ++ uses_of_all ts
+    uses_of (finally_of p ss ts) = uses_of_all ss ++ uses_of_all ts
 
     pub uses_of_all : Statements → List Binding
     uses_of_all no_statements = []

@@ -2,7 +2,7 @@
 use Rattle.std.specs.Prelude.{◌≡◌, ℕ, List, [], ◌∷◌, ◌⊎◌}
 use Rattle.body_rules.specs.Desugar.{names_of}
 use Rattle.sj_trees.specs.declared.classes.MethodDef.{MethodDef}
-use Rattle.sj_trees.specs.Term.{Term, Terms, no_terms, more_terms, Cases, no_cases, more_cases, var_def, block_of, labeled, assign, return_to, if_then, while_loop, do_while, throw, try_catch, match_on, new_object, select, apply, apply_statically, apply_static, unary_op, binary_op, is_instance_of, as_instance_of, log_line, store_module}
+use Rattle.sj_trees.specs.Term.{Term, Terms, no_terms, more_terms, Cases, no_cases, more_cases, var_def, block_of, labeled, assign, return_to, if_then, while_loop, do_while, throw, try_catch, try_finally, match_on, new_object, select, apply, apply_statically, apply_static, unary_op, binary_op, is_instance_of, as_instance_of, log_line, store_module}
 use Rattle.body_rules.specs.Locals.{Own, OwnAll, OwnCases, IsParameter}
 use Rattle.body_rules.specs.Sure.{Definition, definitions}
 
@@ -29,6 +29,7 @@ abbrev mutual
   Once ls (while_loop p c b) = Once ls c × Once ls b × Apart (Own c) (Own b)
   Once ls (do_while p b c) = Once ls b × Once ls c × Apart (Own b) (Own c)
   Once ls (try_catch p e x d t) = (Own e x → ⊥) × (Own d x → ⊥) × Once ls e × Once ls d × Apart (Own e) (Own d)
+  Once ls (try_finally p e d) = Once ls e × Once ls d × Apart (Own e) (Own d)
   Once ls (match_on p e cs d t) = Once ls e × OnceCases ls cs × Once ls d × Apart (Own e) (OwnCases cs) × Apart (Own e) (Own d) × Apart (OwnCases cs) (Own d)
   Once ls (new_object p c m ts) = OnceAll ls ts
   Once ls (select p e c f t) = Once ls e

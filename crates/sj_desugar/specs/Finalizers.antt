@@ -1,10 +1,9 @@
 -- What a finalizer may write of the variables around its try, and what is written around it.
 use Rattle.std.specs.Prelude.{ℕ, suc, Bool, true, false, ◌||◌, ◌==◌, List, [], ◌∷◌, ◌++◌, None, nat_eq, if◌then◌else◌}
 use Rattle.std.specs.Cmp.Lexicographic.{pointwise}
-use Rattle.std.specs.List.{list_any}
-use Rattle.sj_trees.specs.Term.{Term, Terms, no_terms, more_terms, Cases, no_cases, more_cases, var_def, block_of, labeled, assign, return_to, if_then, while_loop, do_while, try_catch, try_finally, throw, match_on, new_object, store_module, select, apply, apply_statically, apply_static, unary_op, binary_op, new_array, array_value, array_length, array_select, is_instance_of, as_instance_of, log_line}
+use Rattle.std.specs.List.{flat_map, list_any}
+use Rattle.sj_core.specs.Term.{Term, Terms, no_terms, more_terms, Cases, no_cases, more_cases, var_def, block_of, labeled, assign, return_to, if_then, while_loop, do_while, try_catch, try_finally, throw, match_on, new_object, store_module, select, apply, apply_statically, apply_static, unary_op, binary_op, new_array, array_value, array_length, array_select, is_instance_of, as_instance_of, log_line}
 use Rattle.sj_core.specs.Terms.{Variable, named, numbered, receiver, variable_use, constant_of, assign_to}
-use Rattle.sj_desugar.specs.Desugar.{Targets, target_of}
 use Rattle.sj_desugar.specs.Plain.{is_among}
 use Rattle.sj_desugar.specs.Spill.{Destination, discard, to_variable, to_result, Code, no_code, put_first, then_code}
 
@@ -99,20 +98,21 @@ is_same_variable (numbered i) (numbered j) = i == j
 is_same_variable receiver receiver = true
 is_same_variable _ _ = false
 
--- the variable of a destination in front of others, where it is one and isn't among those seen
-abbrev pub with_variable : Destination → List Variable → (List Variable → List Variable) → List Variable
-with_variable (to_variable x t) seen rest = if list_any (is_same_variable x) seen then rest seen else (x ∷ rest (x ∷ seen))
-with_variable discard seen rest = rest seen
-with_variable (to_result t) seen rest = rest seen
+-- the variable of a destination, where it is one
+abbrev pub variables_in : Destination → List Variable
+variables_in (to_variable x t) = x ∷ []
+variables_in discard = []
+variables_in (to_result t) = []
 
--- the variables to which the values of these labels go, each once
-abbrev pub variables_of : Targets → List (List ℕ) → List Variable → List Variable
-variables_of ls [] seen = []
-variables_of ls (l ∷ more) seen = with_variable (target_of ls l) seen (variables_of ls more)
+-- each variable once, where it comes first, but for those that are there already
+abbrev pub each_once : List Variable → List Variable → List Variable
+each_once seen [] = []
+each_once seen (x ∷ xs) = if list_any (is_same_variable x) seen then each_once seen xs else (x ∷ each_once (x ∷ seen) xs)
 
--- what a finalizer keeps, with these labels around its try: where it holds a try, each variable of a label around to which a Return in it goes
-abbrev pub kept : Targets → Term → List Variable
-kept ls f = if holds_finally f then variables_of ls (left_labels [] f) [] else []
+-- what a finalizer keeps, where the values that leave to labels go there: where it holds a try with a finalizer, each variable to which a value goes
+-- that a Return in it brings
+abbrev pub kept : (List ℕ → Destination) → Term → List Variable
+kept goes_to f = if holds_finally f then each_once [] (flat_map (λ l. variables_in (goes_to l)) (left_labels [] f)) else []
 
 -- `const $k = x;` for each, from this number on
 abbrev pub keep_all : List Variable → ℕ → Code
@@ -125,5 +125,5 @@ give_all_back [] j next = no_code next
 give_all_back (x ∷ xs) j next = put_first (assign_to None x (variable_use (numbered j))) (give_all_back xs (suc j) next)
 
 -- the statements of a finalizer, between those that keep variables and those that give them back
-abbrev pub finalizer_code : Targets → Term → ℕ → (ℕ → Code) → Code
-finalizer_code ls f j body = then_code (then_code (keep_all (kept ls f) j) body) (give_all_back (kept ls f) j)
+abbrev pub finalizer_code : (List ℕ → Destination) → Term → ℕ → (ℕ → Code) → Code
+finalizer_code goes_to f j body = then_code (then_code (keep_all (kept goes_to f) j) body) (give_all_back (kept goes_to f) j)

@@ -1,2 +1,0 @@
-pub mod Finalizers
-pub mod Rows
