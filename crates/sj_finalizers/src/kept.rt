@@ -4,6 +4,7 @@ ghost use Rattle.std.specs.List.{list_any};
 ghost use Rattle.sj_core.specs.Views.{variable_view};
 ghost use Rattle.sj_desugar.specs.Desugar as desugar;
 ghost use Rattle.sj_desugar.specs.Finalizers as specs;
+ghost use Rattle.sj_desugar.specs.Spill as spill;
 ghost use Rattle.sj_desugaring.specs.Views.{code_view, destination_view, target_view};
 ghost use Rattle.sj_trees.specs.View.{view};
 
@@ -77,11 +78,7 @@ fn add_destination(kept: &mut Vec<CoreVariable>, goes_to: Destination) -> Result
 }
 
 // `const $k = x;`
-fn keep(
-    alloc: Global,
-    variable: &CoreVariable,
-    number: u64,
-) -> Result<Written, NoMemory>
+fn keep(alloc: Global, variable: &CoreVariable, number: u64) -> Result<Written, NoMemory>
     ensures { IfOk result (λ w. code_view w ≡ specs.keep_all (variable_view variable.now ∷ []) number) }
 {
     let next = number_behind(number)?;
@@ -91,11 +88,8 @@ fn keep(
 }
 
 /// `const $k = x;` for each of these variables, from this number on.
-pub fn keep_all(
-    alloc: Global,
-    variables: &[CoreVariable],
-    number: u64,
-) -> Result<Written, NoMemory>
+#[tactic(auto, using(std::proofs::lemmas::Grind::common_steps, sj_desugaring::proofs::Lists::pushes))]
+pub fn keep_all(alloc: Global, variables: &[CoreVariable], number: u64) -> Result<Written, NoMemory>
     ensures { IfOk result (λ w. code_view w ≡ specs.keep_all (map variable_view variables.now) number) }
 {
     let mut written = nothing(alloc, number);
@@ -120,8 +114,9 @@ fn give_back(
     one(alloc, statement, next)
 }
 
-/// `x = $k;` for each of these variables, from this number on, where `next` is the number of the next variable for an operand.
-pub fn give_all_back(
+// `x = $k;` for each of these variables, from this number on, where `next` is the number of the next variable for an operand.
+#[tactic(auto, using(std::proofs::lemmas::Grind::common_steps, sj_desugaring::proofs::Lists::pushes))]
+fn give_all_back(
     alloc: Global,
     variables: &[CoreVariable],
     number: u64,
@@ -137,4 +132,19 @@ pub fn give_all_back(
         from = number_behind(from)?;
     }
     Ok(written)
+}
+
+/// The code of a finalizer behind what keeps these variables, from this number on, and in front of what gives them back.
+pub fn given_back(
+    alloc: Global,
+    variables: &[CoreVariable],
+    number: u64,
+    front: Written,
+    code: Written,
+) -> Result<Written, NoMemory>
+    ensures { IfOk result (λ w. code_view w ≡ spill.joined (spill.joined (code_view front) (code_view code)) (specs.give_all_back (map variable_view variables.now) number code.next)) }
+{
+    let next = code.next;
+    let back = give_all_back(alloc, variables, number, next)?;
+    joined(joined(front, code)?, back)
 }

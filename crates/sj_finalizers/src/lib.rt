@@ -6,4 +6,4 @@
 mod kept;
 mod walks;
 
-pub use kept::{give_all_back, keep_all, kept_in};
+pub use kept::{given_back, keep_all, kept_in};

@@ -2,11 +2,14 @@
 ghost use Rattle.std.specs.Prelude.{◌≡◌, [], ◌∷◌, ◌++◌, map, IfOk, OnOk};
 ghost use Rattle.sj_desugar.specs.Finalizers as specs;
 ghost use Rattle.sj_desugar.specs.Plain as plain;
+ghost use Rattle.sj_finalizers.specs.Shapes.{seen_jump, jump_of, left_in_parts};
 ghost use Rattle.sj_trees.specs.View.{view, terms_view, cases_view};
+ghost use Rattle.tree_parts.specs.Parts.{parts_of};
 
 use sj_names::{LabelName, NoMemory};
 use sj_trees::{MatchCase, Tree};
 use std::alloc::Global;
+use tree_parts::{Parts, parts_in};
 
 /// Whether a tree is a try with a finalizer, or holds one.
 #[cycle(holding)]
@@ -125,8 +128,29 @@ pub fn labels_left(alloc: Global, tree: &Tree) -> Result<Vec<&LabelName>, NoMemo
     Ok(found)
 }
 
+/// What a tree says of labels.
+#[derive(Clone, Copy)]
+enum Jump<'t> {
+    /// It leaves to the label.
+    To(&'t LabelName),
+    /// The label is around what is in it.
+    Around(&'t LabelName),
+    None,
+}
+
+fn jump_in(tree: &Tree) -> Jump<'_>
+    ensures { seen_jump result ≡ jump_of (view tree.now) }
+{
+    match tree {
+        Tree::Return(_, _, label) => Jump::To(label),
+        Tree::Labeled(_, label, _, _) => Jump::Around(label),
+        _ => Jump::None,
+    }
+}
+
 // Adds the labels to which a tree jumps, but for those inside of which it stands.
 #[cycle(leaving)]
+#[tactic(auto, using(std::proofs::lemmas::Grind::common_steps, crate::proofs::Shapes::left_shape))]
 fn add<'t>(
     alloc: Global,
     inner: &[&'t LabelName],
@@ -135,73 +159,53 @@ fn add<'t>(
 ) -> Result<(), NoMemory>
     ensures { OnOk result (map (λ l. l.now) found.new.items ≡ map (λ l. l.now) found.old.items ++ specs.left_labels (map (λ l. l.now) inner.now) (view tree.now)) }
 {
-    match tree {
-        Tree::Return(_, value, label) => {
+    match jump_in(tree) {
+        Jump::To(label) => {
             if !is_among(inner, label) {
                 found.push(label)?;
             }
-            add(alloc, inner, found, value)
+            add_parts(alloc, inner, found, tree)
         }
-        Tree::Labeled(_, label, _, value) => {
+        Jump::Around(label) => {
             let deeper = with_inner(alloc, label, inner)?;
-            add(alloc, &deeper, found, value)
+            add_parts(alloc, &deeper, found, tree)
         }
-        Tree::VarDef(_, _, _, _, value)
-        | Tree::Throw(_, value)
-        | Tree::StoreModule(_, _, value)
-        | Tree::Select(_, value, _, _, _)
-        | Tree::UnaryOp(_, _, value)
-        | Tree::NewArray(_, _, value)
-        | Tree::ArrayLength(_, value)
-        | Tree::IsInstanceOf(_, value, _)
-        | Tree::AsInstanceOf(_, value, _)
-        | Tree::Log(_, value) => add(alloc, inner, found, value),
-        Tree::Block(_, trees)
-        | Tree::New(_, _, _, trees)
-        | Tree::ApplyStatic(_, _, _, _, trees, _)
-        | Tree::ArrayValue(_, _, trees) => add_all(alloc, inner, found, trees),
-        Tree::Assign(_, first, second)
-        | Tree::While(_, first, second)
-        | Tree::DoWhile(_, first, second)
-        | Tree::TryCatch(_, first, _, second, _)
-        | Tree::TryFinally(_, first, second)
-        | Tree::BinaryOp(_, _, first, second)
-        | Tree::ArraySelect(_, first, second, _) => {
-            add(alloc, inner, found, first)?;
-            add(alloc, inner, found, second)
+        Jump::None => add_parts(alloc, inner, found, tree),
+    }
+}
+
+// Adds the labels to which the trees in a tree jump.
+#[cycle(leaving)]
+fn add_parts<'t>(
+    alloc: Global,
+    inner: &[&'t LabelName],
+    found: &mut Vec<&'t LabelName>,
+    tree: &'t Tree,
+) -> Result<(), NoMemory>
+    ensures { OnOk result (map (λ l. l.now) found.new.items ≡ map (λ l. l.now) found.old.items ++ left_in_parts (map (λ l. l.now) inner.now) (parts_of (view tree.now))) }
+{
+    match parts_in(tree) {
+        Parts::None => Ok(()),
+        Parts::One(one) => add(alloc, inner, found, one),
+        Parts::Two(one, two) => {
+            add(alloc, inner, found, one)?;
+            add(alloc, inner, found, two)
         }
-        Tree::If(_, condition, yes, no, _) => {
-            add(alloc, inner, found, condition)?;
-            add(alloc, inner, found, yes)?;
-            add(alloc, inner, found, no)
+        Parts::Three(one, two, three) => {
+            add(alloc, inner, found, one)?;
+            add(alloc, inner, found, two)?;
+            add(alloc, inner, found, three)
         }
-        Tree::Match(_, selector, cases, default, _) => {
-            add(alloc, inner, found, selector)?;
+        Parts::Many(trees) => add_all(alloc, inner, found, trees),
+        Parts::OneAndMany(one, trees) => {
+            add(alloc, inner, found, one)?;
+            add_all(alloc, inner, found, trees)
+        }
+        Parts::Cases(one, cases, two) => {
+            add(alloc, inner, found, one)?;
             add_cases(alloc, inner, found, cases)?;
-            add(alloc, inner, found, default)
+            add(alloc, inner, found, two)
         }
-        Tree::Apply(_, receiver, _, trees, _) => {
-            add(alloc, inner, found, receiver)?;
-            add_all(alloc, inner, found, trees)
-        }
-        Tree::ApplyStatically(_, receiver, _, _, _, trees, _) => {
-            add(alloc, inner, found, receiver)?;
-            add_all(alloc, inner, found, trees)
-        }
-        Tree::Skip(_)
-        | Tree::LoadModule(_, _)
-        | Tree::SelectStatic(_, _, _, _)
-        | Tree::Undefined(_)
-        | Tree::Null(_)
-        | Tree::BooleanLiteral(_, _)
-        | Tree::CharLiteral(_, _)
-        | Tree::ByteLiteral(_, _)
-        | Tree::ShortLiteral(_, _)
-        | Tree::IntLiteral(_, _)
-        | Tree::LongLiteral(_, _)
-        | Tree::StringLiteral(_, _)
-        | Tree::VarRef(_, _, _)
-        | Tree::This(_, _) => Ok(()),
     }
 }
 

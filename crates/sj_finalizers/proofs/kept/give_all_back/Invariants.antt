@@ -6,4 +6,7 @@ use Rattle.sj_desugaring.specs.Views.{code_view}
 use Rattle.sj_finalizers.proofs.kept.give_all_back.Given as goal
 
 abbrev pub invariant-loop-variable : goal.invariant-loop-variable
-invariant-loop-variable l = joined (code_view l.written) (give_all_back (map variable_view (drop l.variable-index l.variables)) l.from l.next) ≡ give_all_back (map variable_view l.variables) l.number l.next
+invariant-loop-variable l = record {
+  same_next : l.written.next ≡ l.next;
+  so_far : joined (code_view l.written) (give_all_back (map variable_view (drop l.variable-index l.variables)) l.from l.next) ≡ give_all_back (map variable_view l.variables) l.number l.next;
+}
