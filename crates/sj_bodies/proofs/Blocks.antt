@@ -107,21 +107,21 @@ module _ (z : Setting) (lawful : Lawful z) (c : Context) (ss : core.Statements) 
   leave-keeps : (q : core.Variable → Type 0) (outer inner : js.Scope) → ((y : core.Variable) → q y → c.kept y) → Keeps z.place q (js_meaning.enter shown_statements outer) inner → Keeps z.place q outer (js_meaning.leave shown_statements outer inner)
   leave-keeps q outer inner sub ks = record { same = λ y i. behind_block outer inner (z.place.name y) (not_declared y (free.kept y (sub y i))) ∙ ks.same y i ∙ entered outer (z.place.name y) (not_declared y (free.kept y (sub y i))) }
 
-  leave-arrives : (w : World) (v : ir.Value) (outer inner : js.Scope) (usual : js.Completion) (k : Destination) (e : js.Completion) → Writes c.writable k → Arrives z.place w v inner usual k e → Arrives z.place w v (js_meaning.leave shown_statements outer inner) usual k e
+  leave-arrives : (w : World) (v : ir.Value) (outer inner : js.Scope) (usual : js.Completion) (k : Destination) (e : js.Completion) → Writes c.written k → Arrives z.place w v inner usual k e → Arrives z.place w v (js_meaning.leave shown_statements outer inner) usual k e
   leave-arrives w v outer inner usual _ _ wr let_go = let_go
   leave-arrives w v outer inner usual _ _ wr (stored x t j a h) = stored x t j a (behind_block outer inner (z.place.name x) (not_declared x (free.writable x wr)) ∙ h)
   leave-arrives w v outer inner usual _ _ wr (returned t j a) = returned t j a
 
-  leaving_alike : (k : Destination) (w : World) (sc : js.Scope) → Sound z.is_mutable c → Writes c.writable k → (a : ir.Ended) (b : js.StatementEnd) → Came z.place z.code c c.scope k w (js_meaning.enter shown_statements sc) a b → Sim z.direction (Came z.place z.code c c.scope k w sc) (done a) (js_meaning.leaving shown_statements sc b)
+  leaving_alike : (k : Destination) (w : World) (sc : js.Scope) → Sound z.is_mutable c → Writes c.written k → (a : ir.Ended) (b : js.StatementEnd) → Came z.place z.code c c.scope k w (js_meaning.enter shown_statements sc) a b → Sim z.direction (Came z.place z.code c c.scope k w sc) (done a) (js_meaning.leaving shown_statements sc b)
   leaving_alike k w sc sound wr _ _ (gave y v env s sc' u e g a r ks same) = sim_done z.direction (Came z.place z.code c c.scope k w sc) (ir.ends (ir.gives v) env s) (js.ends e (js_meaning.leave shown_statements sc sc') u) (gave y v env s (js_meaning.leave shown_statements sc sc') u e g (leave-arrives y v sc sc' js.normally k e wr a) (leave-ready y env sc sc' r) (leave-keeps (Less c.kept k) sc sc' (λ y h. h.0) ks) same)
   leaving_alike k w sc sound wr _ _ (left y l v env s sc' u e reach g a r ks same) = sim_done z.direction (Came z.place z.code c c.scope k w sc) (ir.ends (ir.leaves l v) env s) (js.ends e (js_meaning.leave shown_statements sc sc') u) (left y l v env s (js_meaning.leave shown_statements sc sc') u e reach g (leave-arrives y v sc sc' (js.breaks (z.place.label l)) (target_of c.targets l) e (sound.reached l reach) a) (leave-ready y env sc sc' r) (leave-keeps (Less c.kept (target_of c.targets l)) sc sc' (λ y h. h.0) ks) same)
   leaving_alike k w sc sound wr _ _ (threw y v x env s sc' u g a r ks same) = sim_done z.direction (Came z.place z.code c c.scope k w sc) (ir.ends (ir.throws v) env s) (js.ends (js.thrown_with x) (js_meaning.leave shown_statements sc sc') u) (threw y v x env s (js_meaning.leave shown_statements sc sc') u g a (leave-ready y env sc sc' r) (leave-keeps c.kept sc sc' (λ y h. h) ks) same)
   leaving_alike k w sc sound wr _ _ (stopped y env s sc' u t g r ks same) = sim_done z.direction (Came z.place z.code c c.scope k w sc) (ir.ends ir.stops env s) (js.ends js.breaks_nearest (js_meaning.leave shown_statements sc sc') u) (stopped y env s (js_meaning.leave shown_statements sc sc') u t g (leave-ready y env sc sc' r) (leave-keeps c.kept sc sc' (λ y h. h) ks) same)
 
   -- what stands in a block with the names that these statements declare
-  pub scoped_alike : (k : Destination) (w : World) (env : ir.Env) (sc : js.Scope) (u : js.State) (o : Out ir.Ended) (x : js.Execution) → Sound z.is_mutable c → Writes c.writable k → Ready z.place z.code c.scope c.writable w env sc → (Ready z.place z.code c.scope c.writable w env (js_meaning.enter shown_statements sc) → Sim z.direction (Came z.place z.code c c.scope k w (js_meaning.enter shown_statements sc)) o (x (js_meaning.enter shown_statements sc) u)) → Sim z.direction (Came z.place z.code c c.scope k w sc) o (js_meaning.in_block shown_statements x sc u)
+  pub scoped_alike : (k : Destination) (w : World) (env : ir.Env) (sc : js.Scope) (u : js.State) (o : Out ir.Ended) (x : js.Execution) → Sound z.is_mutable c → Writes c.written k → Ready z.place z.code c.scope c.writable w env sc → (Ready z.place z.code c.scope c.writable w env (js_meaning.enter shown_statements sc) → Sim z.direction (Came z.place z.code c c.scope k w (js_meaning.enter shown_statements sc)) o (x (js_meaning.enter shown_statements sc) u)) → Sim z.direction (Came z.place z.code c c.scope k w sc) o (js_meaning.in_block shown_statements x sc u)
   scoped_alike k w env sc u o x sound wr r inner = subst (λ q. Sim z.direction (Came z.place z.code c c.scope k w sc) q (js_meaning.in_block shown_statements x sc u)) (then_do-right o) (sim_then z.direction (Came z.place z.code c c.scope k w (js_meaning.enter shown_statements sc)) (Came z.place z.code c c.scope k w sc) o (x (js_meaning.enter shown_statements sc) u) done (js_meaning.leaving shown_statements sc) (inner (enter-ready w env sc r)) (leaving_alike k w sc sound wr))
 
   -- a tree whose statements stand in a block of their own
-  pub block_alike : (k : Destination) (w : World) (env : ir.Env) (sc : js.Scope) (u : js.State) (o : Out ir.Ended) → Sound z.is_mutable c → Writes c.writable k → Ready z.place z.code c.scope c.writable w env sc → (Ready z.place z.code c.scope c.writable w env (js_meaning.enter shown_statements sc) → Sim z.direction (Came z.place z.code c c.scope k w (js_meaning.enter shown_statements sc)) o (run z ss (js_meaning.enter shown_statements sc) u)) → Sim z.direction (Came z.place z.code c c.scope k w sc) o (js_meaning.in_block shown_statements (run z ss) sc u)
+  pub block_alike : (k : Destination) (w : World) (env : ir.Env) (sc : js.Scope) (u : js.State) (o : Out ir.Ended) → Sound z.is_mutable c → Writes c.written k → Ready z.place z.code c.scope c.writable w env sc → (Ready z.place z.code c.scope c.writable w env (js_meaning.enter shown_statements sc) → Sim z.direction (Came z.place z.code c c.scope k w (js_meaning.enter shown_statements sc)) o (run z ss (js_meaning.enter shown_statements sc) u)) → Sim z.direction (Came z.place z.code c c.scope k w sc) o (js_meaning.in_block shown_statements (run z ss) sc u)
   block_alike k w env sc u o = scoped_alike k w env sc u o (run z ss)

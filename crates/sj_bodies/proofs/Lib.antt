@@ -6,6 +6,7 @@ pub mod Loops
 pub mod Main
 pub mod Matches
 pub mod Parts
+pub mod Placed
 pub mod Spills
 pub mod Statements
 pub mod Trees
