@@ -12,7 +12,6 @@ use Rattle.body_rules.specs.Templates.{statement_template, statement_templates, 
 use Rattle.body_rules.proofs.Equal.{equals, is-equal}
 use Rattle.sj_proper.proofs.Declared.{DeclaresOne, Declares, declares-followed, declared-named}
 use Rattle.sj_names.proofs.Same.{impossible}
-use Rattle.sj_names.specs.declared.method_names.Member.{Member}
 use Rattle.sj_proper.specs.Once.{IsAmong}
 
 -- no variable is declared twice in one list
