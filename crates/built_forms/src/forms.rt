@@ -48,7 +48,8 @@ pub fn is_built(tree: &Tree) -> bool
         }
         Tree::While(_, first, second)
         | Tree::DoWhile(_, first, second)
-        | Tree::TryCatch(_, first, _, second, _) => is_built(first) && is_built(second),
+        | Tree::TryCatch(_, first, _, second, _)
+        | Tree::TryFinally(_, first, second) => is_built(first) && is_built(second),
         Tree::Match(_, selector, cases, default, _) => {
             is_built(selector) && are_built_cases(cases) && is_built(default)
         }
@@ -63,8 +64,7 @@ pub fn is_built(tree: &Tree) -> bool
         Tree::BinaryOp(_, _, left, right) => is_built(left) && is_built(right),
         Tree::IsInstanceOf(_, value, tpe) => is_testable(tpe) && is_built(value),
         Tree::AsInstanceOf(_, value, tpe) => can_cast(tpe) && is_built(value),
-        Tree::TryFinally(_, _, _)
-        | Tree::NewArray(_, _, _)
+        Tree::NewArray(_, _, _)
         | Tree::ArrayValue(_, _, _)
         | Tree::ArrayLength(_, _)
         | Tree::ArraySelect(_, _, _, _) => false,

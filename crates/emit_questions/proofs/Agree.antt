@@ -7,7 +7,7 @@ use Rattle.js_tree.specs.declared.operators.HostFunction.TheVariants.{StringFrom
 use Rattle.sj_emit_expr.specs.Lookup.{Lookup}
 use Rattle.sj_emit_expr.specs.Callee.{Callee}
 use Rattle.sj_emit_expr.specs.CalleeVariants as callees
-use Rattle.sj_emit_expr.specs.Terms.{Expression, boxed_char, char_text, value_text, choice_of, static_call, field_of, checked_value, made_of, receiver_call, test_of, cast_of, unary_of, binary_of, Expressions, no_expressions, expression, Statement, constant_of, define_of, declare_of, assign_to, evaluate_of, return_of, log_of, assign_field, assign_static, store_module_of, throw_of, leave_label, break_nearest, if_of, while_of, loop_of, labeled_of, switch_of, try_of, Statements, no_statements, statement, Cases, no_cases, switch_case, Method}
+use Rattle.sj_emit_expr.specs.Terms.{Expression, boxed_char, char_text, value_text, choice_of, static_call, field_of, checked_value, made_of, receiver_call, test_of, cast_of, unary_of, binary_of, Expressions, no_expressions, expression, Statement, constant_of, define_of, declare_of, assign_to, evaluate_of, return_of, log_of, assign_field, assign_static, store_module_of, throw_of, leave_label, break_nearest, if_of, while_of, loop_of, labeled_of, switch_of, try_of, finally_of, Statements, no_statements, statement, Cases, no_cases, switch_case, Method}
 use Rattle.sj_emit_expr.specs.Members.{function_parameters}
 use Rattle.sj_emit_expr.specs.Names.{variable_name, label_name}
 use Rattle.sj_emit_expr.specs.Templates.{called_member, looked_up_template, call_template, as_text, unary_template, binary_template, is_nonzero_literal, member_name, class_name, property_name, setter_name, store_name, check_name, choice_template, expression_template, expression_templates, statement_template, statement_templates, case_templates}
@@ -143,6 +143,10 @@ module _ (f g : Lookup) where
         let y = same_of_all ss (front (calls_of_all ss) (calls_of_all ts) h) in
         let z = same_of_all ts (back (calls_of_all ss) (calls_of_all ts) h) in
         (λ i. js.try_catch (y.0 i) (variable_name x) (z.0 i), λ i. y.1 i ++ z.1 i)
+    same_of (finally_of p ss ts) h =
+        let y = same_of_all ss (front (calls_of_all ss) (calls_of_all ts) h) in
+        let z = same_of_all ts (back (calls_of_all ss) (calls_of_all ts) h) in
+        (λ i. js.try_finally (y.0 i) (z.0 i), λ i. y.1 i ++ z.1 i)
     same_of (switch_of p e cs ss) h =
         let former = front (calls_in e ++ calls_of_cases cs) (calls_of_all ss) h in
         let x = same_in e (front (calls_in e) (calls_of_cases cs) former) in

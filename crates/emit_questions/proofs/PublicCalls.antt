@@ -6,7 +6,7 @@ use Rattle.emit_questions.specs.declared.Inquiry.{Inquiry}
 use Rattle.emit_questions.specs.declared.Inquiry.TheVariants as inquiries
 use Rattle.sj_emit_expr.specs.Callee.{Callee}
 use Rattle.sj_emit_expr.specs.CalleeVariants as callees
-use Rattle.sj_emit_expr.specs.Terms.{Expression, boxed_char, char_text, value_text, choice_of, static_call, field_of, checked_value, made_of, receiver_call, test_of, cast_of, unary_of, binary_of, Expressions, no_expressions, expression, Statement, constant_of, define_of, declare_of, assign_to, evaluate_of, return_of, log_of, assign_field, assign_static, store_module_of, throw_of, leave_label, break_nearest, if_of, while_of, loop_of, labeled_of, switch_of, try_of, Statements, no_statements, statement, Cases, no_cases, switch_case}
+use Rattle.sj_emit_expr.specs.Terms.{Expression, boxed_char, char_text, value_text, choice_of, static_call, field_of, checked_value, made_of, receiver_call, test_of, cast_of, unary_of, binary_of, Expressions, no_expressions, expression, Statement, constant_of, define_of, declare_of, assign_to, evaluate_of, return_of, log_of, assign_field, assign_static, store_module_of, throw_of, leave_label, break_nearest, if_of, while_of, loop_of, labeled_of, switch_of, try_of, finally_of, Statements, no_statements, statement, Cases, no_cases, switch_case}
 use Rattle.sj_names.specs.declared.method_names.Member.{Member}
 use Rattle.sj_names.specs.declared.method_names.Namespace.{Namespace}
 use Rattle.sj_names.specs.declared.method_names.Namespace.TheVariants.{Public}
@@ -77,6 +77,7 @@ mutual
   public_of (loop_of p ss) = public_of_all ss
   public_of (labeled_of p l ss) = public_of_all ss
   public_of (try_of p ss x ts) = both (calls_of_all ss) (calls_of_all ts) (public_of_all ss) (public_of_all ts)
+  public_of (finally_of p ss ts) = both (calls_of_all ss) (calls_of_all ts) (public_of_all ss) (public_of_all ts)
   public_of (switch_of p e cs ss) = both (calls_in e ++ calls_of_cases cs) (calls_of_all ss) (both (calls_in e) (calls_of_cases cs) (public_in e) (public_of_cases cs)) (public_of_all ss)
 
   pub public_of_all : (ss : Statements) → ArePublic (calls_of_all ss)
