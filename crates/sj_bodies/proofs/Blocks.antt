@@ -18,7 +18,7 @@ use Rattle.sj_proper.specs.Spill.{Destination, Code}
 use Rattle.sj_proper.specs.Templates.{statement_templates}
 use Rattle.sj_plain.specs.Settings.{Receiving, Setting, run, Lawful, Holding, OfNoVariable, usable}
 use Rattle.sj_trees.specs.declared.types.IrType.{IrType}
-use Rattle.sj_bodies.proofs.Contexts.{Context, Writes, Sound, Ahead, Ready, Keeps, Less, Arrives, let_go, stored, returned, Came, gave, left, threw, stopped}
+use Rattle.sj_bodies.proofs.Contexts.{Context, Writes, writes-more, Sound, Ahead, Ready, Keeps, Less, Arrives, let_go, stored, returned, Came, gave, left, threw, stopped}
 use Rattle.sj_proper.proofs.Declared.{Declares, declared-named}
 use Rattle.sj_proper.proofs.Good.{IsIn, Good}
 use Rattle.sj_names.proofs.Same.{impossible}
@@ -107,14 +107,14 @@ module _ (z : Setting) (lawful : Lawful z) (c : Context) (ss : core.Statements) 
   leave-keeps : (q : core.Variable → Type 0) (outer inner : js.Scope) → ((y : core.Variable) → q y → c.kept y) → Keeps z.place q (js_meaning.enter shown_statements outer) inner → Keeps z.place q outer (js_meaning.leave shown_statements outer inner)
   leave-keeps q outer inner sub ks = record { same = λ y i. behind_block outer inner (z.place.name y) (not_declared y (free.kept y (sub y i))) ∙ ks.same y i ∙ entered outer (z.place.name y) (not_declared y (free.kept y (sub y i))) }
 
-  leave-arrives : (w : World) (v : ir.Value) (outer inner : js.Scope) (usual : js.Completion) (k : Destination) (e : js.Completion) → Writes c.written k → Arrives z.place w v inner usual k e → Arrives z.place w v (js_meaning.leave shown_statements outer inner) usual k e
+  leave-arrives : (w : World) (v : ir.Value) (outer inner : js.Scope) (usual : js.Completion) (k : Destination) (e : js.Completion) → Writes c.writable k → Arrives z.place w v inner usual k e → Arrives z.place w v (js_meaning.leave shown_statements outer inner) usual k e
   leave-arrives w v outer inner usual _ _ wr let_go = let_go
   leave-arrives w v outer inner usual _ _ wr (stored x t j a h) = stored x t j a (behind_block outer inner (z.place.name x) (not_declared x (free.writable x wr)) ∙ h)
   leave-arrives w v outer inner usual _ _ wr (returned t j a) = returned t j a
 
   leaving_alike : (k : Destination) (w : World) (sc : js.Scope) → Sound z.is_mutable c → Writes c.written k → (a : ir.Ended) (b : js.StatementEnd) → Came z.place z.code c c.scope k w (js_meaning.enter shown_statements sc) a b → Sim z.direction (Came z.place z.code c c.scope k w sc) (done a) (js_meaning.leaving shown_statements sc b)
-  leaving_alike k w sc sound wr _ _ (gave y v env s sc' u e g a r ks same) = sim_done z.direction (Came z.place z.code c c.scope k w sc) (ir.ends (ir.gives v) env s) (js.ends e (js_meaning.leave shown_statements sc sc') u) (gave y v env s (js_meaning.leave shown_statements sc sc') u e g (leave-arrives y v sc sc' js.normally k e wr a) (leave-ready y env sc sc' r) (leave-keeps (Less c.kept k) sc sc' (λ y h. h.0) ks) same)
-  leaving_alike k w sc sound wr _ _ (left y l v env s sc' u e reach g a r ks same) = sim_done z.direction (Came z.place z.code c c.scope k w sc) (ir.ends (ir.leaves l v) env s) (js.ends e (js_meaning.leave shown_statements sc sc') u) (left y l v env s (js_meaning.leave shown_statements sc sc') u e reach g (leave-arrives y v sc sc' (js.breaks (z.place.label l)) (target_of c.targets l) e (sound.reached l reach) a) (leave-ready y env sc sc' r) (leave-keeps (Less c.kept (target_of c.targets l)) sc sc' (λ y h. h.0) ks) same)
+  leaving_alike k w sc sound wr _ _ (gave y v env s sc' u e g a r ks same) = sim_done z.direction (Came z.place z.code c c.scope k w sc) (ir.ends (ir.gives v) env s) (js.ends e (js_meaning.leave shown_statements sc sc') u) (gave y v env s (js_meaning.leave shown_statements sc sc') u e g (leave-arrives y v sc sc' js.normally k e (writes-more c.written c.writable k sound.within wr) a) (leave-ready y env sc sc' r) (leave-keeps (Less c.kept k) sc sc' (λ y h. h.0) ks) same)
+  leaving_alike k w sc sound wr _ _ (left y l v env s sc' u e reach g a r ks same) = sim_done z.direction (Came z.place z.code c c.scope k w sc) (ir.ends (ir.leaves l v) env s) (js.ends e (js_meaning.leave shown_statements sc sc') u) (left y l v env s (js_meaning.leave shown_statements sc sc') u e reach g (leave-arrives y v sc sc' (js.breaks (z.place.label l)) (target_of c.targets l) e (sound.aims l) a) (leave-ready y env sc sc' r) (leave-keeps (Less c.kept (target_of c.targets l)) sc sc' (λ y h. h.0) ks) same)
   leaving_alike k w sc sound wr _ _ (threw y v x env s sc' u g a r ks same) = sim_done z.direction (Came z.place z.code c c.scope k w sc) (ir.ends (ir.throws v) env s) (js.ends (js.thrown_with x) (js_meaning.leave shown_statements sc sc') u) (threw y v x env s (js_meaning.leave shown_statements sc sc') u g a (leave-ready y env sc sc' r) (leave-keeps c.kept sc sc' (λ y h. h) ks) same)
   leaving_alike k w sc sound wr _ _ (stopped y env s sc' u t g r ks same) = sim_done z.direction (Came z.place z.code c c.scope k w sc) (ir.ends ir.stops env s) (js.ends js.breaks_nearest (js_meaning.leave shown_statements sc sc') u) (stopped y env s (js_meaning.leave shown_statements sc sc') u t g (leave-ready y env sc sc' r) (leave-keeps c.kept sc sc' (λ y h. h) ks) same)
 

@@ -42,7 +42,7 @@ module _ (z : Setting) (lawful : Lawful z) where
     within = λ y wr. ⊎_elim (λ e. inl e) (λ h. inr (sound.within y h)) wr;
     aims = λ l. writes-more c.writable (λ y. (y ≡ core.numbered i) ⊎ c.writable y) (target_of c.targets l) (λ y h. inr h) (sound.aims l);
     reached = λ l r. writes-more c.written (λ y. (y ≡ core.numbered i) ⊎ c.written y) (target_of c.targets l) (λ y h. inr h) (sound.reached l r);
-    apart = λ t y k wr. ⊎_elim (λ e. ahead.kept i (le-refl i) (subst c.kept e k)) (λ h. sound.apart t y k h) wr;
+    apart = λ t y k wr. ⊎_elim (λ e. ahead.kept i (omega arith) (subst c.kept e k)) (λ h. sound.apart t y k h) wr;
     receiver = sound.receiver;
     received = λ wr. ⊎_elim (λ e. absurd (cc)) sound.received wr;
   }

@@ -18,6 +18,7 @@ use Rattle.sj_trees.specs.declared.positions.Position.{Position}
 use Rattle.sj_trees.specs.declared.types.IrType.{IrType}
 use Rattle.sj_plain.specs.Settings.{Setting, run, SameState, Lawful, usable}
 use Rattle.sj_bodies.proofs.Blocks.{Undeclared, block_alike}
+use Rattle.sj_bodies.specs.Placed.{with_reach}
 use Rattle.sj_bodies.proofs.Contexts.{Context, Writes, writes-more, Sound, Ready, Keeps, Less, Arrives, let_go, stored, returned, Came, gave, left, threw, stopped}
 use Rattle.sj_proper.proofs.Equal.{differs, equals, is-equal}
 use Rattle.sj_names.proofs.Same.{impossible}

@@ -7,6 +7,7 @@ pub mod Main
 pub mod Matches
 pub mod Parts
 pub mod Placed
+pub mod Saves
 pub mod Spills
 pub mod Statements
 pub mod Trees

@@ -66,7 +66,7 @@ use Rattle.sj_plain.specs.Subtypes.{IsSub, to_any}
 use Rattle.sj_bodies.proofs.Forms.{of_operands, one_final, two_final, silent, assign_final, log_final, if_final, came-narrow, rebased, ahead-later, OneFinal, TwoFinal}
 use Rattle.sj_bodies.proofs.Jumps.{labelling, sound-labelling, labeled_alike, return_alike}
 use Rattle.sj_bodies.proofs.Matches.{settled, sound-settled, ahead-settled, outside-settled, undeclared-settled, undeclared-case, CasesAlike, no_case, without_keys, with_keys, match_final}
-use Rattle.sj_bodies.specs.Placed.{Placed, PlacedAll, PlacedCases}
+use Rattle.sj_bodies.specs.Placed.{Placed, PlacedAll, PlacedCases, with_reach}
 use Rattle.sj_bodies.proofs.Trees.{written, written_cases, LowAlike, outside-part, behind, go_on-given, FineHere, TreeDoes, piece, operand_does, define_does, quiet, value_of, local_at, finish_one, list_of, call_does, division_does, operands-list, runs-list}
 use Rattle.sj_names.proofs.Same.{impossible}
 use Rattle.sj_plain.proofs.Plain.{unary_alike, binary_alike}
@@ -167,20 +167,20 @@ module _ (z : Setting) (lawful : Lawful z) (low : LowAlike z) where
   log_by p e does c _ j sound ahead out fine is_discard = of_operands z lawful c discard (piece z lawful low c.targets e ∷ []) j ir_meaning.log (λ es. one (core.log_of (Some p) (first_of es))) sound ahead (operand_does z lawful low c j e does out (part_of c fine.scene fine.amid e fine.written String fine.typed.0.meets refl fine.typed.1 fine.boxed fine.around fine.once), tt) (one_final z lawful c discard j (type_of_term e) ir_meaning.log (λ es. one (core.log_of (Some p) (first_of es))) (log_final z lawful c p j (type_of_term e)))
 
   labeled_does : (p : Position) (l : List ℕ) (t : IrType) (e : Term) → TreeDoes z lawful low e → TreeDoes z lawful low (labeled p l t e)
-  labeled_does p l t e does c k j sound ahead out wr fine = labeled_alike z lawful c l k p (ir_meaning.step z.place.classes z.low e) (into z.is_mutable z.code.sure (record { label = l; goes_to = k } ∷ c.targets) k j e) (sound-labelling z lawful c l k sound wr) wr (undeclared (labelling z lawful c l k) (Own e) j (into z.is_mutable z.code.sure (record { label = l; goes_to = k } ∷ c.targets) k j e) (record { scope = out.scope; writable = out.writable; kept = out.kept }) (record { writable = ahead.writable; kept = ahead.kept }) (written z.is_mutable z.code.sure (record { label = l; goes_to = k } ∷ c.targets) e k j fine.once.1)) (does (labelling z lawful c l k) k j (sound-labelling z lawful c l k sound wr) (record { writable = ahead.writable; kept = ahead.kept }) (record { scope = out.scope; writable = out.writable; kept = out.kept }) wr (record { scene = in_label l t fine.scene; amid = amid-inside z.place.classes lawful.base.ordered z.is_mutable z.code c.scope (around c) fine.scene l t k fine.amid fine.asks; around = l ∷ fine.around; once = fine.once.1; written = fine.written; asks = yields z.place.classes lawful.base.ordered k e t fine.asks fine.typed.0.meets; typed = fine.typed.1; boxed = fine.boxed }))
+  labeled_does p l t e does c k j sound ahead out wr fine = labeled_alike z lawful c l k p (ir_meaning.step z.place.classes z.low e) (into z.is_mutable z.code.sure (record { label = l; goes_to = k } ∷ c.targets) k j e) (sound-labelling z lawful c l k sound wr) wr (undeclared (labelling z lawful c l k) (Own e) j (into z.is_mutable z.code.sure (record { label = l; goes_to = k } ∷ c.targets) k j e) (record { scope = out.scope; writable = out.writable; kept = out.kept }) (record { writable = ahead.writable; kept = ahead.kept }) (written z.is_mutable z.code.sure (with_reach l c.reaches) c.tries (record { label = l; goes_to = k } ∷ c.targets) e k j fine.once.1)) (does (labelling z lawful c l k) k j (sound-labelling z lawful c l k sound wr) (record { writable = ahead.writable; kept = ahead.kept }) (record { scope = out.scope; writable = out.writable; kept = out.kept }) wr (record { scene = in_label l t fine.scene; amid = amid-inside z.place.classes lawful.base.ordered z.is_mutable z.code c.scope (around c) fine.scene l t k fine.amid fine.asks; around = l ∷ fine.around; once = fine.once.1; written = fine.written; asks = yields z.place.classes lawful.base.ordered k e t fine.asks fine.typed.0.meets; typed = fine.typed.1; boxed = fine.boxed }))
 
   return_does : (p : Position) (e : Term) (l : List ℕ) → TreeDoes z lawful low e → TreeDoes z lawful low (return_to p e l)
   return_does p e l does c k j sound ahead out wr fine w env s sc u r same = return_alike z lawful c k (target_of c.targets l) p l (ir_meaning.step z.place.classes z.low e) (into z.is_mutable z.code.sure c.targets (target_of c.targets l) j e) refl fine.once.0.1 w env s sc u (does c (target_of c.targets l) j sound ahead out (sound.reached l fine.once.0.1) (tree c fine.scene fine.amid (target_of c.targets l) e fine.written (yields z.place.classes lawful.base.ordered (target_of c.targets l) e fine.typed.0.meets.tpe (fine.amid.targets l fine.typed.0.meets.tpe fine.typed.0.meets.is_type) fine.typed.0.meets.yields) fine.typed.1 (subst (λ (g : Goal). Makes (boxes (goals_of c.targets) g e)) (sym (target_goal c.targets l)) fine.boxed) fine.around fine.once.1) w env s sc u r same)
 
   if_does : (p : Position) (a b d : Term) (t : IrType) → TreeDoes z lawful low a → TreeDoes z lawful low b → TreeDoes z lawful low d → TreeDoes z lawful low (if_then p a b d t)
-  if_does p a b d t does_a does_b does_d c k j sound ahead out wr fine = of_operands z lawful c k (piece z lawful low c.targets a ∷ []) j (ir_meaning.branch (ir_meaning.step z.place.classes z.low b) (ir_meaning.step z.place.classes z.low d)) (λ es i. branches p (first_of es) (into z.is_mutable z.code.sure c.targets k i b) (λ i. into z.is_mutable z.code.sure c.targets k i d)) sound ahead (operand_does z lawful low c j a does_a (outside-part c (Own (if_then p a b d t)) (Own a) (λ x o. inl o) out) (part_of c fine.scene fine.amid a (of_first z.is_mutable (mutable_in a) (λ xs. mutable_in b (mutable_in d xs)) (front a) fine.written) Boolean fine.typed.0.meets.0 refl fine.typed.1 (each (operand_boxes (goals_of c.targets) a) (boxes (goals_of c.targets) (goal_of k) b || boxes (goals_of c.targets) (goal_of k) d) fine.boxed).0 fine.around fine.once.0), tt) (one_final z lawful c k j (type_of_term a) (ir_meaning.branch (ir_meaning.step z.place.classes z.low b) (ir_meaning.step z.place.classes z.low d)) (λ es i. branches p (first_of es) (into z.is_mutable z.code.sure c.targets k i b) (λ i. into z.is_mutable z.code.sure c.targets k i d)) (if_final z lawful c k p (λ i. into z.is_mutable z.code.sure c.targets k i b) (λ i. into z.is_mutable z.code.sure c.targets k i d) (ir_meaning.step z.place.classes z.low b) (ir_meaning.step z.place.classes z.low d) j sound wr (λ i l. (written z.is_mutable z.code.sure c.targets b k i fine.once.1).onward) (λ i l ah. undeclared c (Own b) i (into z.is_mutable z.code.sure c.targets k i b) (outside-part c (Own (if_then p a b d t)) (Own b) (λ x o. inr (inl o)) out) ah (written z.is_mutable z.code.sure c.targets b k i fine.once.1)) (λ i l ah. undeclared c (Own d) i (into z.is_mutable z.code.sure c.targets k i d) (outside-part c (Own (if_then p a b d t)) (Own d) (λ x o. inr (inr o)) out) ah (written z.is_mutable z.code.sure c.targets d k i fine.once.2)) (λ i l ah. does_b c k i sound ah (outside-part c (Own (if_then p a b d t)) (Own b) (λ x o. inr (inl o)) out) wr (tree c fine.scene fine.amid k b (one_mutable z.is_mutable b d (of_second z.is_mutable (mutable_in a) (λ xs. mutable_in b (mutable_in d xs)) (front a) fine.written)) (yields z.place.classes lawful.base.ordered k b t fine.asks fine.typed.0.meets.1) fine.typed.2 (each (boxes (goals_of c.targets) (goal_of k) b) (boxes (goals_of c.targets) (goal_of k) d) (each (operand_boxes (goals_of c.targets) a) (boxes (goals_of c.targets) (goal_of k) b || boxes (goals_of c.targets) (goal_of k) d) fine.boxed).1).0 fine.around fine.once.1)) (λ i l ah. does_d c k i sound ah (outside-part c (Own (if_then p a b d t)) (Own d) (λ x o. inr (inr o)) out) wr (tree c fine.scene fine.amid k d (other_mutable z.is_mutable b d (of_second z.is_mutable (mutable_in a) (λ xs. mutable_in b (mutable_in d xs)) (front a) fine.written)) (yields z.place.classes lawful.base.ordered k d t fine.asks fine.typed.0.meets.2) fine.typed.3 (each (boxes (goals_of c.targets) (goal_of k) b) (boxes (goals_of c.targets) (goal_of k) d) (each (operand_boxes (goals_of c.targets) a) (boxes (goals_of c.targets) (goal_of k) b || boxes (goals_of c.targets) (goal_of k) d) fine.boxed).1).1 fine.around fine.once.2)) (type_of_term a)))
+  if_does p a b d t does_a does_b does_d c k j sound ahead out wr fine = of_operands z lawful c k (piece z lawful low c.targets a ∷ []) j (ir_meaning.branch (ir_meaning.step z.place.classes z.low b) (ir_meaning.step z.place.classes z.low d)) (λ es i. branches p (first_of es) (into z.is_mutable z.code.sure c.targets k i b) (λ i. into z.is_mutable z.code.sure c.targets k i d)) sound ahead (operand_does z lawful low c j a does_a (outside-part c (Own (if_then p a b d t)) (Own a) (λ x o. inl o) out) (part_of c fine.scene fine.amid a (of_first z.is_mutable (mutable_in a) (λ xs. mutable_in b (mutable_in d xs)) (front a) fine.written) Boolean fine.typed.0.meets.0 refl fine.typed.1 (each (operand_boxes (goals_of c.targets) a) (boxes (goals_of c.targets) (goal_of k) b || boxes (goals_of c.targets) (goal_of k) d) fine.boxed).0 fine.around fine.once.0), tt) (one_final z lawful c k j (type_of_term a) (ir_meaning.branch (ir_meaning.step z.place.classes z.low b) (ir_meaning.step z.place.classes z.low d)) (λ es i. branches p (first_of es) (into z.is_mutable z.code.sure c.targets k i b) (λ i. into z.is_mutable z.code.sure c.targets k i d)) (if_final z lawful c k p (λ i. into z.is_mutable z.code.sure c.targets k i b) (λ i. into z.is_mutable z.code.sure c.targets k i d) (ir_meaning.step z.place.classes z.low b) (ir_meaning.step z.place.classes z.low d) j sound wr (λ i l. (written z.is_mutable z.code.sure c.reaches c.tries c.targets b k i fine.once.1).onward) (λ i l ah. undeclared c (Own b) i (into z.is_mutable z.code.sure c.targets k i b) (outside-part c (Own (if_then p a b d t)) (Own b) (λ x o. inr (inl o)) out) ah (written z.is_mutable z.code.sure c.reaches c.tries c.targets b k i fine.once.1)) (λ i l ah. undeclared c (Own d) i (into z.is_mutable z.code.sure c.targets k i d) (outside-part c (Own (if_then p a b d t)) (Own d) (λ x o. inr (inr o)) out) ah (written z.is_mutable z.code.sure c.reaches c.tries c.targets d k i fine.once.2)) (λ i l ah. does_b c k i sound ah (outside-part c (Own (if_then p a b d t)) (Own b) (λ x o. inr (inl o)) out) wr (tree c fine.scene fine.amid k b (one_mutable z.is_mutable b d (of_second z.is_mutable (mutable_in a) (λ xs. mutable_in b (mutable_in d xs)) (front a) fine.written)) (yields z.place.classes lawful.base.ordered k b t fine.asks fine.typed.0.meets.1) fine.typed.2 (each (boxes (goals_of c.targets) (goal_of k) b) (boxes (goals_of c.targets) (goal_of k) d) (each (operand_boxes (goals_of c.targets) a) (boxes (goals_of c.targets) (goal_of k) b || boxes (goals_of c.targets) (goal_of k) d) fine.boxed).1).0 fine.around fine.once.1)) (λ i l ah. does_d c k i sound ah (outside-part c (Own (if_then p a b d t)) (Own d) (λ x o. inr (inr o)) out) wr (tree c fine.scene fine.amid k d (other_mutable z.is_mutable b d (of_second z.is_mutable (mutable_in a) (λ xs. mutable_in b (mutable_in d xs)) (front a) fine.written)) (yields z.place.classes lawful.base.ordered k d t fine.asks fine.typed.0.meets.2) fine.typed.3 (each (boxes (goals_of c.targets) (goal_of k) b) (boxes (goals_of c.targets) (goal_of k) d) (each (operand_boxes (goals_of c.targets) a) (boxes (goals_of c.targets) (goal_of k) b || boxes (goals_of c.targets) (goal_of k) d) fine.boxed).1).1 fine.around fine.once.2)) (type_of_term a)))
 
   try_does : (p : Position) (e : Term) (x : List ℕ) (d : Term) (t : IrType) → TreeDoes z lawful low e → TreeDoes z lawful low d → TreeDoes z lawful low (try_catch p e x d t)
   try_does p e x d t does_e does_d c k j sound ahead out wr fine =
       try_alike z lawful c k p x first.statements second.statements (ir_meaning.step z.place.classes z.low e) (ir_meaning.step z.place.classes z.low d) sound wr
       (record { scope = λ i. out.scope x i (inl refl); writable = out.writable x (inl refl); kept = out.kept x (inl refl) })
-      (undeclared c (Own e) j first out_e ahead (written z.is_mutable z.code.sure c.targets e k j fine.once.2))
-      (undeclared c (Own d) first.next second out_d later (written z.is_mutable z.code.sure c.targets d k first.next fine.once.3))
+      (undeclared c (Own e) j first out_e ahead (written z.is_mutable z.code.sure c.reaches c.tries c.targets e k j fine.once.2))
+      (undeclared c (Own d) first.next second out_d later (written z.is_mutable z.code.sure c.reaches c.tries c.targets d k first.next fine.once.3))
       (does_e c k j sound ahead out_e wr (tree c fine.scene fine.amid k e (one_mutable z.is_mutable e d fine.written) (yields z.place.classes lawful.base.ordered k e t fine.asks fine.typed.0.meets.0) fine.typed.1 parts.0 fine.around fine.once.2))
       (does_d (behind z c x Any) k first.next (sound-behind c x Any sound (out.writable x (inl refl)) (out.kept x (inl refl))) (ahead-behind c x Any first.next later) (outside-behind c x Any (Own d) out_d fine.once.1) wr (tree (behind z c x Any) (catching x fine.scene) (amid-behind z.place.classes z.is_mutable z.code c.scope (around c) fine.scene x Any false fine.amid refl (λ h. impossible h)) k d (other_mutable z.is_mutable e d fine.written) (yields z.place.classes lawful.base.ordered k d t fine.asks fine.typed.0.meets.1) fine.typed.2 parts.1 fine.around fine.once.3))
     where
@@ -197,7 +197,7 @@ module _ (z : Setting) (lawful : Lawful z) (low : LowAlike z) where
       out_d = outside-part c (Own (try_catch p e x d t)) (Own d) (λ y o. inr (inr o)) out
 
       later : Ahead c first.next
-      later = ahead-later z lawful c j first.next (written z.is_mutable z.code.sure c.targets e k j fine.once.2).onward ahead
+      later = ahead-later z lawful c j first.next (written z.is_mutable z.code.sure c.reaches c.tries c.targets e k j fine.once.2).onward ahead
 
       parts : Makes (boxes (goals_of c.targets) (goal_of k) e) × Makes (boxes (goals_of c.targets) (goal_of k) d)
       parts = each (boxes (goals_of c.targets) (goal_of k) e) (boxes (goals_of c.targets) (goal_of k) d) fine.boxed
@@ -272,13 +272,13 @@ module _ (z : Setting) (lawful : Lawful z) (low : LowAlike z) where
   last_does t does c k j sound ahead out wr scene amid mut i asks typed boxed labels once w env s sc u r same = subst (λ o. Ends z lawful c c.scope k w sc o (into z.is_mutable z.code.sure c.targets k j t).statements sc u) (sym (ap (ir.go_on (ir_meaning.step z.place.classes z.low t env s)) (fun_ext (λ v. refl)) ∙ go_on-given (ir_meaning.step z.place.classes z.low t env s))) (does c k j sound ahead (outside-part c (OwnAll (more_terms t no_terms)) (Own t) (λ x o. inl o) out) wr (tree c scene amid k t mut asks typed boxed labels once.0) w env s sc u r same)
 
   next_does : (t u : Term) (us : Terms) → TreeDoes z lawful low t → BlockDoes (more_terms u us) → (c : Context) (k : Destination) (j : ℕ) → Sound z.is_mutable c → Ahead c j → Outside c (OwnAll (more_terms t (more_terms u us))) → Writes c.written k → FineHere z lawful low c discard t → (scene : Scene) → AmidHere c scene → Mutable z.is_mutable (mutable_in_all (more_terms u us)) → (i : IrType) → Asks z.place.classes k (type_of_last i (more_terms u us)) → TypedBlock z.place.classes (usable z) scene (more_terms u us) → Makes (last_boxes (goals_of c.targets) (goal_of k) (more_terms u us)) → (labels : List (List ℕ)) → Placed c.reaches c.tries labels t → PlacedAll c.reaches c.tries labels (more_terms u us) → (w : World) (env : ir.Env) (s : ir.State) (sc : js.Scope) (q : js.State) → Ready z.place z.code c.scope c.writable w env sc → SameState z.place w s q → Ends z lawful c c.scope k w sc (ir_meaning.block z.place.classes z.low (more_terms t (more_terms u us)) env s) (block z.is_mutable z.code.sure c.targets k j (more_terms t (more_terms u us))).statements sc q
-  next_does t u us does others c k j sound ahead out wr fine scene amid mut i asks typed boxed labels once once_others w env s sc q r same = one_and_rest t (more_terms u us) us c k j c.scope w env s sc q (does c discard j sound ahead (outside-part c (OwnAll (more_terms t (more_terms u us))) (Own t) (λ x o. inl o) out) tt fine w env s sc q r same) (λ y v env s sc' q g ready ks same. rebased z lawful c c.scope k w y sc sc' (ir_meaning.block z.place.classes z.low (more_terms u us) env s) (run z (block z.is_mutable z.code.sure c.targets k (into z.is_mutable z.code.sure c.targets discard j t).next (more_terms u us)).statements sc' q) g ks (others c k (into z.is_mutable z.code.sure c.targets discard j t).next sound (ahead-later z lawful c j (into z.is_mutable z.code.sure c.targets discard j t).next (written z.is_mutable z.code.sure c.targets t discard j once).onward ahead) (outside-part c (OwnAll (more_terms t (more_terms u us))) (OwnAll (more_terms u us)) (λ x o. inr o) out) wr scene amid mut i asks typed boxed labels once_others y env s sc' q ready same))
+  next_does t u us does others c k j sound ahead out wr fine scene amid mut i asks typed boxed labels once once_others w env s sc q r same = one_and_rest t (more_terms u us) us c k j c.scope w env s sc q (does c discard j sound ahead (outside-part c (OwnAll (more_terms t (more_terms u us))) (Own t) (λ x o. inl o) out) tt fine w env s sc q r same) (λ y v env s sc' q g ready ks same. rebased z lawful c c.scope k w y sc sc' (ir_meaning.block z.place.classes z.low (more_terms u us) env s) (run z (block z.is_mutable z.code.sure c.targets k (into z.is_mutable z.code.sure c.targets discard j t).next (more_terms u us)).statements sc' q) g ks (others c k (into z.is_mutable z.code.sure c.targets discard j t).next sound (ahead-later z lawful c j (into z.is_mutable z.code.sure c.targets discard j t).next (written z.is_mutable z.code.sure c.reaches c.tries c.targets t discard j once).onward ahead) (outside-part c (OwnAll (more_terms t (more_terms u us))) (OwnAll (more_terms u us)) (λ x o. inr o) out) wr scene amid mut i asks typed boxed labels once_others y env s sc' q ready same))
 
   abbrev scene_behind : List ℕ → IrType → Bool → Scene → Scene
   scene_behind x t b s = record { owner = s.owner; space = s.space; sure = s.sure; locals = record { name = x; «mutable» = b; tpe = t } ∷ s.locals; labels = s.labels }
 
   defined_does : (p : Position) (x : List ℕ) (t : IrType) (b : Bool) (e u : Term) (us : Terms) → TreeDoes z lawful low e → BlockDoes (more_terms u us) → BlockDoes (more_terms (var_def p x t b e) (more_terms u us))
-  defined_does p x t b e u us does others c k j sound ahead out wr scene amid mut i asks typed boxed labels once w env s sc q r same = one_and_rest (var_def p x t b e) (more_terms u us) us c k j (with_local x t c.scope) w env s sc q (define_does z lawful low p x t b e does c j sound ahead out_first (tree c scene amid discard (var_def p x t b e) (of_first z.is_mutable (mutable_in (var_def p x t b e)) (mutable_in_all (more_terms u us)) (front (var_def p x t b e)) mut) tt typed.0 parts.0 labels once.0) w env s sc q r same) (λ y v env s sc' q g ready ks same. sim_weaken z.direction (Came z.place z.code (behind z c x t) (behind z c x t).scope k y sc') (Came z.place z.code c c.scope k w sc) (ir_meaning.block z.place.classes z.low (more_terms u us) env s) (run z (block z.is_mutable z.code.sure c.targets k next (more_terms u us)).statements sc' q) (came-narrow z lawful c (behind z c x t) (behind z c x t).scope c.scope k w y sc sc' refl refl (λ l h. h) (λ h. h) (none_hidden c x t (λ i. out.scope x i (inl (inl refl)))) (none_hidden c x t (λ i. out.scope x i (inl (inl refl)))) (λ y h. inr h) g ks) (others (behind z c x t) k next (sound-behind c x t sound (out.writable x (inl (inl refl))) (out.kept x (inl (inl refl)))) (ahead-behind c x t next (ahead-later z lawful c j next (written z.is_mutable z.code.sure c.targets (var_def p x t b e) discard j once.0).onward ahead)) (outside-behind c x t (OwnAll (more_terms u us)) (outside-part c (OwnAll (more_terms (var_def p x t b e) (more_terms u us))) (OwnAll (more_terms u us)) (λ x o. inr o) out) (typed.1 x refl)) wr (scene_behind x t b scene) (amid-behind z.place.classes z.is_mutable z.code c.scope (around c) scene x t b amid typed.0.0.finds.0 (of_definition z.is_mutable b x (mutable_in e) (of_first z.is_mutable (mutable_in (var_def p x t b e)) (mutable_in_all (more_terms u us)) (front (var_def p x t b e)) mut))) (of_second z.is_mutable (mutable_in (var_def p x t b e)) (mutable_in_all (more_terms u us)) (front (var_def p x t b e)) mut) NoType asks typed.2 parts.1 labels once.1 y env s sc' q ready same))
+  defined_does p x t b e u us does others c k j sound ahead out wr scene amid mut i asks typed boxed labels once w env s sc q r same = one_and_rest (var_def p x t b e) (more_terms u us) us c k j (with_local x t c.scope) w env s sc q (define_does z lawful low p x t b e does c j sound ahead out_first (tree c scene amid discard (var_def p x t b e) (of_first z.is_mutable (mutable_in (var_def p x t b e)) (mutable_in_all (more_terms u us)) (front (var_def p x t b e)) mut) tt typed.0 parts.0 labels once.0) w env s sc q r same) (λ y v env s sc' q g ready ks same. sim_weaken z.direction (Came z.place z.code (behind z c x t) (behind z c x t).scope k y sc') (Came z.place z.code c c.scope k w sc) (ir_meaning.block z.place.classes z.low (more_terms u us) env s) (run z (block z.is_mutable z.code.sure c.targets k next (more_terms u us)).statements sc' q) (came-narrow z lawful c (behind z c x t) (behind z c x t).scope c.scope k w y sc sc' refl refl (λ l h. h) (λ h. h) (none_hidden c x t (λ i. out.scope x i (inl (inl refl)))) (none_hidden c x t (λ i. out.scope x i (inl (inl refl)))) (λ y h. inr h) g ks) (others (behind z c x t) k next (sound-behind c x t sound (out.writable x (inl (inl refl))) (out.kept x (inl (inl refl)))) (ahead-behind c x t next (ahead-later z lawful c j next (written z.is_mutable z.code.sure c.reaches c.tries c.targets (var_def p x t b e) discard j once.0).onward ahead)) (outside-behind c x t (OwnAll (more_terms u us)) (outside-part c (OwnAll (more_terms (var_def p x t b e) (more_terms u us))) (OwnAll (more_terms u us)) (λ x o. inr o) out) (typed.1 x refl)) wr (scene_behind x t b scene) (amid-behind z.place.classes z.is_mutable z.code c.scope (around c) scene x t b amid typed.0.0.finds.0 (of_definition z.is_mutable b x (mutable_in e) (of_first z.is_mutable (mutable_in (var_def p x t b e)) (mutable_in_all (more_terms u us)) (front (var_def p x t b e)) mut))) (of_second z.is_mutable (mutable_in (var_def p x t b e)) (mutable_in_all (more_terms u us)) (front (var_def p x t b e)) mut) NoType asks typed.2 parts.1 labels once.1 y env s sc' q ready same))
     where
       parts : Makes (boxes (goals_of c.targets) Goal.given_up (var_def p x t b e)) × Makes (last_boxes (goals_of c.targets) (goal_of k) (more_terms u us))
       parts = each (boxes (goals_of c.targets) Goal.given_up (var_def p x t b e)) (last_boxes (goals_of c.targets) (goal_of k) (more_terms u us)) boxed
@@ -293,7 +293,7 @@ module _ (z : Setting) (lawful : Lawful z) (low : LowAlike z) where
   CasesDo cs = (c : Context) (k : Destination) (j : ℕ) → Sound z.is_mutable c → Ahead c j → Outside c (OwnCases cs) → Writes c.written k → (scene : Scene) → AmidHere c scene → Mutable z.is_mutable (mutable_in_cases cs) → (t : IrType) → Asks z.place.classes k t → TypedCases z.place.classes (usable z) scene t cs → Makes (cases_box (goals_of c.targets) (goal_of k) cs) → (labels : List (List ℕ)) → PlacedCases c.reaches c.tries labels cs → CasesAlike z lawful c k (ir_meaning.branches z.place.classes z.low cs) (cases z.is_mutable z.code.sure c.targets k j cs).cases
 
   case_does : (n : ℤ) (ns : List ℤ) (t : Term) (cs : Cases) → TreeDoes z lawful low t → CasesDo cs → CasesDo (more_cases (n ∷ ns) t cs)
-  case_does n ns t cs does others c k j sound ahead out wr scene amid mut i asks typed boxed labels once = with_keys (n ∷ ns) (ir_meaning.step z.place.classes z.low t) code.statements (ir_meaning.branches z.place.classes z.low cs) (cases z.is_mutable z.code.sure c.targets k code.next cs).cases (undeclared-case c code.statements (undeclared c (Own t) j code out_case ahead (written z.is_mutable z.code.sure c.targets t k j once.0))) (does (settled c) k j (sound-settled z c sound) (ahead-settled c j ahead) (outside-settled c (Own t) out_case) wr (tree c scene amid k t (of_first z.is_mutable (mutable_in t) (mutable_in_cases cs) (front t) mut) (yields z.place.classes lawful.base.ordered k t i asks typed.0) typed.1 parts.0 labels once.0)) (others c k code.next sound (ahead-later z lawful c j code.next (written z.is_mutable z.code.sure c.targets t k j once.0).onward ahead) (outside-part c (OwnCases (more_cases (n ∷ ns) t cs)) (OwnCases cs) (λ x o. inr o) out) wr scene amid (of_second z.is_mutable (mutable_in t) (mutable_in_cases cs) (front t) mut) i asks typed.2 parts.1 labels once.1)
+  case_does n ns t cs does others c k j sound ahead out wr scene amid mut i asks typed boxed labels once = with_keys (n ∷ ns) (ir_meaning.step z.place.classes z.low t) code.statements (ir_meaning.branches z.place.classes z.low cs) (cases z.is_mutable z.code.sure c.targets k code.next cs).cases (undeclared-case c code.statements (undeclared c (Own t) j code out_case ahead (written z.is_mutable z.code.sure c.reaches c.tries c.targets t k j once.0))) (does (settled c) k j (sound-settled z c sound) (ahead-settled c j ahead) (outside-settled c (Own t) out_case) wr (tree c scene amid k t (of_first z.is_mutable (mutable_in t) (mutable_in_cases cs) (front t) mut) (yields z.place.classes lawful.base.ordered k t i asks typed.0) typed.1 parts.0 labels once.0)) (others c k code.next sound (ahead-later z lawful c j code.next (written z.is_mutable z.code.sure c.reaches c.tries c.targets t k j once.0).onward ahead) (outside-part c (OwnCases (more_cases (n ∷ ns) t cs)) (OwnCases cs) (λ x o. inr o) out) wr scene amid (of_second z.is_mutable (mutable_in t) (mutable_in_cases cs) (front t) mut) i asks typed.2 parts.1 labels once.1)
     where
       parts : Makes (boxes (goals_of c.targets) (goal_of k) t) × Makes (cases_box (goals_of c.targets) (goal_of k) cs)
       parts = each (boxes (goals_of c.targets) (goal_of k) t) (cases_box (goals_of c.targets) (goal_of k) cs) boxed
@@ -305,7 +305,7 @@ module _ (z : Setting) (lawful : Lawful z) (low : LowAlike z) where
       out_case = outside-part c (OwnCases (more_cases (n ∷ ns) t cs)) (Own t) (λ x o. inl o) out
 
   match_does : (p : Position) (e : Term) (cs : Cases) (d : Term) (t : IrType) → TreeDoes z lawful low e → CasesDo cs → TreeDoes z lawful low d → TreeDoes z lawful low (match_on p e cs d t)
-  match_does p e cs d t does_e do_cases does_d c k j sound ahead out wr fine = of_operands z lawful c k (piece z lawful low c.targets e ∷ []) j (ir_meaning.choose (ir_meaning.branches z.place.classes z.low cs) (ir_meaning.step z.place.classes z.low d)) (λ es i. switch_code p (first_of es) (cases z.is_mutable z.code.sure c.targets k i cs) (λ i. into z.is_mutable z.code.sure c.targets k i d)) sound ahead (operand_does z lawful low c j e does_e (outside-part c (Own (match_on p e cs d t)) (Own e) (λ x o. inl o) out) (part_of c fine.scene fine.amid e (of_first z.is_mutable (mutable_in e) (λ xs. mutable_in_cases cs (mutable_in d xs)) (front e) fine.written) Int fine.typed.0.meets.0 refl fine.typed.1 parts.0 fine.around fine.once.0), tt) (one_final z lawful c k j (type_of_term e) (ir_meaning.choose (ir_meaning.branches z.place.classes z.low cs) (ir_meaning.step z.place.classes z.low d)) (λ es i. switch_code p (first_of es) (cases z.is_mutable z.code.sure c.targets k i cs) (λ i. into z.is_mutable z.code.sure c.targets k i d)) (match_final z lawful c k p (ir_meaning.branches z.place.classes z.low cs) (ir_meaning.step z.place.classes z.low d) (λ i. cases z.is_mutable z.code.sure c.targets k i cs) (λ i. into z.is_mutable z.code.sure c.targets k i d) j sound wr (λ i l. (written_cases z.is_mutable z.code.sure c.targets cs k i fine.once.1).onward) (λ i l ah. do_cases c k i sound ah (outside-part c (Own (match_on p e cs d t)) (OwnCases cs) (λ x o. inr (inl o)) out) wr fine.scene fine.amid (of_first z.is_mutable (mutable_in_cases cs) (mutable_in d) (front_cases cs) (of_second z.is_mutable (mutable_in e) (λ xs. mutable_in_cases cs (mutable_in d xs)) (front e) fine.written)) t fine.asks fine.typed.2 branches_make.0 fine.around fine.once.1) (λ i l ah. undeclared-settled c (into z.is_mutable z.code.sure c.targets k i d).statements (undeclared c (Own d) i (into z.is_mutable z.code.sure c.targets k i d) out_default ah (written z.is_mutable z.code.sure c.targets d k i fine.once.2))) (λ i l ah. does_d (settled c) k i (sound-settled z c sound) (ahead-settled c i ah) (outside-settled c (Own d) out_default) wr (tree c fine.scene fine.amid k d (of_second z.is_mutable (mutable_in_cases cs) (mutable_in d) (front_cases cs) (of_second z.is_mutable (mutable_in e) (λ xs. mutable_in_cases cs (mutable_in d xs)) (front e) fine.written)) (yields z.place.classes lawful.base.ordered k d t fine.asks fine.typed.0.meets.2) fine.typed.3 branches_make.1 fine.around fine.once.2)) (type_of_term e)))
+  match_does p e cs d t does_e do_cases does_d c k j sound ahead out wr fine = of_operands z lawful c k (piece z lawful low c.targets e ∷ []) j (ir_meaning.choose (ir_meaning.branches z.place.classes z.low cs) (ir_meaning.step z.place.classes z.low d)) (λ es i. switch_code p (first_of es) (cases z.is_mutable z.code.sure c.targets k i cs) (λ i. into z.is_mutable z.code.sure c.targets k i d)) sound ahead (operand_does z lawful low c j e does_e (outside-part c (Own (match_on p e cs d t)) (Own e) (λ x o. inl o) out) (part_of c fine.scene fine.amid e (of_first z.is_mutable (mutable_in e) (λ xs. mutable_in_cases cs (mutable_in d xs)) (front e) fine.written) Int fine.typed.0.meets.0 refl fine.typed.1 parts.0 fine.around fine.once.0), tt) (one_final z lawful c k j (type_of_term e) (ir_meaning.choose (ir_meaning.branches z.place.classes z.low cs) (ir_meaning.step z.place.classes z.low d)) (λ es i. switch_code p (first_of es) (cases z.is_mutable z.code.sure c.targets k i cs) (λ i. into z.is_mutable z.code.sure c.targets k i d)) (match_final z lawful c k p (ir_meaning.branches z.place.classes z.low cs) (ir_meaning.step z.place.classes z.low d) (λ i. cases z.is_mutable z.code.sure c.targets k i cs) (λ i. into z.is_mutable z.code.sure c.targets k i d) j sound wr (λ i l. (written_cases z.is_mutable z.code.sure c.reaches c.tries c.targets cs k i fine.once.1).onward) (λ i l ah. do_cases c k i sound ah (outside-part c (Own (match_on p e cs d t)) (OwnCases cs) (λ x o. inr (inl o)) out) wr fine.scene fine.amid (of_first z.is_mutable (mutable_in_cases cs) (mutable_in d) (front_cases cs) (of_second z.is_mutable (mutable_in e) (λ xs. mutable_in_cases cs (mutable_in d xs)) (front e) fine.written)) t fine.asks fine.typed.2 branches_make.0 fine.around fine.once.1) (λ i l ah. undeclared-settled c (into z.is_mutable z.code.sure c.targets k i d).statements (undeclared c (Own d) i (into z.is_mutable z.code.sure c.targets k i d) out_default ah (written z.is_mutable z.code.sure c.reaches c.tries c.targets d k i fine.once.2))) (λ i l ah. does_d (settled c) k i (sound-settled z c sound) (ahead-settled c i ah) (outside-settled c (Own d) out_default) wr (tree c fine.scene fine.amid k d (of_second z.is_mutable (mutable_in_cases cs) (mutable_in d) (front_cases cs) (of_second z.is_mutable (mutable_in e) (λ xs. mutable_in_cases cs (mutable_in d xs)) (front e) fine.written)) (yields z.place.classes lawful.base.ordered k d t fine.asks fine.typed.0.meets.2) fine.typed.3 branches_make.1 fine.around fine.once.2)) (type_of_term e)))
     where
       parts : Makes (operand_boxes (goals_of c.targets) e) × Makes (cases_box (goals_of c.targets) (goal_of k) cs || boxes (goals_of c.targets) (goal_of k) d)
       parts = each (operand_boxes (goals_of c.targets) e) (cases_box (goals_of c.targets) (goal_of k) cs || boxes (goals_of c.targets) (goal_of k) d) fine.boxed

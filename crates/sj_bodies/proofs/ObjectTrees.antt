@@ -112,7 +112,7 @@ module _ (z : Setting) (lawful : Lawful z) (low : LowAlike z) where
   nothing_final : (c : Context) (x : core.Variable) (p : Position) (j : ℕ) (own : IrType) → own ≡ Nothing → (usable z).helper check_name ≡ true → (w : World) (sc : js.Scope) → OneFinal z lawful c (to_variable x own) w sc j own (null_act z) (λ es. finish (to_variable x own) p own false (core.checked_value (first_of es)))
   nothing_final c x p j own is has = subst (λ t. (w : World) (sc : js.Scope) → OneFinal z lawful c (to_variable x t) w sc j t (null_act z) (λ es. finish (to_variable x t) p t false (core.checked_value (first_of es)))) (sym is) (never_final c x p j has)
 
-  checked_does : (c : Context) (x : core.Variable) (j : ℕ) (e : Term) → (usable z).helper check_name ≡ true → (has_no_value (type_of_term e) ≡ false) ⊎ (type_of_term e ≡ Nothing) → Sound z.is_mutable c → Ahead c j → c.writable x → OperandDoes z lawful c j (piece z lawful low c.targets e) → (w : World) (env : ir.Env) (s : ir.State) (sc : js.Scope) (u : js.State) → Ready z.place z.code c.scope c.writable w env sc → SameState z.place w s u → Ends z lawful c c.scope (to_variable x (type_of_term e)) w sc (ir_meaning.in_order (ir_meaning.step z.place.classes z.low e ∷ []) (null_act z) env s) (then_use (spill ((piece z lawful low c.targets e).here ∷ []) j) (λ es. finish (to_variable x (type_of_term e)) (position_of e) (type_of_term e) false (core.checked_value (first_of es)))).statements sc u
+  checked_does : (c : Context) (x : core.Variable) (j : ℕ) (e : Term) → (usable z).helper check_name ≡ true → (has_no_value (type_of_term e) ≡ false) ⊎ (type_of_term e ≡ Nothing) → Sound z.is_mutable c → Ahead c j → c.written x → OperandDoes z lawful c j (piece z lawful low c.targets e) → (w : World) (env : ir.Env) (s : ir.State) (sc : js.Scope) (u : js.State) → Ready z.place z.code c.scope c.writable w env sc → SameState z.place w s u → Ends z lawful c c.scope (to_variable x (type_of_term e)) w sc (ir_meaning.in_order (ir_meaning.step z.place.classes z.low e ∷ []) (null_act z) env s) (then_use (spill ((piece z lawful low c.targets e).here ∷ []) j) (λ es. finish (to_variable x (type_of_term e)) (position_of e) (type_of_term e) false (core.checked_value (first_of es)))).statements sc u
   checked_does c x j e has (inl value) sound ahead wr operand = expression_does c (to_variable x (type_of_term e)) j (piece z lawful low c.targets e ∷ []) (type_of_term e) (position_of e) (null_act z) (λ es. core.checked_value (first_of es)) sound ahead wr (value, inl (fits-same (type_of_term e)), stands-same (can_box (usable z)) (is_char (type_of_term e))) (operand, tt) (check_given (type_of_term e) has)
   checked_does c x j e has (inr none) sound ahead wr operand = of_operands z lawful c (to_variable x (type_of_term e)) (piece z lawful low c.targets e ∷ []) j (null_act z) (λ es. finish (to_variable x (type_of_term e)) (position_of e) (type_of_term e) false (core.checked_value (first_of es))) sound ahead (operand, tt) (one_final z lawful c (to_variable x (type_of_term e)) j (type_of_term e) (null_act z) (λ es. finish (to_variable x (type_of_term e)) (position_of e) (type_of_term e) false (core.checked_value (first_of es))) (nothing_final c x (position_of e) j (type_of_term e) none has))
 
@@ -121,7 +121,7 @@ module _ (z : Setting) (lawful : Lawful z) (low : LowAlike z) where
   receiver_by true c j e does out fine may value = operand_does z lawful low c j e does out fine
   receiver_by false c j e does out fine (inl i) value = absurd (impossible i)
   receiver_by false c j e does out (inl h) (inr has) value = inl (h.plain, record { alike = λ w env sc sees. checked_alike z lawful (type_of_term e) w env sc (ir_meaning.step z.place.classes z.low e) (expression_of z.code.sure e) has sees.inside (more_operands (type_of_term e) (ir_meaning.step z.place.classes z.low e) (expression_of z.code.sure e) [] [] [] (plain_alike z lawful c.scope e h).told (as_operand z lawful c.scope e (plain_alike z lawful c.scope e h).alike w env sc sees) no_operands); told = refl; fixes = λ i p sound w env sc sees. impossible i })
-  receiver_by false c j e does out (inr h) (inr has) value = inr (h.0, refl, received-onward (operand z.is_mutable z.code.sure e (λ k j. into z.is_mutable z.code.sure c.targets k j e)) (λ k i. (written z.is_mutable z.code.sure c.targets e k i (h.2 (core.numbered j)).once).onward), λ p i l ext sound ahead. checked_does (writing (keeping c p) (core.numbered i)) (core.numbered i) (suc i) e has value (sound-writing z lawful (keeping c p) i sound ahead) (ahead-writing z lawful (keeping c p) i ahead) (inl refl) (operand_does z lawful low (writing (keeping c p) (core.numbered i)) (suc i) e does (outside-writing z lawful c p i (Own e) ext out) (inr h)))
+  receiver_by false c j e does out (inr h) (inr has) value = inr (h.0, refl, received-onward (operand z.is_mutable z.code.sure e (λ k j. into z.is_mutable z.code.sure c.targets k j e)) (λ k i. (written z.is_mutable z.code.sure c.reaches c.tries c.targets e k i (h.2 (core.numbered j)).once).onward), λ p i l ext sound ahead. checked_does (writing (keeping c p) (core.numbered i)) (core.numbered i) (suc i) e has value (sound-writing z lawful (keeping c p) i sound ahead) (ahead-writing z lawful (keeping c p) i ahead) (inl refl) (operand_does z lawful low (writing (keeping c p) (core.numbered i)) (suc i) e does (outside-writing z lawful c p i (Own e) ext out) (inr h)))
 
   pub receiver_does : (c : Context) (j : ℕ) (e : Term) → TreeDoes z lawful low e → Outside c (Own e) → FineAt c e → (is_sure z.code.sure e ≡ true) ⊎ ((usable z).helper check_name ≡ true) → (has_no_value (type_of_term e) ≡ false) ⊎ (type_of_term e ≡ Nothing) → OperandDoes z lawful c j (receiver_piece c.targets e)
   receiver_does c j e = receiver_by (is_sure z.code.sure e) c j e

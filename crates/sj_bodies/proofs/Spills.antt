@@ -200,7 +200,7 @@ module _ (z : Setting) (lawful : Lawful z) where
     within = sound.within;
     aims = sound.aims;
     reached = sound.reached;
-    apart = λ t y k wr. ⊎_elim (λ e. ahead.writable j (le-refl j) (subst c.writable e (sound.within y wr))) (λ i. sound.apart t y i wr) k;
+    apart = λ t y k wr. ⊎_elim (λ e. ahead.writable j (omega arith) (subst c.writable e (sound.within y wr))) (λ i. sound.apart t y i wr) k;
     receiver = inr sound.receiver;
     received = sound.received;
   }

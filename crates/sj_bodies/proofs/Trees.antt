@@ -52,11 +52,11 @@ abbrev pub LowAlike : Setting → Type 1
 LowAlike z = (c : Context) (k : Destination) (j : ℕ) (t : Term) → Sound z.is_mutable c → Ahead c j → Outside c (Own t) → Writes c.written k → Fine z.place.classes z.is_mutable (usable z) z.code c.scope (around c) k t → (w : World) (env : ir.Env) (s : ir.State) (sc : js.Scope) (u : js.State) → Ready z.place z.code c.scope c.writable w env sc → SameState z.place w s u → Sim z.direction (Came z.place z.code c c.scope k w sc) (z.low t env s) (z.js_low (statement_templates z.place.name z.place.label (usable z).lookup (into z.is_mutable z.code.sure c.targets k j t).statements) sc u)
 
 -- what is written for a tree in which each local is defined once, wherever its values go
-pub written : (is_mutable sure : List ℕ → Bool) (ls : Targets) (t : Term) (k : Destination) (j : ℕ) {to : List ℕ → Type 0} {may : Type 0} {around : List (List ℕ)} → Placed to may around t → Good (Own t) around false j (into is_mutable sure ls k j t)
-written is_mutable sure ls t k j {to} {may} {around} placed = good is_mutable sure t around ls around false k j (once_of to may around t placed) (emitted_alike around ls)
+pub written : (is_mutable sure : List ℕ → Bool) (to : List ℕ → Type 0) (may : Type 0) (ls : Targets) (t : Term) (k : Destination) (j : ℕ) {around : List (List ℕ)} → Placed to may around t → Good (Own t) around false j (into is_mutable sure ls k j t)
+written is_mutable sure to may ls t k j {around} placed = good is_mutable sure t around ls around false k j (once_of to may around t placed) (emitted_alike around ls)
 
-pub written_cases : (is_mutable sure : List ℕ → Bool) (ls : Targets) (cs : Cases) (k : Destination) (j : ℕ) {to : List ℕ → Type 0} {may : Type 0} {around : List (List ℕ)} → PlacedCases to may around cs → GoodCases around j (cases is_mutable sure ls k j cs)
-written_cases is_mutable sure ls cs k j {to} {may} {around} placed = good_cases is_mutable sure cs around ls around k j (once_of_cases to may around cs placed) (emitted_alike around ls)
+pub written_cases : (is_mutable sure : List ℕ → Bool) (to : List ℕ → Type 0) (may : Type 0) (ls : Targets) (cs : Cases) (k : Destination) (j : ℕ) {around : List (List ℕ)} → PlacedCases to may around cs → GoodCases around j (cases is_mutable sure ls k j cs)
+written_cases is_mutable sure to may ls cs k j {around} placed = good_cases is_mutable sure cs around ls around k j (once_of_cases to may around cs placed) (emitted_alike around ls)
 
 pub outside-part : (c : Context) (own part : List ℕ → Type 0) → ((x : List ℕ) → part x → own x) → Outside c own → Outside c part
 outside-part c own part h out = record { scope = λ x t i. out.scope x t (h x i); writable = λ x i. out.writable x (h x i); kept = λ x i. out.kept x (h x i) }
@@ -88,7 +88,7 @@ module _ (z : Setting) (lawful : Lawful z) (low : LowAlike z) where
 
   pub operand_does : (c : Context) (j : ℕ) (t : Term) → TreeDoes t → Outside c (Own t) → FineOperand z.place.classes z.is_mutable (usable z) z.code c.scope t (λ y. FineHere c (to_variable y (type_of_term t)) t) → OperandDoes z lawful c j (piece c.targets t)
   operand_does c j t does out (inl h) = inl (h.plain, record { alike = λ w env sc sees. as_operand z lawful c.scope t (plain_alike z lawful c.scope t h).alike w env sc sees; told = (plain_alike z lawful c.scope t h).told; fixes = λ e p sound w env sc sees. fixed_run z lawful c p t sound e h w env sc sees })
-  operand_does c j t does out (inr h) = inr (h.0, h.1, (λ k i. (written z.is_mutable z.code.sure c.targets t k i (h.2 (core.numbered j)).once).onward), λ p i l ext sound ahead. does (writing (keeping c p) (core.numbered i)) (to_variable (core.numbered i) (type_of_term t)) (suc i) (sound-writing z lawful (keeping c p) i sound ahead) (ahead-writing z lawful (keeping c p) i ahead) (outside-writing z lawful c p i (Own t) ext out) (inl refl) (h.2 (core.numbered i)))
+  operand_does c j t does out (inr h) = inr (h.0, h.1, (λ k i. (written z.is_mutable z.code.sure c.reaches c.tries c.targets t k i (h.2 (core.numbered j)).once).onward), λ p i l ext sound ahead. does (writing (keeping c p) (core.numbered i)) (to_variable (core.numbered i) (type_of_term t)) (suc i) (sound-writing z lawful (keeping c p) i sound ahead) (ahead-writing z lawful (keeping c p) i ahead) (outside-writing z lawful c p i (Own t) ext out) (inl refl) (h.2 (core.numbered i)))
 
   -- a definition by what is known of its right side
   pub define_does : (p : Position) (x : List ℕ) (t : IrType) (b : Bool) (e : Term) → TreeDoes e → (c : Context) (j : ℕ) → Sound z.is_mutable c → Ahead c j → Outside c (Own (var_def p x t b e)) → FineHere c discard (var_def p x t b e) → (w : World) (env : ir.Env) (s : ir.State) (sc : js.Scope) (u : js.State) → Ready z.place z.code c.scope c.writable w env sc → SameState z.place w s u → Ends z lawful c (with_local x t c.scope) discard w sc (ir_meaning.step z.place.classes z.low (var_def p x t b e) env s) (into z.is_mutable z.code.sure c.targets discard j (var_def p x t b e)).statements sc u

@@ -25,7 +25,7 @@ use Rattle.sj_trees.specs.declared.types.IrType.{IrType}
 use Rattle.sj_trees.specs.declared.types.IrType.TheVariants.{Any}
 use Rattle.sj_plain.specs.Settings.{Receiving, Setting, run, SameState, Lawful, Holding, OfNoVariable, usable}
 use Rattle.sj_bodies.proofs.Blocks.{Outside, Undeclared, not_declared, not_among, entered, enter-ready, block_alike}
-use Rattle.sj_bodies.proofs.Contexts.{Context, Writes, Sound, Ready, Keeps, Less, Arrives, let_go, stored, returned, Came, gave, left, threw, stopped, keeps-refl, started-other}
+use Rattle.sj_bodies.proofs.Contexts.{Context, Writes, writes-more, Sound, Ready, Keeps, Less, Arrives, let_go, stored, returned, Came, gave, left, threw, stopped, keeps-refl, started-other}
 use Rattle.sj_bodies.proofs.Forms.{set-ready, came-narrow, rebased}
 use Rattle.sj_bodies.proofs.Statements.{ends-one, Ends}
 use Rattle.sj_bodies.proofs.Trees.{behind}
@@ -82,14 +82,14 @@ module _ (z : Setting) (lawful : Lawful z) (c : Context) (x : List ℕ) (unseen 
   leave-keeps : (q : core.Variable → Type 0) (v : js.Value) (outer inner : js.Scope) → ((y : core.Variable) → q y → c.kept y) → Keeps z.place q (handler_scope v outer) inner → Keeps z.place q outer (js_meaning.leave_handler caught_name shown_handler outer inner)
   leave-keeps q v outer inner sub ks = record { same = λ y i. (let other : (y ≡ core.named x → ⊥) = λ e. unseen.kept (subst c.kept e (sub y i)) in behind_handler outer inner (z.place.name y) (not_own y other (free.kept y (sub y i))) ∙ ks.same y i ∙ in_handler_still v outer y other (free.kept y (sub y i))) }
 
-  leave-arrives : (w : World) (v : ir.Value) (outer inner : js.Scope) (usual : js.Completion) (k : Destination) (e : js.Completion) → Writes c.written k → Arrives z.place w v inner usual k e → Arrives z.place w v (js_meaning.leave_handler caught_name shown_handler outer inner) usual k e
+  leave-arrives : (w : World) (v : ir.Value) (outer inner : js.Scope) (usual : js.Completion) (k : Destination) (e : js.Completion) → Writes c.writable k → Arrives z.place w v inner usual k e → Arrives z.place w v (js_meaning.leave_handler caught_name shown_handler outer inner) usual k e
   leave-arrives w v outer inner usual _ _ wr let_go = let_go
   leave-arrives w v outer inner usual _ _ wr (stored y t j a h) = stored y t j a (behind_handler outer inner (z.place.name y) (not_own y (λ e. unseen.writable (subst c.writable e wr)) (free.writable y wr)) ∙ h)
   leave-arrives w v outer inner usual _ _ wr (returned t j a) = returned t j a
 
   leaving_alike : (k : Destination) (w : World) (q : js.Value) (sc : js.Scope) → Sound z.is_mutable c → Writes c.written k → (a : ir.Ended) (b : js.StatementEnd) → Came z.place z.code c c.scope k w (handler_scope q sc) a b → Sim z.direction (Came z.place z.code c c.scope k w sc) (done a) (js_meaning.leaving_handler caught_name shown_handler sc b)
-  leaving_alike k w q sc sound wr _ _ (gave y v env s sc' u e g a r ks same) = sim_done z.direction (Came z.place z.code c c.scope k w sc) (ir.ends (ir.gives v) env s) (js.ends e (js_meaning.leave_handler caught_name shown_handler sc sc') u) (gave y v env s (js_meaning.leave_handler caught_name shown_handler sc sc') u e g (leave-arrives y v sc sc' js.normally k e wr a) (leave-ready y env sc sc' r) (leave-keeps (Less c.kept k) q sc sc' (λ y h. h.0) ks) same)
-  leaving_alike k w q sc sound wr _ _ (left y l v env s sc' u e reach g a r ks same) = sim_done z.direction (Came z.place z.code c c.scope k w sc) (ir.ends (ir.leaves l v) env s) (js.ends e (js_meaning.leave_handler caught_name shown_handler sc sc') u) (left y l v env s (js_meaning.leave_handler caught_name shown_handler sc sc') u e reach g (leave-arrives y v sc sc' (js.breaks (z.place.label l)) (target_of c.targets l) e (sound.reached l reach) a) (leave-ready y env sc sc' r) (leave-keeps (Less c.kept (target_of c.targets l)) q sc sc' (λ y h. h.0) ks) same)
+  leaving_alike k w q sc sound wr _ _ (gave y v env s sc' u e g a r ks same) = sim_done z.direction (Came z.place z.code c c.scope k w sc) (ir.ends (ir.gives v) env s) (js.ends e (js_meaning.leave_handler caught_name shown_handler sc sc') u) (gave y v env s (js_meaning.leave_handler caught_name shown_handler sc sc') u e g (leave-arrives y v sc sc' js.normally k e (writes-more c.written c.writable k sound.within wr) a) (leave-ready y env sc sc' r) (leave-keeps (Less c.kept k) q sc sc' (λ y h. h.0) ks) same)
+  leaving_alike k w q sc sound wr _ _ (left y l v env s sc' u e reach g a r ks same) = sim_done z.direction (Came z.place z.code c c.scope k w sc) (ir.ends (ir.leaves l v) env s) (js.ends e (js_meaning.leave_handler caught_name shown_handler sc sc') u) (left y l v env s (js_meaning.leave_handler caught_name shown_handler sc sc') u e reach g (leave-arrives y v sc sc' (js.breaks (z.place.label l)) (target_of c.targets l) e (sound.aims l) a) (leave-ready y env sc sc' r) (leave-keeps (Less c.kept (target_of c.targets l)) q sc sc' (λ y h. h.0) ks) same)
   leaving_alike k w q sc sound wr _ _ (threw y v j env s sc' u g a r ks same) = sim_done z.direction (Came z.place z.code c c.scope k w sc) (ir.ends (ir.throws v) env s) (js.ends (js.thrown_with j) (js_meaning.leave_handler caught_name shown_handler sc sc') u) (threw y v j env s (js_meaning.leave_handler caught_name shown_handler sc sc') u g a (leave-ready y env sc sc' r) (leave-keeps c.kept q sc sc' (λ y h. h) ks) same)
   leaving_alike k w q sc sound wr _ _ (stopped y env s sc' u t g r ks same) = sim_done z.direction (Came z.place z.code c c.scope k w sc) (ir.ends ir.stops env s) (js.ends js.breaks_nearest (js_meaning.leave_handler caught_name shown_handler sc sc') u) (stopped y env s (js_meaning.leave_handler caught_name shown_handler sc sc') u t g (leave-ready y env sc sc' r) (leave-keeps c.kept q sc sc' (λ y h. h) ks) same)
 

@@ -24,6 +24,7 @@ use Rattle.sj_proper.specs.Typing.{IsTrueLiteral, true_literal}
 use Rattle.sj_bodies.proofs.Forms.{of_operands, one_final, silent, rebased, ahead-later}
 use Rattle.sj_bodies.proofs.Loops.{in_turn, stop, Alike, sound-turn, ahead-turn, while_alike, forever_alike, test_final}
 use Rattle.sj_bodies.specs.Placed.{Placed}
+use Rattle.sj_bodies.proofs.Placed.{once_of}
 use Rattle.sj_bodies.proofs.Trees.{written, LowAlike, outside-part, TreeDoes, piece, operand_does}
 use Rattle.sj_proper.proofs.Trees.{good, while_good, do_good, emitted_alike}
 use Rattle.sj_bodies.proofs.Parts.{tree_in, operand_in, given_up, one_mutable, other_mutable}
@@ -81,10 +82,10 @@ module _ (z : Setting) (lawful : Lawful z) (low : LowAlike z) where
     out_b c out = outside-part c (Own (while_loop p cond b)) (Own b) (λ x o. inr o) out
 
     free_body : (c : Context) (j : ℕ) → Ahead c j → Outside c (Own (while_loop p cond b)) → (labels : List (List ℕ)) → Placed c.reaches c.tries labels b → Undeclared c (body_code c j).statements
-    free_body c j ahead out labels once = undeclared c (Own b) j (body_code c j) (out_b c out) ahead (written z.is_mutable z.code.sure c.targets b discard j once)
+    free_body c j ahead out labels once = undeclared c (Own b) j (body_code c j) (out_b c out) ahead (written z.is_mutable z.code.sure c.reaches c.tries c.targets b discard j once)
 
     free_spilled : (c : Context) (j : ℕ) → Ahead c j → Outside c (Own (while_loop p cond b)) → (labels : List (List ℕ)) → Placed c.reaches c.tries labels (while_loop p cond b) → Undeclared c (spilled_code c j).statements
-    free_spilled c j ahead out labels once = undeclared c (Own (while_loop p cond b)) j (spilled_code c j) out ahead (while_good z.is_mutable z.code.sure p cond b (good z.is_mutable z.code.sure cond) (good z.is_mutable z.code.sure b) labels c.targets labels j once (emitted_alike labels c.targets))
+    free_spilled c j ahead out labels once = undeclared c (Own (while_loop p cond b)) j (spilled_code c j) out ahead (while_good z.is_mutable z.code.sure p cond b (good z.is_mutable z.code.sure cond) (good z.is_mutable z.code.sure b) labels c.targets labels j (once_of c.reaches c.tries labels (while_loop p cond b) once) (emitted_alike labels c.targets))
 
     -- the value of the loop is given up
     while_by : (c : Context) (k : Destination) (j : ℕ) → Sound z.is_mutable c → Ahead c j → Outside c (Own (while_loop p cond b)) → Writes c.written k → Fine z.place.classes z.is_mutable (usable z) z.code c.scope (around c) k (while_loop p cond b) → IsDiscard k × FineOperand z.place.classes z.is_mutable (usable z) z.code c.scope cond (λ y. Fine z.place.classes z.is_mutable (usable z) z.code c.scope (around c) (to_variable y (type_of_term cond)) cond) → Does z lawful c k j (while_loop p cond b)
@@ -102,7 +103,7 @@ module _ (z : Setting) (lawful : Lawful z) (low : LowAlike z) where
     inner_code c j = then_code (into z.is_mutable z.code.sure c.targets discard j b) (test_code c)
 
     free_inner : (c : Context) (j : ℕ) → Ahead c j → Outside c (Own (do_while p b cond)) → (labels : List (List ℕ)) → Placed c.reaches c.tries labels (do_while p b cond) → Undeclared c (inner_code c j).statements
-    free_inner c j ahead out labels once = undeclared c (Own (do_while p b cond)) j (inner_code c j) out ahead (do_good z.is_mutable z.code.sure p b cond (good z.is_mutable z.code.sure b) (good z.is_mutable z.code.sure cond) labels c.targets labels j once (emitted_alike labels c.targets))
+    free_inner c j ahead out labels once = undeclared c (Own (do_while p b cond)) j (inner_code c j) out ahead (do_good z.is_mutable z.code.sure p b cond (good z.is_mutable z.code.sure b) (good z.is_mutable z.code.sure cond) labels c.targets labels j (once_of c.reaches c.tries labels (do_while p b cond) once) (emitted_alike labels c.targets))
 
     turn : ir.Run
     turn env s = ir.go_on (ir_meaning.step z.place.classes z.low b env s) (λ v. ir_meaning.in_order (ir_meaning.step z.place.classes z.low cond ∷ []) (ir_meaning.branch (ir.given ir.undefined) stop))
@@ -113,11 +114,11 @@ module _ (z : Setting) (lawful : Lawful z) (low : LowAlike z) where
 
     do_by : (c : Context) (k : Destination) (j : ℕ) → Sound z.is_mutable c → Ahead c j → Outside c (Own (do_while p b cond)) → Writes c.written k → Fine z.place.classes z.is_mutable (usable z) z.code c.scope (around c) k (do_while p b cond) → IsDiscard k × FineOperand z.place.classes z.is_mutable (usable z) z.code c.scope cond (λ y. Fine z.place.classes z.is_mutable (usable z) z.code c.scope (around c) (to_variable y (type_of_term cond)) cond) → Does z lawful c k j (do_while p b cond)
     unfolding turn
-    do_by c _ j sound ahead out wr fine (is_discard, h) w env s sc u r same = forever_alike z lawful c discard p turn (z.low (do_while p b cond)) (inner_code c j) (core.loop_of (Some p) (inner_code c j).statements) sound (free_inner c j ahead out fine.around fine.once) (turn_by c discard j sound ahead out (do_body p b cond c discard fine) (λ y env s sc u ready same. of_operands z lawful (in_turn c discard) discard (piece z lawful low c.targets cond ∷ []) (into z.is_mutable z.code.sure c.targets discard j b).next (ir_meaning.branch (ir.given ir.undefined) stop) (λ es. one (break_unless (first_of es))) (sound-turn z lawful c discard sound) (ahead-later z lawful (in_turn c discard) j (into z.is_mutable z.code.sure c.targets discard j b).next (written z.is_mutable z.code.sure c.targets b discard j fine.once.0).onward (ahead-turn z lawful c discard j ahead)) (operand_does z lawful low (in_turn c discard) (into z.is_mutable z.code.sure c.targets discard j b).next cond does_cond (outside-turn c discard (Own cond) (outside-part c (Own (do_while p b cond)) (Own cond) (λ x o. inr o) out)) h, tt) (one_final z lawful (in_turn c discard) discard (into z.is_mutable z.code.sure c.targets discard j b).next (type_of_term cond) (ir_meaning.branch (ir.given ir.undefined) stop) (λ es. one (break_unless (first_of es))) (test_final z lawful c discard (ir.given ir.undefined) no_code (into z.is_mutable z.code.sure c.targets discard j b).next sound is_discard (λ i l ah w env s sc u ready same. silent z lawful (in_turn c discard) w ir.undefined env s sc u ready same) (type_of_term cond))) y env s sc u ready same)) (low c discard j (do_while p b cond) sound ahead out tt fine) (λ sc u. refl) w env s sc u r same
+    do_by c _ j sound ahead out wr fine (is_discard, h) w env s sc u r same = forever_alike z lawful c discard p turn (z.low (do_while p b cond)) (inner_code c j) (core.loop_of (Some p) (inner_code c j).statements) sound (free_inner c j ahead out fine.around fine.once) (turn_by c discard j sound ahead out (do_body p b cond c discard fine) (λ y env s sc u ready same. of_operands z lawful (in_turn c discard) discard (piece z lawful low c.targets cond ∷ []) (into z.is_mutable z.code.sure c.targets discard j b).next (ir_meaning.branch (ir.given ir.undefined) stop) (λ es. one (break_unless (first_of es))) (sound-turn z lawful c discard sound) (ahead-later z lawful (in_turn c discard) j (into z.is_mutable z.code.sure c.targets discard j b).next (written z.is_mutable z.code.sure c.reaches c.tries c.targets b discard j fine.once.0).onward (ahead-turn z lawful c discard j ahead)) (operand_does z lawful low (in_turn c discard) (into z.is_mutable z.code.sure c.targets discard j b).next cond does_cond (outside-turn c discard (Own cond) (outside-part c (Own (do_while p b cond)) (Own cond) (λ x o. inr o) out)) h, tt) (one_final z lawful (in_turn c discard) discard (into z.is_mutable z.code.sure c.targets discard j b).next (type_of_term cond) (ir_meaning.branch (ir.given ir.undefined) stop) (λ es. one (break_unless (first_of es))) (test_final z lawful c discard (ir.given ir.undefined) no_code (into z.is_mutable z.code.sure c.targets discard j b).next sound is_discard (λ i l ah w env s sc u ready same. silent z lawful (in_turn c discard) w ir.undefined env s sc u ready same) (type_of_term cond))) y env s sc u ready same)) (low c discard j (do_while p b cond) sound ahead out tt fine) (λ sc u. refl) w env s sc u r same
 
   -- a loop on the literal true never ends by its condition
   while_true : (p q : Position) (b : Term) → TreeDoes z lawful low b → (c : Context) (k : Destination) (j : ℕ) → Sound z.is_mutable c → Ahead c j → Outside c (Own (while_loop p (boolean_literal q true) b)) → Writes c.written k → Fine z.place.classes z.is_mutable (usable z) z.code c.scope (around c) k (while_loop p (boolean_literal q true) b) → Does z lawful c k j (while_loop p (boolean_literal q true) b)
-  while_true p q b does_b c k j sound ahead out wr fine = forever_alike z lawful c k p (ir_meaning.step z.place.classes z.low b) (z.low (while_loop p (boolean_literal q true) b)) (into z.is_mutable z.code.sure c.targets discard j b) (core.while_of (Some p) (core.boolean_value true) (into z.is_mutable z.code.sure c.targets discard j b).statements) sound (undeclared c (Own b) j (into z.is_mutable z.code.sure c.targets discard j b) (outside-part c (Own (while_loop p (boolean_literal q true) b)) (Own b) (λ x o. inr o) out) ahead (written z.is_mutable z.code.sure c.targets b discard j fine.once.1)) (body_alike b does_b c k j sound (ahead-turn z lawful c k j ahead) (outside-part c (Own (while_loop p (boolean_literal q true) b)) (Own b) (λ x o. inr o) out) (while_body p (boolean_literal q true) b c k fine)) (low c k j (while_loop p (boolean_literal q true) b) sound ahead out wr fine) (λ sc u. refl)
+  while_true p q b does_b c k j sound ahead out wr fine = forever_alike z lawful c k p (ir_meaning.step z.place.classes z.low b) (z.low (while_loop p (boolean_literal q true) b)) (into z.is_mutable z.code.sure c.targets discard j b) (core.while_of (Some p) (core.boolean_value true) (into z.is_mutable z.code.sure c.targets discard j b).statements) sound (undeclared c (Own b) j (into z.is_mutable z.code.sure c.targets discard j b) (outside-part c (Own (while_loop p (boolean_literal q true) b)) (Own b) (λ x o. inr o) out) ahead (written z.is_mutable z.code.sure c.reaches c.tries c.targets b discard j fine.once.1)) (body_alike b does_b c k j sound (ahead-turn z lawful c k j ahead) (outside-part c (Own (while_loop p (boolean_literal q true) b)) (Own b) (λ x o. inr o) out) (while_body p (boolean_literal q true) b c k fine)) (low c k j (while_loop p (boolean_literal q true) b) sound ahead out wr fine) (λ sc u. refl)
 
   do_true : (p q : Position) (b : Term) → TreeDoes z lawful low b → TreeDoes z lawful low (boolean_literal q true) → (c : Context) (k : Destination) (j : ℕ) → Sound z.is_mutable c → Ahead c j → Outside c (Own (do_while p b (boolean_literal q true))) → Writes c.written k → Fine z.place.classes z.is_mutable (usable z) z.code c.scope (around c) k (do_while p b (boolean_literal q true)) → Does z lawful c k j (do_while p b (boolean_literal q true))
   unfolding turn

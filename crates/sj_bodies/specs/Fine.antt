@@ -1,6 +1,6 @@
 -- What is asked of a tree where it is written: it keeps the rules of bodies in a scene whose locals and labels are those around it, and what it comes to
 -- may be brought to its destination.
-use Rattle.std.specs.Prelude.{◌≡◌, ℕ, Bool, true, false, List, [], ◌∷◌, Some}
+use Rattle.std.specs.Prelude.{◌≡◌, ℕ, Bool, true, false, List, [], ◌∷◌, ◌⊎◌, Some}
 use Rattle.sj_core.specs.Terms as core
 use Rattle.sj_proper.specs.Desugar.{Targets, target_of, has_no_value}
 use Rattle.sj_proper.specs.Plain.{is_plain, is_fixed, mutable_in}
