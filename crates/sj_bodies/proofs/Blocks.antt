@@ -98,7 +98,7 @@ module _ (z : Setting) (lawful : Lawful z) (c : Context) (ss : core.Statements) 
     «open» = λ y i. record { value = (r.«open» y i).value; is = entered sc (z.place.name y) (not_declared y (free.writable y i)) ∙ (r.«open» y i).is };
   }
 
-  leave-ready : (w : World) (env : ir.Env) (outer inner : js.Scope) → Ready z.place z.code c.scope c.writable w env inner → Ready z.place z.code c.scope c.writable w env (js_meaning.leave shown_statements outer inner)
+  pub leave-ready : (w : World) (env : ir.Env) (outer inner : js.Scope) → Ready z.place z.code c.scope c.writable w env inner → Ready z.place z.code c.scope c.writable w env (js_meaning.leave shown_statements outer inner)
   leave-ready w env outer inner r = record {
     sees = record { inside = record { file = r.sees.inside.file; free = λ x none. behind_block outer inner x (not_among x none) ∙ r.sees.inside.free x none }; this = subst (Receiving w z.code.owner env.this_value) (sym (behind_block outer inner (z.place.name core.receiver) (not_declared core.receiver free.receiver))) r.sees.this; sure = r.sees.sure; locals = λ x t i. subst (Holding w t (env.locals x)) (sym (behind_block outer inner (z.place.name (core.named x)) (not_declared (core.named x) (free.scope x t i)))) (r.sees.locals x t i) };
     «open» = λ y i. record { value = (r.«open» y i).value; is = behind_block outer inner (z.place.name y) (not_declared y (free.writable y i)) ∙ (r.«open» y i).is };

@@ -1,5 +1,6 @@
 pub mod Blocks
 pub mod Contexts
+pub mod Finals
 pub mod Forms
 pub mod Jumps
 pub mod Loops

@@ -16,7 +16,7 @@ use Rattle.sj_core.specs.Views.{expressions_of}
 use Rattle.sj_proper.specs.Coercions.{is_char, coerced, coerced_arguments, coerced_receiver}
 use Rattle.sj_proper.specs.Desugar.{target_of, member, types_of, into, block, receiver, operands, first_of, second_of, rest_of, finish, branches, cases, switch_code, callee_of}
 use Rattle.sj_proper.specs.Spill.{Destination, discard, to_variable, to_result, Code, one, spill, then_use}
-use Rattle.sj_trees.specs.Term.{Term, Terms, no_terms, more_terms, Cases, no_cases, more_cases, var_def, skip, block_of, labeled, assign, return_to, if_then, while_loop, do_while, throw, try_catch, match_on, new_object, select, select_static, apply, apply_statically, this_ref, apply_static, unary_op, binary_op, is_instance_of, as_instance_of, undefined_literal, null_literal, boolean_literal, char_literal, byte_literal, short_literal, int_literal, long_literal, string_literal, var_ref, log_line, load_module, store_module}
+use Rattle.sj_trees.specs.Term.{Term, Terms, no_terms, more_terms, Cases, no_cases, more_cases, var_def, skip, block_of, labeled, assign, return_to, if_then, while_loop, do_while, throw, try_catch, try_finally, match_on, new_object, select, select_static, apply, apply_statically, this_ref, apply_static, unary_op, binary_op, is_instance_of, as_instance_of, undefined_literal, null_literal, boolean_literal, char_literal, byte_literal, short_literal, int_literal, long_literal, string_literal, var_ref, log_line, load_module, store_module}
 use Rattle.sj_trees.specs.TypeOf.{type_of_term, type_of_last, unary_result, binary_result}
 use Rattle.sj_trees.specs.declared.operators.BinaryOp.{BinaryOp}
 use Rattle.sj_trees.specs.declared.operators.UnaryOp.{UnaryOp}
@@ -35,7 +35,9 @@ use Rattle.sj_plain.proofs.Tests.{test_alike, cast_alike}
 use Rattle.sj_plain.proofs.Received.{may_be_checked, value_or_nothing, Received, received, Constructed, constructed}
 use Rattle.sj_proper.proofs.BuiltFormsStatics.{read_static, set_static}
 use Rattle.sj_proper.proofs.Targets.{target_goal}
-use Rattle.sj_proper.specs.Boxes.{Goal, goal_of, goals_of, is_boxed, any_is_boxed, operands_are_boxed, is_boxed_at, boxes_as_text, boxes, last_boxes, operand_boxes, operands_box, cases_box}
+use Rattle.sj_proper.specs.Finalizers.{finalizer_code}
+use Rattle.sj_proper.proofs.Good.{finalizer-good}
+use Rattle.sj_proper.specs.Boxes.{given_up as given_up_goal, Goal, goal_of, goals_of, is_boxed, any_is_boxed, operands_are_boxed, is_boxed_at, boxes_as_text, boxes, last_boxes, operand_boxes, operands_box, cases_box}
 use Rattle.sj_proper.specs.Built.{can_box, may_make, can_cast}
 use Rattle.std.proofs.lemmas.Bool.{and_parts}
 use Rattle.sure_receivers.specs.Sure.{is_sure}
@@ -75,6 +77,8 @@ use Rattle.sj_plain.proofs.Objects.{static_alike}
 use Rattle.sj_bodies.proofs.ObjectTrees.{reflect_does, receiver_piece, receiver_does, select_does, set_static_final, store_final, set_does, set_spilled, new_does, this_does, throw_does, receive_does, construct_does}
 use Rattle.sj_bodies.proofs.Spills.{Does, OperandDoes, OperandsDo, numbered-named, operands_in}
 use Rattle.sj_bodies.proofs.Statements.{run-followed, came_then, finish_alike, Ends}
+use Rattle.sj_bodies.proofs.Finals.{finishing, next, sound-finishing, ahead-finishing, outside-finishing, finally_alike}
+use Rattle.sj_bodies.proofs.Placed.{narrowed}
 use Rattle.sj_bodies.proofs.Tries.{try_alike}
 use Rattle.sj_bodies.proofs.Turns.{while_does, do_does}
 use Rattle.sj_plain.proofs.Worlds.{World, Grows, grows-refl}
@@ -201,6 +205,41 @@ module _ (z : Setting) (lawful : Lawful z) (low : LowAlike z) where
 
       parts : Makes (boxes (goals_of c.targets) (goal_of k) e) × Makes (boxes (goals_of c.targets) (goal_of k) d)
       parts = each (boxes (goals_of c.targets) (goal_of k) e) (boxes (goals_of c.targets) (goal_of k) d) fine.boxed
+
+  finally_does : (p : Position) (e d : Term) → TreeDoes z lawful low e → TreeDoes z lawful low d → TreeDoes z lawful low (try_finally p e d)
+  finally_does p e d does_e does_d c k j sound ahead out wr fine =
+      finally_alike z lawful c d first.next sound later fine.once.0 k p first.statements body (ir_meaning.step z.place.classes z.low e) (ir_meaning.step z.place.classes z.low d) wr
+      (undeclared c (Own e) j first out_e ahead (written z.is_mutable z.code.sure c.reaches c.tries c.targets e k j fine.once.1))
+      (undeclared c (Own d) first.next (finalizer_code (target_of c.targets) d first.next body) out_d later (finalizer-good (Own d) fine.around false (target_of c.targets) d first.next body (λ i. written z.is_mutable z.code.sure c.reaches c.tries c.targets d discard i fine.once.2)))
+      (does_e c k j sound ahead out_e wr (tree c fine.scene fine.amid k e (one_mutable z.is_mutable e d fine.written) fine.asks fine.typed.1 parts.0 fine.around fine.once.1))
+      (does_d inner discard (next z lawful c d first.next sound later) (sound-finishing z lawful c d first.next sound later) (ahead-finishing z lawful c d first.next sound later) (outside-finishing z lawful c d first.next sound later (Own d) out_d) tt (tree inner fine.scene inner_amid discard d (other_mutable z.is_mutable e d fine.written) tt fine.typed.2 parts.1 fine.around placed_d))
+    where
+      first : Code
+      first = into z.is_mutable z.code.sure c.targets k j e
+
+      body : ℕ → Code
+      body i = into z.is_mutable z.code.sure c.targets discard i d
+
+      inner : Context
+      inner = finishing c d first.next
+
+      inner_amid : AmidHere inner fine.scene
+      inner_amid = record { surely = fine.amid.surely; owned = fine.amid.owned; seen = fine.amid.seen; values = fine.amid.values; changing = fine.amid.changing; targets = fine.amid.targets }
+
+      placed_d : Placed inner.reaches inner.tries fine.around d
+      placed_d = narrowed c.reaches inner.reaches c.tries inner.tries [] fine.around d (λ m i. impossible i) (λ m i r. (r, i)) (λ t. t) fine.once.2
+
+      out_e : Outside c (Own e)
+      out_e = outside-part c (Own (try_finally p e d)) (Own e) (λ y o. inl o) out
+
+      out_d : Outside c (Own d)
+      out_d = outside-part c (Own (try_finally p e d)) (Own d) (λ y o. inr o) out
+
+      later : Ahead c first.next
+      later = ahead-later z lawful c j first.next (written z.is_mutable z.code.sure c.reaches c.tries c.targets e k j fine.once.1).onward ahead
+
+      parts : Makes (boxes (goals_of c.targets) (goal_of k) e) × Makes (boxes (goals_of c.targets) given_up_goal d)
+      parts = each (boxes (goals_of c.targets) (goal_of k) e) (boxes (goals_of c.targets) given_up_goal d) fine.boxed
 
   unary_does : (p : Position) (o : UnaryOp) (e : Term) → TreeDoes z lawful low e → TreeDoes z lawful low (unary_op p o e)
   unary_does p o e does c k j sound ahead out wr fine = of_operands z lawful c k (piece z lawful low c.targets e ∷ []) j (ir_meaning.unary z.place.classes z.low o) (λ es. finish k p (unary_result o) false (core.unary_of o (first_of es))) sound ahead (operand_does z lawful low c j e does out (part_of c fine.scene fine.amid e fine.written (unary_operand o) fine.typed.0.meets (unary-operand-value o) fine.typed.1 (each (is_boxed_at (goal_of k) (unary_result o)) (operand_boxes (goals_of c.targets) e) fine.boxed).1 fine.around fine.once), tt) (one_final z lawful c k j (type_of_term e) (ir_meaning.unary z.place.classes z.low o) (λ es. finish k p (unary_result o) false (core.unary_of o (first_of es))) (finish_one z lawful low c k p (type_of_term e) (unary_result o) (ir_meaning.unary z.place.classes z.low o) (core.unary_of o) j sound wr (fits-value z.place.classes lawful.base.ordered (usable z) k (unary_result o) fine.asks (unary-value o) (each (is_boxed_at (goal_of k) (unary_result o)) (operand_boxes (goals_of c.targets) e) fine.boxed).0) (λ r x w env s sc u alike same. unary_alike z lawful c.scope o (type_of_term e) r x (fits-unary z.place.classes lawful.base.ordered o (type_of_term e) fine.typed.0.meets) w env s sc u alike same)))
@@ -555,6 +594,7 @@ module _ (z : Setting) (lawful : Lawful z) (low : LowAlike z) where
     does (assign p (select_static q d f t) e) = λ c k j sound ahead out wr fine. set_static_by p q d f t e (does e) c k j sound ahead out fine (given_up z.place.classes lawful.base.ordered k fine.asks)
     does (return_to p e l) = return_does p e l (does e)
     does (try_catch p e x d t) = try_does p e x d t (does e) (does d)
+    does (try_finally p e d) = finally_does p e d (does e) (does d)
     does (if_then p a b d t) = if_does p a b d t (does a) (does b) (does d)
     does (while_loop p a b) = while_does z lawful low p a b (does a) (does b)
     does (do_while p b a) = do_does z lawful low p b a (does b) (does a)
