@@ -20,7 +20,7 @@ use Rattle.sj_names.specs.declared.entry_points.EntryPoint.{EntryPoint}
 use Rattle.sj_names.specs.declared.method_names.Member.{Member}
 use Rattle.sj_judged.specs.Built.{Usable}
 use Rattle.sj_judged.specs.Linked.{has_function, have_functions, functions_of}
-use Rattle.sj_trees.specs.Term.{Term, Terms, no_terms, more_terms, Cases, no_cases, more_cases, var_def, skip, block_of, labeled, assign, return_to, if_then, while_loop, do_while, match_on, apply_statically, apply_static, unary_op, binary_op, as_instance_of, undefined_literal, null_literal, boolean_literal, char_literal, byte_literal, short_literal, int_literal, long_literal, string_literal, var_ref, log_line, apply}
+use Rattle.sj_trees.specs.Term.{Term, Terms, no_terms, more_terms, Cases, no_cases, more_cases, var_def, skip, block_of, labeled, assign, return_to, if_then, while_loop, do_while, try_finally, match_on, apply_statically, apply_static, unary_op, binary_op, as_instance_of, undefined_literal, null_literal, boolean_literal, char_literal, byte_literal, short_literal, int_literal, long_literal, string_literal, var_ref, log_line, apply}
 use Rattle.sj_trees.specs.TypeOf.{type_of_term}
 use Rattle.sj_trees.specs.declared.types.IrType.{IrType}
 use Rattle.sj_judged.specs.Built.{can_call, is_operation, can_cast, is_built, are_built, are_built_cases, anything, body_boxes, is_built_body}
@@ -94,6 +94,7 @@ module _ (has : Usable) (checked : Term → Bool) where
         and_from (is_built has checked c) (is_built has checked a && is_built has checked b) (built c r.0 head.0) (and_from (is_built has checked a) (is_built has checked b) (built a s.0 head.1) (built b s.1 last))
     built (while_loop p c b) k h = let q = and_parts (is_built anything (λ e. true) c) (is_built anything (λ e. true) b) k in let parts = two c b (inner (while_loop p c b) h) in and_from (is_built has checked c) (is_built has checked b) (built c q.0 parts.0) (built b q.1 parts.1)
     built (do_while p b c) k h = let q = and_parts (is_built anything (λ e. true) b) (is_built anything (λ e. true) c) k in let parts = two b c (inner (do_while p b c) h) in and_from (is_built has checked b) (is_built has checked c) (built b q.0 parts.0) (built c q.1 parts.1)
+    built (try_finally p e d) k h = let q = and_parts (is_built anything (λ e. true) e) (is_built anything (λ e. true) d) k in let parts = two e d (inner (try_finally p e d) h) in and_from (is_built has checked e) (is_built has checked d) (built e q.0 parts.0) (built d q.1 parts.1)
     built (match_on p e cs d t) k h =
         let r = and_parts (is_built anything (λ e. true) e) (are_built_cases anything (λ e. true) cs && is_built anything (λ e. true) d) k in
         let s = and_parts (are_built_cases anything (λ e. true) cs) (is_built anything (λ e. true) d) r.1 in

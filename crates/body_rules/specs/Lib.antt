@@ -10,6 +10,7 @@ pub use Rattle.sj_emit_expr.specs.Views
 pub use Rattle.sj_emit_expr.specs.CalleeVariants
 pub use Rattle.sj_emit_expr.specs.Coercions
 pub use Rattle.sj_emit_expr.specs.Desugar
+pub use Rattle.sj_emit_expr.specs.Finalizers
 pub use Rattle.sj_emit_expr.specs.Plain
 pub use Rattle.sj_emit_expr.specs.Spill
 pub use Rattle.sj_emit_expr.specs.Texts

@@ -33,7 +33,7 @@ use Rattle.sj_names.specs.declared.method_names.Namespace.{Namespace}
 use Rattle.sj_names.specs.declared.method_names.Namespace.TheVariants.{Constructor}
 use Rattle.sj_names.specs.declared.method_names.Member.{Member}
 use Rattle.sj_names.specs.declared.references.TypeRef.{TypeRef}
-use Rattle.sj_trees.specs.Term.{Term, Terms, no_terms, more_terms, Cases, no_cases, more_cases, var_def, skip, block_of, labeled, assign, return_to, if_then, while_loop, do_while, throw, try_catch, match_on, new_object, new_array, array_value, load_module, select, select_static, apply, apply_statically, apply_static, unary_op, binary_op, is_instance_of, as_instance_of, undefined_literal, null_literal, boolean_literal, char_literal, byte_literal, short_literal, int_literal, long_literal, string_literal, var_ref, this_ref, log_line, store_module}
+use Rattle.sj_trees.specs.Term.{Term, Terms, no_terms, more_terms, Cases, no_cases, more_cases, var_def, skip, block_of, labeled, assign, return_to, if_then, while_loop, do_while, throw, try_catch, try_finally, match_on, new_object, new_array, array_value, load_module, select, select_static, apply, apply_statically, apply_static, unary_op, binary_op, is_instance_of, as_instance_of, undefined_literal, null_literal, boolean_literal, char_literal, byte_literal, short_literal, int_literal, long_literal, string_literal, var_ref, this_ref, log_line, store_module}
 use Rattle.sj_trees.specs.TypeOf.{type_of_term, type_of_last, loop_type, unary_result, binary_result}
 use Rattle.sj_trees.specs.Types.{class_type, reference_type}
 use Rattle.sj_trees.specs.declared.classes.ClassDef.{ClassDef}
@@ -1052,6 +1052,18 @@ module _ (w : World) (law : IsSubtyping (IsSub w)) (has : Usable) where
     caught_right at s x t handler h _ (left k l v env st r b i g j) = left k l v env st r b i g j
     caught_right at s x t handler h _ (threw k v env st b i j) = rebased at k b s s.locals t (handler (ir_meaning.set_local x v env) st).end (h k b v env st i j)
 
+    -- behind a finalizer that gives a value, a block ends as it had; any other end of it is the end of both
+    resumed_right : (at k : Classes) (s : Scene) (t r : IrType) (how : ir.Kind) → Adds at k → ((y : Classes) → Adds k y → (env : ir.Env) (st : ir.State) → Ready y (frame_of s) s.locals env st → CameRight at s s.locals t (ir.ends how env st)) → (a : ir.Ended) → CameRight k s s.locals r a → Right at s t (ir_meaning.resumed how a)
+    resumed_right at k s t r how b h _ (gave y v env st a g i) = h y a env st i
+    resumed_right at k s t r how b h _ (left y l v env st q a i g j) = left y l v env st q (adds-trans at k y b a) i g j
+    resumed_right at k s t r how b h _ (threw y v env st a i j) = threw y v env st (adds-trans at k y b a) i j
+
+    -- a finalizer runs, however its block ended
+    finally_right : (at : Classes) (s : Scene) (t r : IrType) (finalizer : ir.Run) → ((k : Classes) → Adds at k → (env : ir.Env) (st : ir.State) → Ready k (frame_of s) s.locals env st → Right k s r (finalizer env st)) → (a : ir.Ended) → CameRight at s s.locals t a → Right at s t (ir_meaning.finally finalizer a)
+    finally_right at s t r finalizer h _ (gave k v env st b g i) = comes_then (CameRight k s s.locals r) (CameRight at s s.locals t) (finalizer env st) (ir_meaning.resumed (ir.gives v)) (h k b env st i) (resumed_right at k s t r (ir.gives v) b (λ y a env st i. gave y v env st (adds-trans at k y b a) (gives-lift k y a v t g) i))
+    finally_right at s t r finalizer h _ (left k l v env st q b i g j) = comes_then (CameRight k s s.locals r) (CameRight at s s.locals t) (finalizer env st) (ir_meaning.resumed (ir.leaves l v)) (h k b env st j) (resumed_right at k s t r (ir.leaves l v) b (λ y a env st j. left y l v env st q (adds-trans at k y b a) i (gives-lift k y a v q g) j))
+    finally_right at s t r finalizer h _ (threw k v env st b i j) = comes_then (CameRight k s s.locals r) (CameRight at s s.locals t) (finalizer env st) (ir_meaning.resumed (ir.throws v)) (h k b env st j) (resumed_right at k s t r (ir.throws v) b (λ y a env st j. threw y v env st (adds-trans at k y b a) (type-lift (IsSub w) law k y a v Any i) j))
+
     -- a condition, and what is done where it holds
     tested_right : (c : Term) (first : ir.Run) (s : Scene) (t : IrType) → t ≡ NoType → (at : Classes) (env : ir.Env) (st : ir.State) → Right at s (type_of_term c) (step c env st) → IsSub w (type_of_term c) Boolean → ((k : Classes) (env : ir.Env) (st : ir.State) → Ready k (frame_of s) s.locals env st → Comes (Turned k s t) (first env st).end) → Comes (Turned at s t) (ir_meaning.in_order (step c ∷ []) (ir_meaning.branch first (λ env s. record { lines = []; end = Done (ir.ends ir.stops env s) })) env st).end
     tested_right c first s t none at env st h f body = go_on_turn at s (type_of_term c) t (step c env st) (λ v. ir_meaning.in_order [] (λ vs. ir_meaning.branch first (λ env s. record { lines = []; end = Done (ir.ends ir.stops env s) }) (v ∷ vs))) h (λ k a v env st g i. test_right k s t first v env st none (as_boolean (IsSub w) law k v (operand-type k v (type_of_term c) Boolean g f boolean_not)) i (body k env st i))
@@ -1145,6 +1157,11 @@ module _ (w : World) (law : IsSubtyping (IsSub w)) (has : Usable) where
           (caught_right at s x t (step d) (λ k b a env' st' is ready. leave-right k s caught t (step d (ir_meaning.set_local x a env') st').end (fresh x (inl refl))
           (yields-right k (catching x s) (caught ∷ s.locals) d t (step d (ir_meaning.set_local x a env') st').end h.0.meets.1
           (tree_right d (catching x s) (scope-behind (frame_of s) s.locals caught v refl (λ r q. refl)) h.2 (λ y o j. ⊎_elim (λ same. h.0.finds (subst (Own d) same o)) (λ there. fresh y (inr (inr o)) there) j) (λ r. (parts.1 r).1) k (ir_meaning.set_local x a env') st' (set-ready k (frame_of s) s.locals caught env' st' a is (λ r q. impossible ((parts.1 r).0 q).1) ready))))))
+      tree_right (try_finally p e d) = λ s v h fresh u at env st i.
+          (let parts = sures-parts s (definitions e) (definitions d) u in
+          comes_then (CameRight at s s.locals (type_of_term e)) (CameRight at s s.locals (type_of_term e)) (step e env st) (ir_meaning.finally (step d))
+          (tree_right e s v h.1 (λ y o. fresh y (inl o)) parts.0 at env st i)
+          (finally_right at s (type_of_term e) (type_of_term d) (step d) (λ k b env' st' ready. tree_right d s v h.2 (λ y o. fresh y (inr o)) parts.1 k env' st' ready)))
       tree_right (match_on p e cs d t) = λ s v h fresh u at env st i. operand_right e at s t Int (ir_meaning.choose (ir_meaning.branches w low cs) (step d)) env st (tree_right e s v h.1 (λ x o. fresh x (inl o)) (sures-parts s (definitions e) (definitions_of_cases cs) (sures-parts s (definitions e ++ definitions_of_cases cs) (definitions d) u).0).0 at env st i) h.0.meets.0 int_not (λ y b q env st k i. chosen_right y s t (ir_meaning.branches w low cs) (step d) q env st (as_int (IsSub w) law y q k) (λ n. cases_right cs s t v h.2 (λ x o. fresh x (inr (inl o))) (sures-parts s (definitions e) (definitions_of_cases cs) (sures-parts s (definitions e ++ definitions_of_cases cs) (definitions d) u).0).1 (step d) n y env st i (yields-right y s s.locals d t (step d env st).end h.0.meets.2 (tree_right d s v h.3 (λ x o. fresh x (inr (inr o))) (sures-parts s (definitions e ++ definitions_of_cases cs) (definitions d) u).1 y env st i))))
       tree_right (apply_static p c n m ts t) = λ s v h fresh u at env st i. arguments_right ts m.params s t v h.0.meets.2 h.0.finds h.1 fresh u at (ir_meaning.call low (member_of w c n m) None) env st i (λ y b vs env st k i. call_right laws low right (member c n m) (members (member c n m) h.0.built) s t h.0.meets.1 y vs k None (λ r. absurd (no_object n h.0.meets.0 r)) env st i)
       tree_right (throw p e) = λ s v h fresh u at env st i. operand_right e at s Nothing Any ir_meaning.throw_value env st (tree_right e s v h.1 fresh u at env st i) h.0.meets (value-not Any refl) (λ y b a env st k i. threw y a env st (adds-refl y) k i)

@@ -36,7 +36,7 @@ use Rattle.sj_bodies.proofs.Statements.{finish_alike, Ends}
 use Rattle.sj_bodies.proofs.Trees.{LowAlike, list_of}
 
 module _ (z : Setting) (lawful : Lawful z) (low : LowAlike z) where
-  module _ (r : ArrayRef) (m : MethodName) (e : Term) (is : type_of_term e ≡ Array r) (ts : Terms) (t : IrType) (act : List ir.Value → ir.Run) (c : Context) (k : Destination) (p : Position) (sound : Sound z.is_mutable c) (wr : Writes c.writable k) (fits : FitsIn (usable z) k t) where
+  module _ (r : ArrayRef) (m : MethodName) (e : Term) (is : type_of_term e ≡ Array r) (ts : Terms) (t : IrType) (act : List ir.Value → ir.Run) (c : Context) (k : Destination) (p : Position) (sound : Sound z.is_mutable c) (wr : Writes c.written k) (fits : FitsIn (usable z) k t) where
     abbrev first : Piece
     first = receiver_piece z lawful low c.targets e
 

@@ -18,7 +18,7 @@ use Rattle.sj_proper.specs.Spill.{Destination, Code}
 use Rattle.sj_proper.specs.Templates.{statement_templates}
 use Rattle.sj_plain.specs.Settings.{Receiving, Setting, run, Lawful, Holding, OfNoVariable, usable}
 use Rattle.sj_trees.specs.declared.types.IrType.{IrType}
-use Rattle.sj_bodies.proofs.Contexts.{Context, Writes, Sound, Ahead, Ready, Keeps, Less, Arrives, let_go, stored, returned, Came, gave, left, threw, stopped}
+use Rattle.sj_bodies.proofs.Contexts.{Context, Writes, writes-more, Sound, Ahead, Ready, Keeps, Less, Arrives, let_go, stored, returned, Came, gave, left, threw, stopped}
 use Rattle.sj_proper.proofs.Declared.{Declares, declared-named}
 use Rattle.sj_proper.proofs.Good.{IsIn, Good}
 use Rattle.sj_names.proofs.Same.{impossible}
@@ -98,7 +98,7 @@ module _ (z : Setting) (lawful : Lawful z) (c : Context) (ss : core.Statements) 
     «open» = λ y i. record { value = (r.«open» y i).value; is = entered sc (z.place.name y) (not_declared y (free.writable y i)) ∙ (r.«open» y i).is };
   }
 
-  leave-ready : (w : World) (env : ir.Env) (outer inner : js.Scope) → Ready z.place z.code c.scope c.writable w env inner → Ready z.place z.code c.scope c.writable w env (js_meaning.leave shown_statements outer inner)
+  pub leave-ready : (w : World) (env : ir.Env) (outer inner : js.Scope) → Ready z.place z.code c.scope c.writable w env inner → Ready z.place z.code c.scope c.writable w env (js_meaning.leave shown_statements outer inner)
   leave-ready w env outer inner r = record {
     sees = record { inside = record { file = r.sees.inside.file; free = λ x none. behind_block outer inner x (not_among x none) ∙ r.sees.inside.free x none }; this = subst (Receiving w z.code.owner env.this_value) (sym (behind_block outer inner (z.place.name core.receiver) (not_declared core.receiver free.receiver))) r.sees.this; sure = r.sees.sure; locals = λ x t i. subst (Holding w t (env.locals x)) (sym (behind_block outer inner (z.place.name (core.named x)) (not_declared (core.named x) (free.scope x t i)))) (r.sees.locals x t i) };
     «open» = λ y i. record { value = (r.«open» y i).value; is = behind_block outer inner (z.place.name y) (not_declared y (free.writable y i)) ∙ (r.«open» y i).is };
@@ -112,16 +112,16 @@ module _ (z : Setting) (lawful : Lawful z) (c : Context) (ss : core.Statements) 
   leave-arrives w v outer inner usual _ _ wr (stored x t j a h) = stored x t j a (behind_block outer inner (z.place.name x) (not_declared x (free.writable x wr)) ∙ h)
   leave-arrives w v outer inner usual _ _ wr (returned t j a) = returned t j a
 
-  leaving_alike : (k : Destination) (w : World) (sc : js.Scope) → Sound z.is_mutable c → Writes c.writable k → (a : ir.Ended) (b : js.StatementEnd) → Came z.place z.code c c.scope k w (js_meaning.enter shown_statements sc) a b → Sim z.direction (Came z.place z.code c c.scope k w sc) (done a) (js_meaning.leaving shown_statements sc b)
-  leaving_alike k w sc sound wr _ _ (gave y v env s sc' u e g a r ks same) = sim_done z.direction (Came z.place z.code c c.scope k w sc) (ir.ends (ir.gives v) env s) (js.ends e (js_meaning.leave shown_statements sc sc') u) (gave y v env s (js_meaning.leave shown_statements sc sc') u e g (leave-arrives y v sc sc' js.normally k e wr a) (leave-ready y env sc sc' r) (leave-keeps (Less c.kept k) sc sc' (λ y h. h.0) ks) same)
-  leaving_alike k w sc sound wr _ _ (left y l v env s sc' u e reach g a r ks same) = sim_done z.direction (Came z.place z.code c c.scope k w sc) (ir.ends (ir.leaves l v) env s) (js.ends e (js_meaning.leave shown_statements sc sc') u) (left y l v env s (js_meaning.leave shown_statements sc sc') u e reach g (leave-arrives y v sc sc' (js.breaks (z.place.label l)) (target_of c.targets l) e (sound.reached l reach) a) (leave-ready y env sc sc' r) (leave-keeps (Less c.kept (target_of c.targets l)) sc sc' (λ y h. h.0) ks) same)
+  leaving_alike : (k : Destination) (w : World) (sc : js.Scope) → Sound z.is_mutable c → Writes c.written k → (a : ir.Ended) (b : js.StatementEnd) → Came z.place z.code c c.scope k w (js_meaning.enter shown_statements sc) a b → Sim z.direction (Came z.place z.code c c.scope k w sc) (done a) (js_meaning.leaving shown_statements sc b)
+  leaving_alike k w sc sound wr _ _ (gave y v env s sc' u e g a r ks same) = sim_done z.direction (Came z.place z.code c c.scope k w sc) (ir.ends (ir.gives v) env s) (js.ends e (js_meaning.leave shown_statements sc sc') u) (gave y v env s (js_meaning.leave shown_statements sc sc') u e g (leave-arrives y v sc sc' js.normally k e (writes-more c.written c.writable k sound.within wr) a) (leave-ready y env sc sc' r) (leave-keeps (Less c.kept k) sc sc' (λ y h. h.0) ks) same)
+  leaving_alike k w sc sound wr _ _ (left y l v env s sc' u e reach g a r ks same) = sim_done z.direction (Came z.place z.code c c.scope k w sc) (ir.ends (ir.leaves l v) env s) (js.ends e (js_meaning.leave shown_statements sc sc') u) (left y l v env s (js_meaning.leave shown_statements sc sc') u e reach g (leave-arrives y v sc sc' (js.breaks (z.place.label l)) (target_of c.targets l) e (sound.aims l) a) (leave-ready y env sc sc' r) (leave-keeps (Less c.kept (target_of c.targets l)) sc sc' (λ y h. h.0) ks) same)
   leaving_alike k w sc sound wr _ _ (threw y v x env s sc' u g a r ks same) = sim_done z.direction (Came z.place z.code c c.scope k w sc) (ir.ends (ir.throws v) env s) (js.ends (js.thrown_with x) (js_meaning.leave shown_statements sc sc') u) (threw y v x env s (js_meaning.leave shown_statements sc sc') u g a (leave-ready y env sc sc' r) (leave-keeps c.kept sc sc' (λ y h. h) ks) same)
   leaving_alike k w sc sound wr _ _ (stopped y env s sc' u t g r ks same) = sim_done z.direction (Came z.place z.code c c.scope k w sc) (ir.ends ir.stops env s) (js.ends js.breaks_nearest (js_meaning.leave shown_statements sc sc') u) (stopped y env s (js_meaning.leave shown_statements sc sc') u t g (leave-ready y env sc sc' r) (leave-keeps c.kept sc sc' (λ y h. h) ks) same)
 
   -- what stands in a block with the names that these statements declare
-  pub scoped_alike : (k : Destination) (w : World) (env : ir.Env) (sc : js.Scope) (u : js.State) (o : Out ir.Ended) (x : js.Execution) → Sound z.is_mutable c → Writes c.writable k → Ready z.place z.code c.scope c.writable w env sc → (Ready z.place z.code c.scope c.writable w env (js_meaning.enter shown_statements sc) → Sim z.direction (Came z.place z.code c c.scope k w (js_meaning.enter shown_statements sc)) o (x (js_meaning.enter shown_statements sc) u)) → Sim z.direction (Came z.place z.code c c.scope k w sc) o (js_meaning.in_block shown_statements x sc u)
+  pub scoped_alike : (k : Destination) (w : World) (env : ir.Env) (sc : js.Scope) (u : js.State) (o : Out ir.Ended) (x : js.Execution) → Sound z.is_mutable c → Writes c.written k → Ready z.place z.code c.scope c.writable w env sc → (Ready z.place z.code c.scope c.writable w env (js_meaning.enter shown_statements sc) → Sim z.direction (Came z.place z.code c c.scope k w (js_meaning.enter shown_statements sc)) o (x (js_meaning.enter shown_statements sc) u)) → Sim z.direction (Came z.place z.code c c.scope k w sc) o (js_meaning.in_block shown_statements x sc u)
   scoped_alike k w env sc u o x sound wr r inner = subst (λ q. Sim z.direction (Came z.place z.code c c.scope k w sc) q (js_meaning.in_block shown_statements x sc u)) (then_do-right o) (sim_then z.direction (Came z.place z.code c c.scope k w (js_meaning.enter shown_statements sc)) (Came z.place z.code c c.scope k w sc) o (x (js_meaning.enter shown_statements sc) u) done (js_meaning.leaving shown_statements sc) (inner (enter-ready w env sc r)) (leaving_alike k w sc sound wr))
 
   -- a tree whose statements stand in a block of their own
-  pub block_alike : (k : Destination) (w : World) (env : ir.Env) (sc : js.Scope) (u : js.State) (o : Out ir.Ended) → Sound z.is_mutable c → Writes c.writable k → Ready z.place z.code c.scope c.writable w env sc → (Ready z.place z.code c.scope c.writable w env (js_meaning.enter shown_statements sc) → Sim z.direction (Came z.place z.code c c.scope k w (js_meaning.enter shown_statements sc)) o (run z ss (js_meaning.enter shown_statements sc) u)) → Sim z.direction (Came z.place z.code c c.scope k w sc) o (js_meaning.in_block shown_statements (run z ss) sc u)
+  pub block_alike : (k : Destination) (w : World) (env : ir.Env) (sc : js.Scope) (u : js.State) (o : Out ir.Ended) → Sound z.is_mutable c → Writes c.written k → Ready z.place z.code c.scope c.writable w env sc → (Ready z.place z.code c.scope c.writable w env (js_meaning.enter shown_statements sc) → Sim z.direction (Came z.place z.code c c.scope k w (js_meaning.enter shown_statements sc)) o (run z ss (js_meaning.enter shown_statements sc) u)) → Sim z.direction (Came z.place z.code c c.scope k w sc) o (js_meaning.in_block shown_statements (run z ss) sc u)
   block_alike k w env sc u o = scoped_alike k w env sc u o (run z ss)

@@ -1,4 +1,5 @@
--- What a tree is written in: the locals in scope, the variables that may be written, those that keep what they hold, and the labels.
+-- What a tree is written in: the locals in scope, the variables that may be written, those that keep what they hold, the labels, and whether a try with a finalizer
+-- may stand there.
 use Rattle.std.proofs.Common.{◌≡◌, ℕ, ◌≤◌, Bool, true, false, List, refl, sym, ap, ◌∙◌, subst, if◌then◌else◌}
 use Rattle.sj_plain.specs.States as ir
 use Rattle.js_mean.specs.Meaning as js_meaning
@@ -18,28 +19,39 @@ use Rattle.sj_plain.proofs.Worlds.{World, Grows, SameValue}
 pub record Context : Type 1 where
   pub scope : Scope
   pub writable : core.Variable → Type 0
+  pub written : core.Variable → Type 0
   pub kept : core.Variable → Type 0
   pub targets : Targets
   pub reaches : List ℕ → Type 0
+  pub tries : Type 0
   pub turning : Type 0
 
 -- the labels around it
 abbrev pub around : Context → Around
-around c = record { targets = c.targets; reaches = c.reaches }
+around c = record { targets = c.targets; reaches = c.reaches; tries = c.tries }
 
 abbrev pub Writes : (core.Variable → Type 0) → Destination → Type 0
 Writes q discard = Unit {0}
 Writes q (to_variable y t) = q y
 Writes q (to_result t) = Unit {0}
 
--- what may be written is no local in scope; a local in scope is kept where it isn't mutable, and no mutable one is; it has one type; and the
--- values that leave to a label go where it may be written. This is kept.
+pub writes-more : (q p : core.Variable → Type 0) (k : Destination) → ((y : core.Variable) → q y → p y) → Writes q k → Writes p k
+writes-more q p discard h w = tt
+writes-more q p (to_variable y t) h w = h y w
+writes-more q p (to_result t) h w = tt
+
+-- what may be written is no local in scope; a local in scope is kept where it isn't mutable, and no mutable one is; it has one type; the values that leave to a
+-- label go where it may be written, and those of a label to which the tree may leave where the tree writes; where a try with a finalizer may stand, nothing is kept
+-- that the tree writes. This is kept.
 pub record Sound (is_mutable : List ℕ → Bool) (c : Context) : Type 0 where
   pub hidden : (x : List ℕ) (t : IrType) → c.writable (core.named x) → c.scope x t → ⊥
   pub constant : (x : List ℕ) (t : IrType) → c.scope x t → is_mutable x ≡ false → c.kept (core.named x)
   pub changing : (x : List ℕ) (t : IrType) → c.scope x t → c.kept (core.named x) → is_mutable x ≡ true → ⊥
   pub alone : (x : List ℕ) (s t : IrType) → c.scope x s → c.scope x t → s ≡ t
-  pub reached : (l : List ℕ) → c.reaches l → Writes c.writable (target_of c.targets l)
+  pub within : (y : core.Variable) → c.written y → c.writable y
+  pub aims : (l : List ℕ) → Writes c.writable (target_of c.targets l)
+  pub reached : (l : List ℕ) → c.reaches l → Writes c.written (target_of c.targets l)
+  pub apart : c.tries → (y : core.Variable) → c.kept y → c.written y → ⊥
   pub receiver : c.kept core.receiver
   pub received : c.writable core.receiver → ⊥
 

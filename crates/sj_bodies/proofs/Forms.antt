@@ -22,7 +22,7 @@ use Rattle.sj_trees.specs.declared.types.IrType.TheVariants.{NoType}
 use Rattle.sj_plain.specs.Settings.{Receiving, Setting, shown, run, SameState, Valued, valued, Lawful, Holding, holding, Sees, usable}
 use Rattle.sj_plain.proofs.Boxes.{StandsFor, stood, stood-fits, operand_stood, operand_coerced}
 use Rattle.sj_bodies.proofs.Blocks.{Outside, Undeclared, block_alike}
-use Rattle.sj_bodies.proofs.Contexts.{Context, Writes, Sound, Ahead, IsOpen, Ready, ready-lift, Keeps, Goes, Less, keeps-less, less-trans, keeps-fewer, keeps-refl, keeps-trans, Arrives, let_go, stored, Came, gave, left, threw, stopped, started-here, started-other, started-inside, started-ready, started-keeps}
+use Rattle.sj_bodies.proofs.Contexts.{Context, Writes, writes-more, Sound, Ahead, IsOpen, Ready, ready-lift, Keeps, Goes, Less, keeps-less, less-trans, keeps-fewer, keeps-refl, keeps-trans, Arrives, let_go, stored, Came, gave, left, threw, stopped, started-here, started-other, started-inside, started-ready, started-keeps}
 use Rattle.sj_proper.proofs.Equal.{equals, is-equal}
 use Rattle.sj_bodies.specs.Fine.{FitsIn}
 use Rattle.sj_names.proofs.Same.{impossible}
@@ -30,11 +30,6 @@ use Rattle.sj_plain.proofs.Orders.{OperandAlike, OperandsAlike, no_operands, mor
 use Rattle.sj_bodies.proofs.Spills.{keeping, writing, Extends, extends-refl, Final, OperandsDo, Piece, runs, operands_in, types, spill_does, numbered-named, numbered-same}
 use Rattle.sj_bodies.proofs.Statements.{act_of, ends-one, assigned, started-open, finish_alike, ThrowsOn, throws-on, valued_then, valued_done, Ends}
 use Rattle.sj_plain.proofs.Worlds.{World, Grows, grows-refl, grows-trans, SameValue, Stands, same_undefined, same_boolean, same_text, value-fits, no_values, one_more}
-
-pub writes-more : (q p : core.Variable → Type 0) (k : Destination) → ((y : core.Variable) → q y → p y) → Writes q k → Writes p k
-writes-more q p discard h w = tt
-writes-more q p (to_variable y t) h w = h y w
-writes-more q p (to_result t) h w = tt
 
 module _ (z : Setting) (lawful : Lawful z) where
   -- a context in which one more variable for an operand may be written
@@ -44,7 +39,10 @@ module _ (z : Setting) (lawful : Lawful z) where
     constant = sound.constant;
     changing = sound.changing;
     alone = sound.alone;
-    reached = λ l r. writes-more c.writable (λ y. (y ≡ core.numbered i) ⊎ c.writable y) (target_of c.targets l) (λ y h. inr h) (sound.reached l r);
+    within = λ y wr. ⊎_elim (λ e. inl e) (λ h. inr (sound.within y h)) wr;
+    aims = λ l. writes-more c.writable (λ y. (y ≡ core.numbered i) ⊎ c.writable y) (target_of c.targets l) (λ y h. inr h) (sound.aims l);
+    reached = λ l r. writes-more c.written (λ y. (y ≡ core.numbered i) ⊎ c.written y) (target_of c.targets l) (λ y h. inr h) (sound.reached l r);
+    apart = λ t y k wr. ⊎_elim (λ e. ahead.kept i (omega arith) (subst c.kept e k)) (λ h. sound.apart t y k h) wr;
     receiver = sound.receiver;
     received = λ wr. ⊎_elim (λ e. absurd (cc)) sound.received wr;
   }
@@ -87,7 +85,7 @@ module _ (z : Setting) (lawful : Lawful z) where
   silent c w v env s sc u r same = sim_done z.direction (Came z.place z.code c c.scope discard w sc) (ir.ends (ir.gives v) env s) (js.ends js.normally sc u) (gave w v env s sc u js.normally (grows-refl w) let_go r (keeps-less z c.kept discard sc sc (keeps-refl z c.kept sc)) same)
 
   -- a tree that gives a value at once, and whose expression stands for it
-  pub quiet_alike : (c : Context) (k : Destination) (p : Position) (t : IrType) (e : core.Expression) (j : ℕ) → Sound z.is_mutable c → Writes c.writable k → FitsIn (usable z) k t → (w : World) (env : ir.Env) (s : ir.State) (sc : js.Scope) (u : js.State) (o : Out ir.Ended) (v : ir.Value) → o ≡ done (ir.ends (ir.gives v) env s) → Ready z.place z.code c.scope c.writable w env sc → SameState z.place w s u → Sim z.direction (Valued z.place w env t) o (shown z e sc u) → Ends z lawful c c.scope k w sc o (finish k p t true e j).statements sc u
+  pub quiet_alike : (c : Context) (k : Destination) (p : Position) (t : IrType) (e : core.Expression) (j : ℕ) → Sound z.is_mutable c → Writes c.written k → FitsIn (usable z) k t → (w : World) (env : ir.Env) (s : ir.State) (sc : js.Scope) (u : js.State) (o : Out ir.Ended) (v : ir.Value) → o ≡ done (ir.ends (ir.gives v) env s) → Ready z.place z.code c.scope c.writable w env sc → SameState z.place w s u → Sim z.direction (Valued z.place w env t) o (shown z e sc u) → Ends z lawful c c.scope k w sc o (finish k p t true e j).statements sc u
   quiet_alike c discard p t e j sound wr fits w env s sc u o v is r same alike = subst (λ x. Ends z lawful c c.scope discard w sc x core.no_statements sc u) (sym is) (silent c w v env s sc u r same)
   quiet_alike c (to_variable x i) p t e j sound wr fits w env s sc u o v is r same alike = finish_alike z lawful c (to_variable x i) p t e j sound wr fits w w sc env o sc u (grows-refl w) (keeps-refl z c.kept sc) r s same alike
   quiet_alike c (to_result i) p t e j sound wr fits w env s sc u o v is r same alike = finish_alike z lawful c (to_result i) p t e j sound wr fits w w sc env o sc u (grows-refl w) (keeps-refl z c.kept sc) r s same alike
@@ -190,7 +188,7 @@ module _ (z : Setting) (lawful : Lawful z) where
   choice_shown e a core.no_statements sc u p = refl
   choice_shown e a (core.statement t ts) sc u p = refl
 
-  pub if_final : (c : Context) (k : Destination) (p : Position) (a b : ℕ → Code) (first second : ir.Run) (j : ℕ) → Sound z.is_mutable c → Writes c.writable k → ((i : ℕ) → j ≤ i → i ≤ (a i).next) → ((i : ℕ) → j ≤ i → Ahead c i → Undeclared c (a i).statements) → ((i : ℕ) → j ≤ i → Ahead c i → Undeclared c (b i).statements) → ((i : ℕ) → j ≤ i → Ahead c i → (w : World) (env : ir.Env) (s : ir.State) (sc : js.Scope) (u : js.State) → Ready z.place z.code c.scope c.writable w env sc → SameState z.place w s u → Ends z lawful c c.scope k w sc (first env s) (a i).statements sc u) → ((i : ℕ) → j ≤ i → Ahead c i → (w : World) (env : ir.Env) (s : ir.State) (sc : js.Scope) (u : js.State) → Ready z.place z.code c.scope c.writable w env sc → SameState z.place w s u → Ends z lawful c c.scope k w sc (second env s) (b i).statements sc u) → (own : IrType) (w : World) (sc : js.Scope) → OneFinal c k w sc j own (ir_meaning.branch first second) (λ es i. branches p (first_of es) (a i) b)
+  pub if_final : (c : Context) (k : Destination) (p : Position) (a b : ℕ → Code) (first second : ir.Run) (j : ℕ) → Sound z.is_mutable c → Writes c.written k → ((i : ℕ) → j ≤ i → i ≤ (a i).next) → ((i : ℕ) → j ≤ i → Ahead c i → Undeclared c (a i).statements) → ((i : ℕ) → j ≤ i → Ahead c i → Undeclared c (b i).statements) → ((i : ℕ) → j ≤ i → Ahead c i → (w : World) (env : ir.Env) (s : ir.State) (sc : js.Scope) (u : js.State) → Ready z.place z.code c.scope c.writable w env sc → SameState z.place w s u → Ends z lawful c c.scope k w sc (first env s) (a i).statements sc u) → ((i : ℕ) → j ≤ i → Ahead c i → (w : World) (env : ir.Env) (s : ir.State) (sc : js.Scope) (u : js.State) → Ready z.place z.code c.scope c.writable w env sc → SameState z.place w s u → Ends z lawful c c.scope k w sc (second env s) (b i).statements sc u) → (own : IrType) (w : World) (sc : js.Scope) → OneFinal c k w sc j own (ir_meaning.branch first second) (λ es i. branches p (first_of es) (a i) b)
   if_final c k p a b first second j sound wr up free_a free_b does_a does_b own from before i r e w env s sc u ahead l g ready ks same operand = ends-one z lawful c c.scope k from before (ir_meaning.in_order (r ∷ []) (ir_meaning.branch first second) env s) (core.if_of (Some p) e (a i).statements (b (a i).next).statements) sc u (subst (λ o. Sim z.direction (Came z.place z.code c c.scope k from before) (ir_meaning.in_order (r ∷ []) (ir_meaning.branch first second) env s) o) (sym (choice_shown e (a i).statements (b (a i).next).statements sc u p)) (act_alike (Came z.place z.code c c.scope k from before) w env s sc u own r e (ir_meaning.branch first second) (λ v. js_meaning.taken (js_meaning.in_block (statement_templates z.place.name z.place.label (usable z).lookup (a i).statements) (run z (a i).statements)) (js_meaning.in_block (statement_templates z.place.name z.place.label (usable z).lookup (b (a i).next).statements) (run z (b (a i).next).statements)) v sc) operand same (throws-on z lawful c c.scope k from w before env sc g ks ready) (λ y v x s u h a same. goes y v x s u h a.stands same)))
     where
       later : j ≤ (a i).next
@@ -210,7 +208,7 @@ module _ (z : Setting) (lawful : Lawful z) where
 
   -- the context in which a local is being defined
   abbrev pub defining : Context → List ℕ → Context
-  defining c x = record { scope = c.scope; writable = λ y. (y ≡ core.named x) ⊎ c.writable y; kept = c.kept; targets = c.targets; reaches = c.reaches; turning = c.turning }
+  defining c x = record { scope = c.scope; writable = λ y. (y ≡ core.named x) ⊎ c.writable y; written = λ y. (y ≡ core.named x) ⊎ c.written y; kept = c.kept; targets = c.targets; reaches = c.reaches; tries = c.tries; turning = c.turning }
 
   define_code : (c : Context) (p : Position) (x : List ℕ) (t : IrType) (r : ir.Run) (code : core.Statements) → ((i : IrType) → c.scope x i → ⊥) → (c.writable (core.named x) → ⊥) → (c.kept (core.named x) → ⊥) → ((w : World) (env : ir.Env) (s : ir.State) (sc : js.Scope) (u : js.State) → Ready z.place z.code c.scope (defining c x).writable w env sc → SameState z.place w s u → Sim z.direction (Came z.place z.code (defining c x) c.scope (to_variable (core.named x) t) w sc) (r env s) (run z code sc u)) → (w : World) (env : ir.Env) (s : ir.State) (sc : js.Scope) (u : js.State) → Ready z.place z.code c.scope c.writable w env sc → SameState z.place w s u → Ends z lawful c (with_local x t c.scope) discard w sc (ir_meaning.in_order (r ∷ []) (ir_meaning.define x) env s) (core.statement (core.declare_of (Some p) (core.named x)) code) sc u
   define_code c p x t r code unseen unwritten fresh does w env s sc u ready same = subst (λ o. Sim z.direction (Came z.place z.code c (with_local x t c.scope) discard w sc) (ir_meaning.in_order (r ∷ []) (ir_meaning.define x) env s) o) (then_do-right (run z code started u)) (sim_then z.direction (Came z.place z.code (defining c x) c.scope (to_variable (core.named x) t) w started) (Came z.place z.code c (with_local x t c.scope) discard w sc) (r env s) (run z code started u) (ir.onward (λ v. ir_meaning.in_order [] (λ vs. ir_meaning.define x (v ∷ vs)))) done (does w env s started u (record { sees = r1.sees; «open» = open1 }) same) each)
@@ -237,7 +235,10 @@ module _ (z : Setting) (lawful : Lawful z) where
     constant = sound.constant;
     changing = sound.changing;
     alone = sound.alone;
-    reached = λ l r. writes-more c.writable (λ y. (y ≡ core.named x) ⊎ c.writable y) (target_of c.targets l) (λ y h. inr h) (sound.reached l r);
+    within = λ y wr. ⊎_elim (λ e. inl e) (λ h. inr (sound.within y h)) wr;
+    aims = λ l. writes-more c.writable (λ y. (y ≡ core.named x) ⊎ c.writable y) (target_of c.targets l) (λ y h. inr h) (sound.aims l);
+    reached = λ l r. writes-more c.written (λ y. (y ≡ core.named x) ⊎ c.written y) (target_of c.targets l) (λ y h. inr h) (sound.reached l r);
+    apart = λ t y k wr. ⊎_elim (λ e. fresh (subst c.kept e k)) (λ h. sound.apart t y k h) wr;
     receiver = sound.receiver;
     received = λ wr. ⊎_elim (λ e. absurd (cc)) sound.received wr;
   }

@@ -18,7 +18,8 @@ use Rattle.sj_trees.specs.declared.positions.Position.{Position}
 use Rattle.sj_trees.specs.declared.types.IrType.{IrType}
 use Rattle.sj_plain.specs.Settings.{Setting, run, SameState, Lawful, usable}
 use Rattle.sj_bodies.proofs.Blocks.{Undeclared, block_alike}
-use Rattle.sj_bodies.proofs.Contexts.{Context, Writes, Sound, Ready, Keeps, Less, Arrives, let_go, stored, returned, Came, gave, left, threw, stopped}
+use Rattle.sj_bodies.specs.Placed.{with_reach}
+use Rattle.sj_bodies.proofs.Contexts.{Context, Writes, writes-more, Sound, Ready, Keeps, Less, Arrives, let_go, stored, returned, Came, gave, left, threw, stopped}
 use Rattle.sj_proper.proofs.Equal.{differs, equals, is-equal}
 use Rattle.sj_names.proofs.Same.{impossible}
 use Rattle.sj_bodies.proofs.Statements.{run-followed, leaves_on, ends-one, Ends}
@@ -27,7 +28,7 @@ use Rattle.sj_plain.proofs.Worlds.{World, SameValue}
 module _ (z : Setting) (lawful : Lawful z) where
   -- a context with one more label
   abbrev pub labelling : Context → List ℕ → Destination → Context
-  labelling c l k = record { scope = c.scope; writable = c.writable; kept = c.kept; targets = record { label = l; goes_to = k } ∷ c.targets; reaches = λ m. (m ≡ l) ⊎ c.reaches m; turning = c.turning }
+  labelling c l k = record { scope = c.scope; writable = c.writable; written = c.written; kept = c.kept; targets = record { label = l; goes_to = k } ∷ c.targets; reaches = with_reach l c.reaches; tries = c.tries; turning = c.turning }
 
   same_target : (c : Context) (l m : List ℕ) (k : Destination) → pointwise nat_eq m l ≡ true → target_of (record { label = l; goes_to = k } ∷ c.targets) m ≡ k
   same_target c l m k e = ap (λ (b : Bool). if b then k else target_of c.targets m) e
@@ -40,20 +41,30 @@ module _ (z : Setting) (lawful : Lawful z) where
   past_label c l m e (inl same) = impossible (sym (subst (λ x. pointwise nat_eq x l ≡ false) same e) ∙ equals l)
   past_label c l m e (inr there) = there
 
-  pub sound-labelling : (c : Context) (l : List ℕ) (k : Destination) → Sound z.is_mutable c → Writes c.writable k → Sound z.is_mutable (labelling c l k)
+  pub sound-labelling : (c : Context) (l : List ℕ) (k : Destination) → Sound z.is_mutable c → Writes c.written k → Sound z.is_mutable (labelling c l k)
   sound-labelling c l k sound wr = record {
     hidden = sound.hidden;
     constant = sound.constant;
     changing = sound.changing;
     alone = sound.alone;
+    within = sound.within;
+    aims = λ m. aim m (pointwise nat_eq m l) refl;
     reached = λ m r. go m (pointwise nat_eq m l) refl r;
+    apart = sound.apart;
     receiver = sound.receiver;
     received = sound.received;
   }
     where
-      go : (m : List ℕ) (b : Bool) → pointwise nat_eq m l ≡ b → (m ≡ l) ⊎ c.reaches m → Writes c.writable (target_of (record { label = l; goes_to = k } ∷ c.targets) m)
-      go m true e r = subst (Writes c.writable) (sym (same_target c l m k e)) wr
-      go m false e r = subst (Writes c.writable) (sym (other_target c l m k e)) (sound.reached m (past_label c l m e r))
+      writes : Writes c.writable k
+      writes = writes-more c.written c.writable k sound.within wr
+
+      aim : (m : List ℕ) (b : Bool) → pointwise nat_eq m l ≡ b → Writes c.writable (target_of (record { label = l; goes_to = k } ∷ c.targets) m)
+      aim m true e = subst (Writes c.writable) (sym (same_target c l m k e)) writes
+      aim m false e = subst (Writes c.writable) (sym (other_target c l m k e)) (sound.aims m)
+
+      go : (m : List ℕ) (b : Bool) → pointwise nat_eq m l ≡ b → (m ≡ l) ⊎ c.reaches m → Writes c.written (target_of (record { label = l; goes_to = k } ∷ c.targets) m)
+      go m true e r = subst (Writes c.written) (sym (same_target c l m k e)) wr
+      go m false e r = subst (Writes c.written) (sym (other_target c l m k e)) (sound.reached m (past_label c l m e r))
 
   arrive-js : (l m : List ℕ) (b : Bool) (sc : js.Scope) (u : js.State) → pointwise nat_eq (z.place.label m) (z.place.label l) ≡ b → js_meaning.arrive (z.place.label l) (js.ends (js.breaks (z.place.label m)) sc u) ≡ (if b then done (js.ends js.normally sc u) else done (js.ends (js.breaks (z.place.label m)) sc u))
   arrive-js l m b sc u e = ap (λ (b : Bool). if b then done (js.ends js.normally sc u) else done (js.ends (js.breaks (z.place.label m)) sc u)) e
@@ -109,10 +120,10 @@ module _ (z : Setting) (lawful : Lawful z) where
       go true h = subst (λ (b : Bool). Sim z.direction (Came z.place z.code c c.scope (to_result t) w sc) (if b then ir.given v env s else done (ir.ends (ir.leaves m v) env s)) (done (js.ends e sc' u))) (sym h) (sim_done z.direction (Came z.place z.code c c.scope (to_result t) w sc) (ir.ends (ir.gives v) env s) (js.ends e sc' u) (gave y v env s sc' u e g (comes (target_of (record { label = l; goes_to = to_result t } ∷ c.targets) m) e a (sym (same_target c l m (to_result t) h))) r (subst (λ d. Keeps z.place (Less c.kept d) sc sc') (same_target c l m (to_result t) h) ks) same))
       go false h = subst (λ (b : Bool). Sim z.direction (Came z.place z.code c c.scope (to_result t) w sc) (if b then ir.given v env s else done (ir.ends (ir.leaves m v) env s)) (done (js.ends e sc' u))) (sym h) (sim_done z.direction (Came z.place z.code c c.scope (to_result t) w sc) (ir.ends (ir.leaves m v) env s) (js.ends e sc' u) (left y m v env s sc' u e (past_label c l m h reach) g (subst (λ d. Arrives z.place y v sc' (js.breaks (z.place.label m)) d e) (other_target c l m (to_result t) h) a) r (subst (λ d. Keeps z.place (Less c.kept d) sc sc') (other_target c l m (to_result t) h) ks) same))
 
-  block_labeled : (c : Context) (l : List ℕ) (k : Destination) (plain : (t : IrType) → k ≡ to_result t → ⊥) (p : Position) (r : ir.Run) (code : Code) → Sound z.is_mutable (labelling c l k) → Writes c.writable k → Undeclared (labelling c l k) code.statements → ((w : World) (env : ir.Env) (s : ir.State) (sc : js.Scope) (u : js.State) → Ready z.place z.code c.scope c.writable w env sc → SameState z.place w s u → Sim z.direction (Came z.place z.code (labelling c l k) c.scope k w sc) (r env s) (run z code.statements sc u)) → (w : World) (env : ir.Env) (s : ir.State) (sc : js.Scope) (u : js.State) → Ready z.place z.code c.scope c.writable w env sc → SameState z.place w s u → Ends z lawful c c.scope k w sc (then_do (r env s) (ir_meaning.arrive l)) (core.statement (core.labeled_of (Some p) l code.statements) core.no_statements) sc u
+  block_labeled : (c : Context) (l : List ℕ) (k : Destination) (plain : (t : IrType) → k ≡ to_result t → ⊥) (p : Position) (r : ir.Run) (code : Code) → Sound z.is_mutable (labelling c l k) → Writes c.written k → Undeclared (labelling c l k) code.statements → ((w : World) (env : ir.Env) (s : ir.State) (sc : js.Scope) (u : js.State) → Ready z.place z.code c.scope c.writable w env sc → SameState z.place w s u → Sim z.direction (Came z.place z.code (labelling c l k) c.scope k w sc) (r env s) (run z code.statements sc u)) → (w : World) (env : ir.Env) (s : ir.State) (sc : js.Scope) (u : js.State) → Ready z.place z.code c.scope c.writable w env sc → SameState z.place w s u → Ends z lawful c c.scope k w sc (then_do (r env s) (ir_meaning.arrive l)) (core.statement (core.labeled_of (Some p) l code.statements) core.no_statements) sc u
   block_labeled c l k plain p r code sound wr free does w env s sc u ready same = ends-one z lawful c c.scope k w sc (then_do (r env s) (ir_meaning.arrive l)) (core.labeled_of (Some p) l code.statements) sc u (sim_then z.direction (Came z.place z.code (labelling c l k) c.scope k w sc) (Came z.place z.code c c.scope k w sc) (r env s) (js_meaning.in_block (statement_templates z.place.name z.place.label (usable z).lookup code.statements) (run z code.statements) sc u) (ir_meaning.arrive l) (js_meaning.arrive (z.place.label l)) (block_alike z lawful (labelling c l k) code.statements free k w env sc u (r env s) sound wr ready (λ inner. does w env s (js_meaning.enter (statement_templates z.place.name z.place.label (usable z).lookup code.statements) sc) u inner same)) (arrive_block c l k plain w sc))
 
-  pub labeled_alike : (c : Context) (l : List ℕ) (k : Destination) (p : Position) (r : ir.Run) (code : Code) → Sound z.is_mutable (labelling c l k) → Writes c.writable k → Undeclared (labelling c l k) code.statements → ((w : World) (env : ir.Env) (s : ir.State) (sc : js.Scope) (u : js.State) → Ready z.place z.code c.scope c.writable w env sc → SameState z.place w s u → Sim z.direction (Came z.place z.code (labelling c l k) c.scope k w sc) (r env s) (run z code.statements sc u)) → (w : World) (env : ir.Env) (s : ir.State) (sc : js.Scope) (u : js.State) → Ready z.place z.code c.scope c.writable w env sc → SameState z.place w s u → Ends z lawful c c.scope k w sc (then_do (r env s) (ir_meaning.arrive l)) (labeled_code k p l code).statements sc u
+  pub labeled_alike : (c : Context) (l : List ℕ) (k : Destination) (p : Position) (r : ir.Run) (code : Code) → Sound z.is_mutable (labelling c l k) → Writes c.written k → Undeclared (labelling c l k) code.statements → ((w : World) (env : ir.Env) (s : ir.State) (sc : js.Scope) (u : js.State) → Ready z.place z.code c.scope c.writable w env sc → SameState z.place w s u → Sim z.direction (Came z.place z.code (labelling c l k) c.scope k w sc) (r env s) (run z code.statements sc u)) → (w : World) (env : ir.Env) (s : ir.State) (sc : js.Scope) (u : js.State) → Ready z.place z.code c.scope c.writable w env sc → SameState z.place w s u → Ends z lawful c c.scope k w sc (then_do (r env s) (ir_meaning.arrive l)) (labeled_code k p l code).statements sc u
   labeled_alike c l discard p r code sound wr free does w env s sc u ready same = block_labeled c l discard (λ t e. absurd (cc)) p r code sound wr free does w env s sc u ready same
   labeled_alike c l (to_variable x i) p r code sound wr free does w env s sc u ready same = block_labeled c l (to_variable x i) (λ t e. absurd (cc)) p r code sound wr free does w env s sc u ready same
   labeled_alike c l (to_result t) p r code sound wr free does w env s sc u ready same = subst (λ o. Sim z.direction (Came z.place z.code c c.scope (to_result t) w sc) (then_do (r env s) (ir_meaning.arrive l)) o) (then_do-right (run z code.statements sc u)) (sim_then z.direction (Came z.place z.code (labelling c l (to_result t)) c.scope (to_result t) w sc) (Came z.place z.code c c.scope (to_result t) w sc) (r env s) (run z code.statements sc u) (ir_meaning.arrive l) done (does w env s sc u ready same) (arrive_end c l t w sc))

@@ -1,11 +1,14 @@
 pub mod Blocks
 pub mod Contexts
+pub mod Finals
 pub mod Forms
 pub mod Jumps
 pub mod Loops
 pub mod Main
 pub mod Matches
 pub mod Parts
+pub mod Placed
+pub mod Saves
 pub mod Spills
 pub mod Statements
 pub mod Trees

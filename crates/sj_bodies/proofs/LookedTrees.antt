@@ -48,7 +48,7 @@ go_on-on o g h = then_do-associative o (ir.onward g) (ir.onward h) ∙ ap (then_
 
 module _ (z : Setting) (lawful : Lawful z) (low : LowAlike z) where
   -- a method that is looked up on the instances of this class
-  module _ (d : List ℕ) (m : MethodName) (free : is_hijacked d ≡ false) (can : can_look_up (usable z) d m ≡ true) (e : Term) (ts : Terms) (on : StandsFor z (class_type d) (type_of_term e)) (fit : StandForAll z (types_referred m.params) (types_of ts)) (c : Context) (k : Destination) (p : Position) (sound : Sound z.is_mutable c) (wr : Writes c.writable k) (fits : FitsIn (usable z) k (call_type m.result)) where
+  module _ (d : List ℕ) (m : MethodName) (free : is_hijacked d ≡ false) (can : can_look_up (usable z) d m ≡ true) (e : Term) (ts : Terms) (on : StandsFor z (class_type d) (type_of_term e)) (fit : StandForAll z (types_referred m.params) (types_of ts)) (c : Context) (k : Destination) (p : Position) (sound : Sound z.is_mutable c) (wr : Writes c.written k) (fits : FitsIn (usable z) k (call_type m.result)) where
     abbrev act : List ir.Value → ir.Run
     act = ir_meaning.call_instance z.place.classes z.low d m
 

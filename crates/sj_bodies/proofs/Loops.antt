@@ -26,7 +26,7 @@ use Rattle.sj_plain.proofs.Worlds.{World, Grows, grows-refl, grows-trans, Stands
 
 -- the context of a loop's turn: its condition may not hold any more where the loop's value is given up
 abbrev pub in_turn : Context → Destination → Context
-in_turn c k = record { scope = c.scope; writable = c.writable; kept = c.kept; targets = c.targets; reaches = c.reaches; turning = IsDiscard k }
+in_turn c k = record { scope = c.scope; writable = c.writable; written = c.written; kept = c.kept; targets = c.targets; reaches = c.reaches; tries = c.tries; turning = IsDiscard k }
 
 -- a condition that doesn't hold ends a loop
 abbrev pub stop : ir.Run
@@ -53,7 +53,7 @@ module _ (z : Setting) (lawful : Lawful z) where
   turns c k next js_next low w sc _ _ (stopped y env s sc' u t g r ks same) = stops_here c k t w y env s sc sc' u g r ks same
 
   pub sound-turn : (c : Context) (k : Destination) → Sound z.is_mutable c → Sound z.is_mutable (in_turn c k)
-  sound-turn c k sound = record { hidden = sound.hidden; constant = sound.constant; changing = sound.changing; alone = sound.alone; reached = sound.reached; receiver = sound.receiver; received = sound.received }
+  sound-turn c k sound = record { hidden = sound.hidden; constant = sound.constant; changing = sound.changing; alone = sound.alone; within = sound.within; aims = sound.aims; reached = sound.reached; apart = sound.apart; receiver = sound.receiver; received = sound.received }
 
   pub undeclared-turn : (c : Context) (k : Destination) (ss : core.Statements) → Undeclared c ss → Undeclared (in_turn c k) ss
   undeclared-turn c k ss h = record { scope = h.scope; writable = h.writable; kept = h.kept; receiver = h.receiver }

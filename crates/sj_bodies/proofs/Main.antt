@@ -16,7 +16,7 @@ use Rattle.sj_core.specs.Views.{expressions_of}
 use Rattle.sj_proper.specs.Coercions.{is_char, coerced, coerced_arguments, coerced_receiver}
 use Rattle.sj_proper.specs.Desugar.{target_of, member, types_of, into, block, receiver, operands, first_of, second_of, rest_of, finish, branches, cases, switch_code, callee_of}
 use Rattle.sj_proper.specs.Spill.{Destination, discard, to_variable, to_result, Code, one, spill, then_use}
-use Rattle.sj_trees.specs.Term.{Term, Terms, no_terms, more_terms, Cases, no_cases, more_cases, var_def, skip, block_of, labeled, assign, return_to, if_then, while_loop, do_while, throw, try_catch, match_on, new_object, select, select_static, apply, apply_statically, this_ref, apply_static, unary_op, binary_op, is_instance_of, as_instance_of, undefined_literal, null_literal, boolean_literal, char_literal, byte_literal, short_literal, int_literal, long_literal, string_literal, var_ref, log_line, load_module, store_module}
+use Rattle.sj_trees.specs.Term.{Term, Terms, no_terms, more_terms, Cases, no_cases, more_cases, var_def, skip, block_of, labeled, assign, return_to, if_then, while_loop, do_while, throw, try_catch, try_finally, match_on, new_object, select, select_static, apply, apply_statically, this_ref, apply_static, unary_op, binary_op, is_instance_of, as_instance_of, undefined_literal, null_literal, boolean_literal, char_literal, byte_literal, short_literal, int_literal, long_literal, string_literal, var_ref, log_line, load_module, store_module}
 use Rattle.sj_trees.specs.TypeOf.{type_of_term, type_of_last, unary_result, binary_result}
 use Rattle.sj_trees.specs.declared.operators.BinaryOp.{BinaryOp}
 use Rattle.sj_trees.specs.declared.operators.UnaryOp.{UnaryOp}
@@ -35,7 +35,9 @@ use Rattle.sj_plain.proofs.Tests.{test_alike, cast_alike}
 use Rattle.sj_plain.proofs.Received.{may_be_checked, value_or_nothing, Received, received, Constructed, constructed}
 use Rattle.sj_proper.proofs.BuiltFormsStatics.{read_static, set_static}
 use Rattle.sj_proper.proofs.Targets.{target_goal}
-use Rattle.sj_proper.specs.Boxes.{Goal, goal_of, goals_of, is_boxed, any_is_boxed, operands_are_boxed, is_boxed_at, boxes_as_text, boxes, last_boxes, operand_boxes, operands_box, cases_box}
+use Rattle.sj_proper.specs.Finalizers.{finalizer_code}
+use Rattle.sj_proper.proofs.Good.{finalizer-good}
+use Rattle.sj_proper.specs.Boxes.{given_up as given_up_goal, Goal, goal_of, goals_of, is_boxed, any_is_boxed, operands_are_boxed, is_boxed_at, boxes_as_text, boxes, last_boxes, operand_boxes, operands_box, cases_box}
 use Rattle.sj_proper.specs.Built.{can_box, may_make, can_cast}
 use Rattle.std.proofs.lemmas.Bool.{and_parts}
 use Rattle.sure_receivers.specs.Sure.{is_sure}
@@ -66,7 +68,7 @@ use Rattle.sj_plain.specs.Subtypes.{IsSub, to_any}
 use Rattle.sj_bodies.proofs.Forms.{of_operands, one_final, two_final, silent, assign_final, log_final, if_final, came-narrow, rebased, ahead-later, OneFinal, TwoFinal}
 use Rattle.sj_bodies.proofs.Jumps.{labelling, sound-labelling, labeled_alike, return_alike}
 use Rattle.sj_bodies.proofs.Matches.{settled, sound-settled, ahead-settled, outside-settled, undeclared-settled, undeclared-case, CasesAlike, no_case, without_keys, with_keys, match_final}
-use Rattle.sj_proper.specs.Once.{Once, OnceAll, OnceCases}
+use Rattle.sj_bodies.specs.Placed.{Placed, PlacedAll, PlacedCases, with_reach}
 use Rattle.sj_bodies.proofs.Trees.{written, written_cases, LowAlike, outside-part, behind, go_on-given, FineHere, TreeDoes, piece, operand_does, define_does, quiet, value_of, local_at, finish_one, list_of, call_does, division_does, operands-list, runs-list}
 use Rattle.sj_names.proofs.Same.{impossible}
 use Rattle.sj_plain.proofs.Plain.{unary_alike, binary_alike}
@@ -75,6 +77,8 @@ use Rattle.sj_plain.proofs.Objects.{static_alike}
 use Rattle.sj_bodies.proofs.ObjectTrees.{reflect_does, receiver_piece, receiver_does, select_does, set_static_final, store_final, set_does, set_spilled, new_does, this_does, throw_does, receive_does, construct_does}
 use Rattle.sj_bodies.proofs.Spills.{Does, OperandDoes, OperandsDo, numbered-named, operands_in}
 use Rattle.sj_bodies.proofs.Statements.{run-followed, came_then, finish_alike, Ends}
+use Rattle.sj_bodies.proofs.Finals.{finishing, next, sound-finishing, ahead-finishing, outside-finishing, finally_alike}
+use Rattle.sj_bodies.proofs.Placed.{narrowed}
 use Rattle.sj_bodies.proofs.Tries.{try_alike}
 use Rattle.sj_bodies.proofs.Turns.{while_does, do_does}
 use Rattle.sj_plain.proofs.Worlds.{World, Grows, grows-refl}
@@ -104,17 +108,17 @@ module _ (z : Setting) (lawful : Lawful z) (low : LowAlike z) where
   none_at (to_variable x i) t h = subst (λ (q : Bool). Makes (q && not (is_char i))) (sym h) none_made
   none_at (to_result i) t h = subst (λ (q : Bool). Makes (q && not (is_char i))) (sym h) none_made
 
-  tree : (c : Context) (s : Scene) → AmidHere c s → (k : Destination) (e : Term) → Mutable z.is_mutable (mutable_in e) → Asks z.place.classes k (type_of_term e) → Typed z.place.classes (usable z) s e → Makes (boxes (goals_of c.targets) (goal_of k) e) → (labels : List (List ℕ)) → Once labels e → FineHere z lawful low c k e
+  tree : (c : Context) (s : Scene) → AmidHere c s → (k : Destination) (e : Term) → Mutable z.is_mutable (mutable_in e) → Asks z.place.classes k (type_of_term e) → Typed z.place.classes (usable z) s e → Makes (boxes (goals_of c.targets) (goal_of k) e) → (labels : List (List ℕ)) → Placed c.reaches c.tries labels e → FineHere z lawful low c k e
   tree c = tree_in z.place.classes lawful.base.ordered z.is_mutable (usable z) z.code c.scope (around c)
 
-  part_of : (c : Context) (s : Scene) → AmidHere c s → (e : Term) → Mutable z.is_mutable (mutable_in e) → (t : IrType) → IsSub z.place.classes (type_of_term e) t → HasValue t → Typed z.place.classes (usable z) s e → Makes (operand_boxes (goals_of c.targets) e) → (labels : List (List ℕ)) → Once labels e → FineOperand z.place.classes z.is_mutable (usable z) z.code c.scope e (λ y. FineHere z lawful low c (to_variable y (type_of_term e)) e)
+  part_of : (c : Context) (s : Scene) → AmidHere c s → (e : Term) → Mutable z.is_mutable (mutable_in e) → (t : IrType) → IsSub z.place.classes (type_of_term e) t → HasValue t → Typed z.place.classes (usable z) s e → Makes (operand_boxes (goals_of c.targets) e) → (labels : List (List ℕ)) → Placed c.reaches c.tries labels e → FineOperand z.place.classes z.is_mutable (usable z) z.code c.scope e (λ y. FineHere z lawful low c (to_variable y (type_of_term e)) e)
   part_of c = operand_in z.place.classes lawful.base.ordered z.is_mutable (usable z) z.code c.scope (around c)
 
   plain_here : (c : Context) (k : Destination) {e : Term} → FineHere z lawful low c k e → Makes (boxes_as_text e) → is_plain e ≡ true → IsNoConstruction e → Plain z.place.classes (usable z) z.code c.scope e
   plain_here c k {e} fine boxed i apart = plain_at z.place.classes lawful.base.ordered z.is_mutable (usable z) z.code c.scope (around c) fine.scene fine.amid e fine.typed boxed i apart
 
   abbrev BlockDoes : Terms → Type 1
-  BlockDoes ts = (c : Context) (k : Destination) (j : ℕ) → Sound z.is_mutable c → Ahead c j → Outside c (OwnAll ts) → Writes c.writable k → (scene : Scene) → AmidHere c scene → Mutable z.is_mutable (mutable_in_all ts) → (i : IrType) → Asks z.place.classes k (type_of_last i ts) → TypedBlock z.place.classes (usable z) scene ts → Makes (last_boxes (goals_of c.targets) (goal_of k) ts) → (labels : List (List ℕ)) → OnceAll labels ts → (w : World) (env : ir.Env) (s : ir.State) (sc : js.Scope) (u : js.State) → Ready z.place z.code c.scope c.writable w env sc → SameState z.place w s u → Ends z lawful c c.scope k w sc (ir_meaning.block z.place.classes z.low ts env s) (block z.is_mutable z.code.sure c.targets k j ts).statements sc u
+  BlockDoes ts = (c : Context) (k : Destination) (j : ℕ) → Sound z.is_mutable c → Ahead c j → Outside c (OwnAll ts) → Writes c.written k → (scene : Scene) → AmidHere c scene → Mutable z.is_mutable (mutable_in_all ts) → (i : IrType) → Asks z.place.classes k (type_of_last i ts) → TypedBlock z.place.classes (usable z) scene ts → Makes (last_boxes (goals_of c.targets) (goal_of k) ts) → (labels : List (List ℕ)) → PlacedAll c.reaches c.tries labels ts → (w : World) (env : ir.Env) (s : ir.State) (sc : js.Scope) (u : js.State) → Ready z.place z.code c.scope c.writable w env sc → SameState z.place w s u → Ends z lawful c c.scope k w sc (ir_meaning.block z.place.classes z.low ts env s) (block z.is_mutable z.code.sure c.targets k j ts).statements sc u
 
   -- a tree of a block, and those behind it
   one_and_rest : (t : Term) (rest : Terms) (d : Terms) → (c : Context) (k : Destination) (j : ℕ) (first : Scope) → (w : World) (env : ir.Env) (s : ir.State) (sc : js.Scope) (u : js.State) → Sim z.direction (Came z.place z.code c first discard w sc) (ir_meaning.step z.place.classes z.low t env s) (run z (into z.is_mutable z.code.sure c.targets discard j t).statements sc u) → ((y : World) (v : ir.Value) (env : ir.Env) (s : ir.State) (sc' : js.Scope) (u : js.State) → Grows w y → Ready z.place z.code first c.writable y env sc' → Keeps z.place c.kept sc sc' → SameState z.place y s u → Sim z.direction (Came z.place z.code c c.scope k w sc) (ir_meaning.rest z.place.classes z.low rest v env s) (run z (block z.is_mutable z.code.sure c.targets k (into z.is_mutable z.code.sure c.targets discard j t).next rest).statements sc' u)) → Sim z.direction (Came z.place z.code c c.scope k w sc) (ir.go_on (ir_meaning.step z.place.classes z.low t env s) (ir_meaning.rest z.place.classes z.low rest)) (run z (core.followed (into z.is_mutable z.code.sure c.targets discard j t).statements (block z.is_mutable z.code.sure c.targets k (into z.is_mutable z.code.sure c.targets discard j t).next rest).statements) sc u)
@@ -132,7 +136,10 @@ module _ (z : Setting) (lawful : Lawful z) (low : LowAlike z) where
     constant = λ y i g m. ⊎_elim (λ e. inl (ap core.named e.0, subst (λ a. z.is_mutable a ≡ false) e.0 m)) (λ h. inr (sound.constant y i h.1 m)) g;
     changing = λ y i g k m. ⊎_elim (λ q. let e : y ≡ x = cc in impossible (sym q.1 ∙ subst (λ a. z.is_mutable a ≡ true) e m)) (λ q. ⊎_elim (λ e. fresh (subst (λ a. c.kept (core.named a)) e.0 q)) (λ h. sound.changing y i h.1 q m) g) k;
     alone = one_type c x t sound;
+    within = sound.within;
+    aims = sound.aims;
     reached = sound.reached;
+    apart = λ t y k wr. ⊎_elim (λ e. unwritten (subst c.writable e.0 (sound.within y wr))) (λ i. sound.apart t y i wr) k;
     receiver = inr sound.receiver;
     received = sound.received;
   }
@@ -164,20 +171,20 @@ module _ (z : Setting) (lawful : Lawful z) (low : LowAlike z) where
   log_by p e does c _ j sound ahead out fine is_discard = of_operands z lawful c discard (piece z lawful low c.targets e ∷ []) j ir_meaning.log (λ es. one (core.log_of (Some p) (first_of es))) sound ahead (operand_does z lawful low c j e does out (part_of c fine.scene fine.amid e fine.written String fine.typed.0.meets refl fine.typed.1 fine.boxed fine.around fine.once), tt) (one_final z lawful c discard j (type_of_term e) ir_meaning.log (λ es. one (core.log_of (Some p) (first_of es))) (log_final z lawful c p j (type_of_term e)))
 
   labeled_does : (p : Position) (l : List ℕ) (t : IrType) (e : Term) → TreeDoes z lawful low e → TreeDoes z lawful low (labeled p l t e)
-  labeled_does p l t e does c k j sound ahead out wr fine = labeled_alike z lawful c l k p (ir_meaning.step z.place.classes z.low e) (into z.is_mutable z.code.sure (record { label = l; goes_to = k } ∷ c.targets) k j e) (sound-labelling z lawful c l k sound wr) wr (undeclared (labelling z lawful c l k) (Own e) j (into z.is_mutable z.code.sure (record { label = l; goes_to = k } ∷ c.targets) k j e) (record { scope = out.scope; writable = out.writable; kept = out.kept }) (record { writable = ahead.writable; kept = ahead.kept }) (written z.is_mutable z.code.sure (record { label = l; goes_to = k } ∷ c.targets) e k j fine.once.1)) (does (labelling z lawful c l k) k j (sound-labelling z lawful c l k sound wr) (record { writable = ahead.writable; kept = ahead.kept }) (record { scope = out.scope; writable = out.writable; kept = out.kept }) wr (record { scene = in_label l t fine.scene; amid = amid-inside z.place.classes lawful.base.ordered z.is_mutable z.code c.scope (around c) fine.scene l t k fine.amid fine.asks; around = l ∷ fine.around; once = fine.once.1; written = fine.written; asks = yields z.place.classes lawful.base.ordered k e t fine.asks fine.typed.0.meets; typed = fine.typed.1; boxed = fine.boxed }))
+  labeled_does p l t e does c k j sound ahead out wr fine = labeled_alike z lawful c l k p (ir_meaning.step z.place.classes z.low e) (into z.is_mutable z.code.sure (record { label = l; goes_to = k } ∷ c.targets) k j e) (sound-labelling z lawful c l k sound wr) wr (undeclared (labelling z lawful c l k) (Own e) j (into z.is_mutable z.code.sure (record { label = l; goes_to = k } ∷ c.targets) k j e) (record { scope = out.scope; writable = out.writable; kept = out.kept }) (record { writable = ahead.writable; kept = ahead.kept }) (written z.is_mutable z.code.sure (with_reach l c.reaches) c.tries (record { label = l; goes_to = k } ∷ c.targets) e k j fine.once.1)) (does (labelling z lawful c l k) k j (sound-labelling z lawful c l k sound wr) (record { writable = ahead.writable; kept = ahead.kept }) (record { scope = out.scope; writable = out.writable; kept = out.kept }) wr (record { scene = in_label l t fine.scene; amid = amid-inside z.place.classes lawful.base.ordered z.is_mutable z.code c.scope (around c) fine.scene l t k fine.amid fine.asks; around = l ∷ fine.around; once = fine.once.1; written = fine.written; asks = yields z.place.classes lawful.base.ordered k e t fine.asks fine.typed.0.meets; typed = fine.typed.1; boxed = fine.boxed }))
 
   return_does : (p : Position) (e : Term) (l : List ℕ) → TreeDoes z lawful low e → TreeDoes z lawful low (return_to p e l)
-  return_does p e l does c k j sound ahead out wr fine w env s sc u r same = return_alike z lawful c k (target_of c.targets l) p l (ir_meaning.step z.place.classes z.low e) (into z.is_mutable z.code.sure c.targets (target_of c.targets l) j e) refl (fine.amid.reaches l) w env s sc u (does c (target_of c.targets l) j sound ahead out (sound.reached l (fine.amid.reaches l)) (tree c fine.scene fine.amid (target_of c.targets l) e fine.written (yields z.place.classes lawful.base.ordered (target_of c.targets l) e fine.typed.0.meets.tpe (fine.amid.targets l fine.typed.0.meets.tpe fine.typed.0.meets.is_type) fine.typed.0.meets.yields) fine.typed.1 (subst (λ (g : Goal). Makes (boxes (goals_of c.targets) g e)) (sym (target_goal c.targets l)) fine.boxed) fine.around fine.once.1) w env s sc u r same)
+  return_does p e l does c k j sound ahead out wr fine w env s sc u r same = return_alike z lawful c k (target_of c.targets l) p l (ir_meaning.step z.place.classes z.low e) (into z.is_mutable z.code.sure c.targets (target_of c.targets l) j e) refl fine.once.0.1 w env s sc u (does c (target_of c.targets l) j sound ahead out (sound.reached l fine.once.0.1) (tree c fine.scene fine.amid (target_of c.targets l) e fine.written (yields z.place.classes lawful.base.ordered (target_of c.targets l) e fine.typed.0.meets.tpe (fine.amid.targets l fine.typed.0.meets.tpe fine.typed.0.meets.is_type) fine.typed.0.meets.yields) fine.typed.1 (subst (λ (g : Goal). Makes (boxes (goals_of c.targets) g e)) (sym (target_goal c.targets l)) fine.boxed) fine.around fine.once.1) w env s sc u r same)
 
   if_does : (p : Position) (a b d : Term) (t : IrType) → TreeDoes z lawful low a → TreeDoes z lawful low b → TreeDoes z lawful low d → TreeDoes z lawful low (if_then p a b d t)
-  if_does p a b d t does_a does_b does_d c k j sound ahead out wr fine = of_operands z lawful c k (piece z lawful low c.targets a ∷ []) j (ir_meaning.branch (ir_meaning.step z.place.classes z.low b) (ir_meaning.step z.place.classes z.low d)) (λ es i. branches p (first_of es) (into z.is_mutable z.code.sure c.targets k i b) (λ i. into z.is_mutable z.code.sure c.targets k i d)) sound ahead (operand_does z lawful low c j a does_a (outside-part c (Own (if_then p a b d t)) (Own a) (λ x o. inl o) out) (part_of c fine.scene fine.amid a (of_first z.is_mutable (mutable_in a) (λ xs. mutable_in b (mutable_in d xs)) (front a) fine.written) Boolean fine.typed.0.meets.0 refl fine.typed.1 (each (operand_boxes (goals_of c.targets) a) (boxes (goals_of c.targets) (goal_of k) b || boxes (goals_of c.targets) (goal_of k) d) fine.boxed).0 fine.around fine.once.0), tt) (one_final z lawful c k j (type_of_term a) (ir_meaning.branch (ir_meaning.step z.place.classes z.low b) (ir_meaning.step z.place.classes z.low d)) (λ es i. branches p (first_of es) (into z.is_mutable z.code.sure c.targets k i b) (λ i. into z.is_mutable z.code.sure c.targets k i d)) (if_final z lawful c k p (λ i. into z.is_mutable z.code.sure c.targets k i b) (λ i. into z.is_mutable z.code.sure c.targets k i d) (ir_meaning.step z.place.classes z.low b) (ir_meaning.step z.place.classes z.low d) j sound wr (λ i l. (written z.is_mutable z.code.sure c.targets b k i fine.once.1).onward) (λ i l ah. undeclared c (Own b) i (into z.is_mutable z.code.sure c.targets k i b) (outside-part c (Own (if_then p a b d t)) (Own b) (λ x o. inr (inl o)) out) ah (written z.is_mutable z.code.sure c.targets b k i fine.once.1)) (λ i l ah. undeclared c (Own d) i (into z.is_mutable z.code.sure c.targets k i d) (outside-part c (Own (if_then p a b d t)) (Own d) (λ x o. inr (inr o)) out) ah (written z.is_mutable z.code.sure c.targets d k i fine.once.2)) (λ i l ah. does_b c k i sound ah (outside-part c (Own (if_then p a b d t)) (Own b) (λ x o. inr (inl o)) out) wr (tree c fine.scene fine.amid k b (one_mutable z.is_mutable b d (of_second z.is_mutable (mutable_in a) (λ xs. mutable_in b (mutable_in d xs)) (front a) fine.written)) (yields z.place.classes lawful.base.ordered k b t fine.asks fine.typed.0.meets.1) fine.typed.2 (each (boxes (goals_of c.targets) (goal_of k) b) (boxes (goals_of c.targets) (goal_of k) d) (each (operand_boxes (goals_of c.targets) a) (boxes (goals_of c.targets) (goal_of k) b || boxes (goals_of c.targets) (goal_of k) d) fine.boxed).1).0 fine.around fine.once.1)) (λ i l ah. does_d c k i sound ah (outside-part c (Own (if_then p a b d t)) (Own d) (λ x o. inr (inr o)) out) wr (tree c fine.scene fine.amid k d (other_mutable z.is_mutable b d (of_second z.is_mutable (mutable_in a) (λ xs. mutable_in b (mutable_in d xs)) (front a) fine.written)) (yields z.place.classes lawful.base.ordered k d t fine.asks fine.typed.0.meets.2) fine.typed.3 (each (boxes (goals_of c.targets) (goal_of k) b) (boxes (goals_of c.targets) (goal_of k) d) (each (operand_boxes (goals_of c.targets) a) (boxes (goals_of c.targets) (goal_of k) b || boxes (goals_of c.targets) (goal_of k) d) fine.boxed).1).1 fine.around fine.once.2)) (type_of_term a)))
+  if_does p a b d t does_a does_b does_d c k j sound ahead out wr fine = of_operands z lawful c k (piece z lawful low c.targets a ∷ []) j (ir_meaning.branch (ir_meaning.step z.place.classes z.low b) (ir_meaning.step z.place.classes z.low d)) (λ es i. branches p (first_of es) (into z.is_mutable z.code.sure c.targets k i b) (λ i. into z.is_mutable z.code.sure c.targets k i d)) sound ahead (operand_does z lawful low c j a does_a (outside-part c (Own (if_then p a b d t)) (Own a) (λ x o. inl o) out) (part_of c fine.scene fine.amid a (of_first z.is_mutable (mutable_in a) (λ xs. mutable_in b (mutable_in d xs)) (front a) fine.written) Boolean fine.typed.0.meets.0 refl fine.typed.1 (each (operand_boxes (goals_of c.targets) a) (boxes (goals_of c.targets) (goal_of k) b || boxes (goals_of c.targets) (goal_of k) d) fine.boxed).0 fine.around fine.once.0), tt) (one_final z lawful c k j (type_of_term a) (ir_meaning.branch (ir_meaning.step z.place.classes z.low b) (ir_meaning.step z.place.classes z.low d)) (λ es i. branches p (first_of es) (into z.is_mutable z.code.sure c.targets k i b) (λ i. into z.is_mutable z.code.sure c.targets k i d)) (if_final z lawful c k p (λ i. into z.is_mutable z.code.sure c.targets k i b) (λ i. into z.is_mutable z.code.sure c.targets k i d) (ir_meaning.step z.place.classes z.low b) (ir_meaning.step z.place.classes z.low d) j sound wr (λ i l. (written z.is_mutable z.code.sure c.reaches c.tries c.targets b k i fine.once.1).onward) (λ i l ah. undeclared c (Own b) i (into z.is_mutable z.code.sure c.targets k i b) (outside-part c (Own (if_then p a b d t)) (Own b) (λ x o. inr (inl o)) out) ah (written z.is_mutable z.code.sure c.reaches c.tries c.targets b k i fine.once.1)) (λ i l ah. undeclared c (Own d) i (into z.is_mutable z.code.sure c.targets k i d) (outside-part c (Own (if_then p a b d t)) (Own d) (λ x o. inr (inr o)) out) ah (written z.is_mutable z.code.sure c.reaches c.tries c.targets d k i fine.once.2)) (λ i l ah. does_b c k i sound ah (outside-part c (Own (if_then p a b d t)) (Own b) (λ x o. inr (inl o)) out) wr (tree c fine.scene fine.amid k b (one_mutable z.is_mutable b d (of_second z.is_mutable (mutable_in a) (λ xs. mutable_in b (mutable_in d xs)) (front a) fine.written)) (yields z.place.classes lawful.base.ordered k b t fine.asks fine.typed.0.meets.1) fine.typed.2 (each (boxes (goals_of c.targets) (goal_of k) b) (boxes (goals_of c.targets) (goal_of k) d) (each (operand_boxes (goals_of c.targets) a) (boxes (goals_of c.targets) (goal_of k) b || boxes (goals_of c.targets) (goal_of k) d) fine.boxed).1).0 fine.around fine.once.1)) (λ i l ah. does_d c k i sound ah (outside-part c (Own (if_then p a b d t)) (Own d) (λ x o. inr (inr o)) out) wr (tree c fine.scene fine.amid k d (other_mutable z.is_mutable b d (of_second z.is_mutable (mutable_in a) (λ xs. mutable_in b (mutable_in d xs)) (front a) fine.written)) (yields z.place.classes lawful.base.ordered k d t fine.asks fine.typed.0.meets.2) fine.typed.3 (each (boxes (goals_of c.targets) (goal_of k) b) (boxes (goals_of c.targets) (goal_of k) d) (each (operand_boxes (goals_of c.targets) a) (boxes (goals_of c.targets) (goal_of k) b || boxes (goals_of c.targets) (goal_of k) d) fine.boxed).1).1 fine.around fine.once.2)) (type_of_term a)))
 
   try_does : (p : Position) (e : Term) (x : List ℕ) (d : Term) (t : IrType) → TreeDoes z lawful low e → TreeDoes z lawful low d → TreeDoes z lawful low (try_catch p e x d t)
   try_does p e x d t does_e does_d c k j sound ahead out wr fine =
       try_alike z lawful c k p x first.statements second.statements (ir_meaning.step z.place.classes z.low e) (ir_meaning.step z.place.classes z.low d) sound wr
       (record { scope = λ i. out.scope x i (inl refl); writable = out.writable x (inl refl); kept = out.kept x (inl refl) })
-      (undeclared c (Own e) j first out_e ahead (written z.is_mutable z.code.sure c.targets e k j fine.once.2))
-      (undeclared c (Own d) first.next second out_d later (written z.is_mutable z.code.sure c.targets d k first.next fine.once.3))
+      (undeclared c (Own e) j first out_e ahead (written z.is_mutable z.code.sure c.reaches c.tries c.targets e k j fine.once.2))
+      (undeclared c (Own d) first.next second out_d later (written z.is_mutable z.code.sure c.reaches c.tries c.targets d k first.next fine.once.3))
       (does_e c k j sound ahead out_e wr (tree c fine.scene fine.amid k e (one_mutable z.is_mutable e d fine.written) (yields z.place.classes lawful.base.ordered k e t fine.asks fine.typed.0.meets.0) fine.typed.1 parts.0 fine.around fine.once.2))
       (does_d (behind z c x Any) k first.next (sound-behind c x Any sound (out.writable x (inl refl)) (out.kept x (inl refl))) (ahead-behind c x Any first.next later) (outside-behind c x Any (Own d) out_d fine.once.1) wr (tree (behind z c x Any) (catching x fine.scene) (amid-behind z.place.classes z.is_mutable z.code c.scope (around c) fine.scene x Any false fine.amid refl (λ h. impossible h)) k d (other_mutable z.is_mutable e d fine.written) (yields z.place.classes lawful.base.ordered k d t fine.asks fine.typed.0.meets.1) fine.typed.2 parts.1 fine.around fine.once.3))
     where
@@ -194,15 +201,50 @@ module _ (z : Setting) (lawful : Lawful z) (low : LowAlike z) where
       out_d = outside-part c (Own (try_catch p e x d t)) (Own d) (λ y o. inr (inr o)) out
 
       later : Ahead c first.next
-      later = ahead-later z lawful c j first.next (written z.is_mutable z.code.sure c.targets e k j fine.once.2).onward ahead
+      later = ahead-later z lawful c j first.next (written z.is_mutable z.code.sure c.reaches c.tries c.targets e k j fine.once.2).onward ahead
 
       parts : Makes (boxes (goals_of c.targets) (goal_of k) e) × Makes (boxes (goals_of c.targets) (goal_of k) d)
       parts = each (boxes (goals_of c.targets) (goal_of k) e) (boxes (goals_of c.targets) (goal_of k) d) fine.boxed
 
+  finally_does : (p : Position) (e d : Term) → TreeDoes z lawful low e → TreeDoes z lawful low d → TreeDoes z lawful low (try_finally p e d)
+  finally_does p e d does_e does_d c k j sound ahead out wr fine =
+      finally_alike z lawful c d first.next sound later fine.once.0 k p first.statements body (ir_meaning.step z.place.classes z.low e) (ir_meaning.step z.place.classes z.low d) wr
+      (undeclared c (Own e) j first out_e ahead (written z.is_mutable z.code.sure c.reaches c.tries c.targets e k j fine.once.1))
+      (undeclared c (Own d) first.next (finalizer_code (target_of c.targets) d first.next body) out_d later (finalizer-good (Own d) fine.around false (target_of c.targets) d first.next body (λ i. written z.is_mutable z.code.sure c.reaches c.tries c.targets d discard i fine.once.2)))
+      (does_e c k j sound ahead out_e wr (tree c fine.scene fine.amid k e (one_mutable z.is_mutable e d fine.written) fine.asks fine.typed.1 parts.0 fine.around fine.once.1))
+      (does_d inner discard (next z lawful c d first.next sound later) (sound-finishing z lawful c d first.next sound later) (ahead-finishing z lawful c d first.next sound later) (outside-finishing z lawful c d first.next sound later (Own d) out_d) tt (tree inner fine.scene inner_amid discard d (other_mutable z.is_mutable e d fine.written) tt fine.typed.2 parts.1 fine.around placed_d))
+    where
+      first : Code
+      first = into z.is_mutable z.code.sure c.targets k j e
+
+      body : ℕ → Code
+      body i = into z.is_mutable z.code.sure c.targets discard i d
+
+      inner : Context
+      inner = finishing c d first.next
+
+      inner_amid : AmidHere inner fine.scene
+      inner_amid = record { surely = fine.amid.surely; owned = fine.amid.owned; seen = fine.amid.seen; values = fine.amid.values; changing = fine.amid.changing; targets = fine.amid.targets }
+
+      placed_d : Placed inner.reaches inner.tries fine.around d
+      placed_d = narrowed c.reaches inner.reaches c.tries inner.tries [] fine.around d (λ m i. impossible i) (λ m i r. (r, i)) (λ t. t) fine.once.2
+
+      out_e : Outside c (Own e)
+      out_e = outside-part c (Own (try_finally p e d)) (Own e) (λ y o. inl o) out
+
+      out_d : Outside c (Own d)
+      out_d = outside-part c (Own (try_finally p e d)) (Own d) (λ y o. inr o) out
+
+      later : Ahead c first.next
+      later = ahead-later z lawful c j first.next (written z.is_mutable z.code.sure c.reaches c.tries c.targets e k j fine.once.1).onward ahead
+
+      parts : Makes (boxes (goals_of c.targets) (goal_of k) e) × Makes (boxes (goals_of c.targets) given_up_goal d)
+      parts = each (boxes (goals_of c.targets) (goal_of k) e) (boxes (goals_of c.targets) given_up_goal d) fine.boxed
+
   unary_does : (p : Position) (o : UnaryOp) (e : Term) → TreeDoes z lawful low e → TreeDoes z lawful low (unary_op p o e)
   unary_does p o e does c k j sound ahead out wr fine = of_operands z lawful c k (piece z lawful low c.targets e ∷ []) j (ir_meaning.unary z.place.classes z.low o) (λ es. finish k p (unary_result o) false (core.unary_of o (first_of es))) sound ahead (operand_does z lawful low c j e does out (part_of c fine.scene fine.amid e fine.written (unary_operand o) fine.typed.0.meets (unary-operand-value o) fine.typed.1 (each (is_boxed_at (goal_of k) (unary_result o)) (operand_boxes (goals_of c.targets) e) fine.boxed).1 fine.around fine.once), tt) (one_final z lawful c k j (type_of_term e) (ir_meaning.unary z.place.classes z.low o) (λ es. finish k p (unary_result o) false (core.unary_of o (first_of es))) (finish_one z lawful low c k p (type_of_term e) (unary_result o) (ir_meaning.unary z.place.classes z.low o) (core.unary_of o) j sound wr (fits-value z.place.classes lawful.base.ordered (usable z) k (unary_result o) fine.asks (unary-value o) (each (is_boxed_at (goal_of k) (unary_result o)) (operand_boxes (goals_of c.targets) e) fine.boxed).0) (λ r x w env s sc u alike same. unary_alike z lawful c.scope o (type_of_term e) r x (fits-unary z.place.classes lawful.base.ordered o (type_of_term e) fine.typed.0.meets) w env s sc u alike same)))
 
-  binary_final : (p : Position) (o : BinaryOp) (s t : IrType) (c : Context) (k : Destination) (j : ℕ) → Operates (usable z) o s t → Sound z.is_mutable c → Writes c.writable k → FitsIn (usable z) k (binary_result o) → (w : World) (sc : js.Scope) → TwoFinal z lawful c k w sc j s t (ir_meaning.binary z.place.classes z.low o) (λ es. finish k p (binary_result o) false (core.binary_of o (operand_of o s (first_of es)) (operand_of o t (second_of es))))
+  binary_final : (p : Position) (o : BinaryOp) (s t : IrType) (c : Context) (k : Destination) (j : ℕ) → Operates (usable z) o s t → Sound z.is_mutable c → Writes c.written k → FitsIn (usable z) k (binary_result o) → (w : World) (sc : js.Scope) → TwoFinal z lawful c k w sc j s t (ir_meaning.binary z.place.classes z.low o) (λ es. finish k p (binary_result o) false (core.binary_of o (operand_of o s (first_of es)) (operand_of o t (second_of es))))
   binary_final p o m n c k j operates sound wr fits from before i r q e d w env s sc u ahead l g ready ks same operands = finish_alike z lawful c k p (binary_result o) (core.binary_of o (operand_of o m e) (operand_of o n d)) i sound wr fits w from before env (ir_meaning.in_order (r ∷ q ∷ []) (ir_meaning.binary z.place.classes z.low o) env s) sc u g ks ready s same (binary_alike z lawful c.scope o m n r q e d operates w env s sc u ready.sees.inside operands same)
 
   binary_does : (p : Position) (o : BinaryOp) (e d : Term) → TreeDoes z lawful low e → TreeDoes z lawful low d → TreeDoes z lawful low (binary_op p o e d)
@@ -230,14 +272,14 @@ module _ (z : Setting) (lawful : Lawful z) (low : LowAlike z) where
       by (inl h) = of_operands z lawful c k (piece z lawful low c.targets e ∷ piece z lawful low c.targets d ∷ []) j (ir_meaning.binary z.place.classes z.low o) (λ es. finish k p (binary_result o) false (core.binary_of o (operand_of o (type_of_term e) (first_of es)) (operand_of o (type_of_term d) (second_of es)))) sound ahead (operand_does z lawful low c j e does_e out_e (operand_by z.place.classes lawful.base.ordered z.is_mutable (usable z) z.code c.scope (around c) fine.scene fine.amid e (one_mutable z.is_mutable e d fine.written) (λ y. asks-left z.place.classes lawful.base.ordered (usable z) y o e d h) fine.typed.1 both.0 fine.around fine.once.0), (operand_does z lawful low c j d does_d out_d (operand_by z.place.classes lawful.base.ordered z.is_mutable (usable z) z.code c.scope (around c) fine.scene fine.amid d (other_mutable z.is_mutable e d fine.written) (λ y. asks-right z.place.classes lawful.base.ordered (usable z) y o e d h) fine.typed.2 both.1 fine.around fine.once.1), tt)) (two_final z lawful c k j (type_of_term e) (type_of_term d) (ir_meaning.binary z.place.classes z.low o) (λ es. finish k p (binary_result o) false (core.binary_of o (operand_of o (type_of_term e) (first_of es)) (operand_of o (type_of_term d) (second_of es)))) (binary_final p o (type_of_term e) (type_of_term d) c k j (operates z.place.classes lawful.base.ordered (usable z) o e d own.1 h) sound wr fits_here))
       by (inr h) = division_does z lawful low p c k j o e d h.0 (fits-dividend z.place.classes lawful.base.ordered o d (type_of_term e) h.0 h.1) sound ahead wr fits_here (operand_does z lawful low c j e does_e out_e (part_of c fine.scene fine.amid e (one_mutable z.is_mutable e d fine.written) (left_operand o) h.1 (left-operand-value o) fine.typed.1 both.0 fine.around fine.once.0))
 
-  test_final : (p : Position) (own t : IrType) (c : Context) (k : Destination) (j : ℕ) → (usable z).tests t ≡ true → StandsFor z Any own → Sound z.is_mutable c → Writes c.writable k → FitsIn (usable z) k Boolean → (w : World) (sc : js.Scope) → OneFinal z lawful c k w sc j own (ir_meaning.test z.place.classes t) (λ es. finish k p Boolean false (core.test_of t (coerced Any own (first_of es))))
+  test_final : (p : Position) (own t : IrType) (c : Context) (k : Destination) (j : ℕ) → (usable z).tests t ≡ true → StandsFor z Any own → Sound z.is_mutable c → Writes c.written k → FitsIn (usable z) k Boolean → (w : World) (sc : js.Scope) → OneFinal z lawful c k w sc j own (ir_meaning.test z.place.classes t) (λ es. finish k p Boolean false (core.test_of t (coerced Any own (first_of es))))
   test_final p own t c k j has f sound wr fits from before i r e w env s sc u ahead l g ready ks same operand = finish_alike z lawful c k p Boolean (core.test_of t (coerced Any own e)) i sound wr fits w from before env (ir_meaning.in_order (r ∷ []) (ir_meaning.test z.place.classes t) env s) sc u g ks ready s same (test_alike z lawful t (stood Any own f.0) has (stood-fits Any own f.0) r (coerced Any own e) w env s sc u ready.sees.inside (operand_stood z lawful.base w env sc ready.sees.inside Any own f.0 f.1 r e operand) same)
 
-  cast_final : (p : Position) (own t : IrType) (c : Context) (k : Destination) (j : ℕ) → can_cast (usable z) t ≡ true → StandsFor z Any own → Sound z.is_mutable c → Writes c.writable k → FitsIn (usable z) k t → (w : World) (sc : js.Scope) → OneFinal z lawful c k w sc j own (ir_meaning.cast z.place.classes z.low t) (λ es. finish k p t false (core.cast_of t (coerced Any own (first_of es))))
+  cast_final : (p : Position) (own t : IrType) (c : Context) (k : Destination) (j : ℕ) → can_cast (usable z) t ≡ true → StandsFor z Any own → Sound z.is_mutable c → Writes c.written k → FitsIn (usable z) k t → (w : World) (sc : js.Scope) → OneFinal z lawful c k w sc j own (ir_meaning.cast z.place.classes z.low t) (λ es. finish k p t false (core.cast_of t (coerced Any own (first_of es))))
   cast_final p own t c k j has f sound wr fits from before i r e w env s sc u ahead l g ready ks same operand = finish_alike z lawful c k p t (core.cast_of t (coerced Any own e)) i sound wr fits w from before env (ir_meaning.in_order (r ∷ []) (ir_meaning.cast z.place.classes z.low t) env s) sc u g ks ready s same (cast_alike z lawful t (stood Any own f.0) has (stood-fits Any own f.0) r (coerced Any own e) w env s sc u ready.sees.inside (operand_stood z lawful.base w env sc ready.sees.inside Any own f.0 f.1 r e operand) same)
 
   -- the operand of a test or a cast, which is brought to any
-  any_operand : (e : Term) → TreeDoes z lawful low e → (c : Context) (j : ℕ) → Outside c (Own e) → (s : Scene) → AmidHere c s → Mutable z.is_mutable (mutable_in e) → IsSub z.place.classes (type_of_term e) Any → Typed z.place.classes (usable z) s e → Makes (operand_boxes (goals_of c.targets) e) → (labels : List (List ℕ)) → Once labels e → OperandsDo z lawful c j (piece z lawful low c.targets e ∷ [])
+  any_operand : (e : Term) → TreeDoes z lawful low e → (c : Context) (j : ℕ) → Outside c (Own e) → (s : Scene) → AmidHere c s → Mutable z.is_mutable (mutable_in e) → IsSub z.place.classes (type_of_term e) Any → Typed z.place.classes (usable z) s e → Makes (operand_boxes (goals_of c.targets) e) → (labels : List (List ℕ)) → Placed c.reaches c.tries labels e → OperandsDo z lawful c j (piece z lawful low c.targets e ∷ [])
   any_operand e does c j out s amid written below typed boxed labels once = (operand_does z lawful low c j e does out (part_of c s amid e written Any below refl typed boxed labels once), tt)
 
   test_does : (p : Position) (e : Term) (t : IrType) → TreeDoes z lawful low e → TreeDoes z lawful low (is_instance_of p e t)
@@ -259,7 +301,7 @@ module _ (z : Setting) (lawful : Lawful z) (low : LowAlike z) where
       operand = each (is_boxed Any e) (operand_boxes (goals_of c.targets) e) parts.1
 
   abbrev OperandsFine : Terms → Type 1
-  OperandsFine ts = (c : Context) (j : ℕ) → Outside c (OwnAll ts) → (s : Scene) → AmidHere c s → Mutable z.is_mutable (mutable_in_all ts) → (rs : List TypeRef) → ArgumentsFit z.place.classes (usable z) ts rs → TypedAll z.place.classes (usable z) s ts → Makes (operands_box (goals_of c.targets) ts) → (labels : List (List ℕ)) → OnceAll labels ts → OperandsDo z lawful c j (list_of z lawful low c.targets ts)
+  OperandsFine ts = (c : Context) (j : ℕ) → Outside c (OwnAll ts) → (s : Scene) → AmidHere c s → Mutable z.is_mutable (mutable_in_all ts) → (rs : List TypeRef) → ArgumentsFit z.place.classes (usable z) ts rs → TypedAll z.place.classes (usable z) s ts → Makes (operands_box (goals_of c.targets) ts) → (labels : List (List ℕ)) → PlacedAll c.reaches c.tries labels ts → OperandsDo z lawful c j (list_of z lawful low c.targets ts)
 
   arguments_do : (t : Term) (ts : Terms) → TreeDoes z lawful low t → OperandsFine ts → OperandsFine (more_terms t ts)
   arguments_do t ts does others c j out s amid mut [] fit typed boxed labels once = absurd fit
@@ -268,14 +310,14 @@ module _ (z : Setting) (lawful : Lawful z) (low : LowAlike z) where
   last_does : (t : Term) → TreeDoes z lawful low t → BlockDoes (more_terms t no_terms)
   last_does t does c k j sound ahead out wr scene amid mut i asks typed boxed labels once w env s sc u r same = subst (λ o. Ends z lawful c c.scope k w sc o (into z.is_mutable z.code.sure c.targets k j t).statements sc u) (sym (ap (ir.go_on (ir_meaning.step z.place.classes z.low t env s)) (fun_ext (λ v. refl)) ∙ go_on-given (ir_meaning.step z.place.classes z.low t env s))) (does c k j sound ahead (outside-part c (OwnAll (more_terms t no_terms)) (Own t) (λ x o. inl o) out) wr (tree c scene amid k t mut asks typed boxed labels once.0) w env s sc u r same)
 
-  next_does : (t u : Term) (us : Terms) → TreeDoes z lawful low t → BlockDoes (more_terms u us) → (c : Context) (k : Destination) (j : ℕ) → Sound z.is_mutable c → Ahead c j → Outside c (OwnAll (more_terms t (more_terms u us))) → Writes c.writable k → FineHere z lawful low c discard t → (scene : Scene) → AmidHere c scene → Mutable z.is_mutable (mutable_in_all (more_terms u us)) → (i : IrType) → Asks z.place.classes k (type_of_last i (more_terms u us)) → TypedBlock z.place.classes (usable z) scene (more_terms u us) → Makes (last_boxes (goals_of c.targets) (goal_of k) (more_terms u us)) → (labels : List (List ℕ)) → Once labels t → OnceAll labels (more_terms u us) → (w : World) (env : ir.Env) (s : ir.State) (sc : js.Scope) (q : js.State) → Ready z.place z.code c.scope c.writable w env sc → SameState z.place w s q → Ends z lawful c c.scope k w sc (ir_meaning.block z.place.classes z.low (more_terms t (more_terms u us)) env s) (block z.is_mutable z.code.sure c.targets k j (more_terms t (more_terms u us))).statements sc q
-  next_does t u us does others c k j sound ahead out wr fine scene amid mut i asks typed boxed labels once once_others w env s sc q r same = one_and_rest t (more_terms u us) us c k j c.scope w env s sc q (does c discard j sound ahead (outside-part c (OwnAll (more_terms t (more_terms u us))) (Own t) (λ x o. inl o) out) tt fine w env s sc q r same) (λ y v env s sc' q g ready ks same. rebased z lawful c c.scope k w y sc sc' (ir_meaning.block z.place.classes z.low (more_terms u us) env s) (run z (block z.is_mutable z.code.sure c.targets k (into z.is_mutable z.code.sure c.targets discard j t).next (more_terms u us)).statements sc' q) g ks (others c k (into z.is_mutable z.code.sure c.targets discard j t).next sound (ahead-later z lawful c j (into z.is_mutable z.code.sure c.targets discard j t).next (written z.is_mutable z.code.sure c.targets t discard j once).onward ahead) (outside-part c (OwnAll (more_terms t (more_terms u us))) (OwnAll (more_terms u us)) (λ x o. inr o) out) wr scene amid mut i asks typed boxed labels once_others y env s sc' q ready same))
+  next_does : (t u : Term) (us : Terms) → TreeDoes z lawful low t → BlockDoes (more_terms u us) → (c : Context) (k : Destination) (j : ℕ) → Sound z.is_mutable c → Ahead c j → Outside c (OwnAll (more_terms t (more_terms u us))) → Writes c.written k → FineHere z lawful low c discard t → (scene : Scene) → AmidHere c scene → Mutable z.is_mutable (mutable_in_all (more_terms u us)) → (i : IrType) → Asks z.place.classes k (type_of_last i (more_terms u us)) → TypedBlock z.place.classes (usable z) scene (more_terms u us) → Makes (last_boxes (goals_of c.targets) (goal_of k) (more_terms u us)) → (labels : List (List ℕ)) → Placed c.reaches c.tries labels t → PlacedAll c.reaches c.tries labels (more_terms u us) → (w : World) (env : ir.Env) (s : ir.State) (sc : js.Scope) (q : js.State) → Ready z.place z.code c.scope c.writable w env sc → SameState z.place w s q → Ends z lawful c c.scope k w sc (ir_meaning.block z.place.classes z.low (more_terms t (more_terms u us)) env s) (block z.is_mutable z.code.sure c.targets k j (more_terms t (more_terms u us))).statements sc q
+  next_does t u us does others c k j sound ahead out wr fine scene amid mut i asks typed boxed labels once once_others w env s sc q r same = one_and_rest t (more_terms u us) us c k j c.scope w env s sc q (does c discard j sound ahead (outside-part c (OwnAll (more_terms t (more_terms u us))) (Own t) (λ x o. inl o) out) tt fine w env s sc q r same) (λ y v env s sc' q g ready ks same. rebased z lawful c c.scope k w y sc sc' (ir_meaning.block z.place.classes z.low (more_terms u us) env s) (run z (block z.is_mutable z.code.sure c.targets k (into z.is_mutable z.code.sure c.targets discard j t).next (more_terms u us)).statements sc' q) g ks (others c k (into z.is_mutable z.code.sure c.targets discard j t).next sound (ahead-later z lawful c j (into z.is_mutable z.code.sure c.targets discard j t).next (written z.is_mutable z.code.sure c.reaches c.tries c.targets t discard j once).onward ahead) (outside-part c (OwnAll (more_terms t (more_terms u us))) (OwnAll (more_terms u us)) (λ x o. inr o) out) wr scene amid mut i asks typed boxed labels once_others y env s sc' q ready same))
 
   abbrev scene_behind : List ℕ → IrType → Bool → Scene → Scene
   scene_behind x t b s = record { owner = s.owner; space = s.space; sure = s.sure; locals = record { name = x; «mutable» = b; tpe = t } ∷ s.locals; labels = s.labels }
 
   defined_does : (p : Position) (x : List ℕ) (t : IrType) (b : Bool) (e u : Term) (us : Terms) → TreeDoes z lawful low e → BlockDoes (more_terms u us) → BlockDoes (more_terms (var_def p x t b e) (more_terms u us))
-  defined_does p x t b e u us does others c k j sound ahead out wr scene amid mut i asks typed boxed labels once w env s sc q r same = one_and_rest (var_def p x t b e) (more_terms u us) us c k j (with_local x t c.scope) w env s sc q (define_does z lawful low p x t b e does c j sound ahead out_first (tree c scene amid discard (var_def p x t b e) (of_first z.is_mutable (mutable_in (var_def p x t b e)) (mutable_in_all (more_terms u us)) (front (var_def p x t b e)) mut) tt typed.0 parts.0 labels once.0) w env s sc q r same) (λ y v env s sc' q g ready ks same. sim_weaken z.direction (Came z.place z.code (behind z c x t) (behind z c x t).scope k y sc') (Came z.place z.code c c.scope k w sc) (ir_meaning.block z.place.classes z.low (more_terms u us) env s) (run z (block z.is_mutable z.code.sure c.targets k next (more_terms u us)).statements sc' q) (came-narrow z lawful c (behind z c x t) (behind z c x t).scope c.scope k w y sc sc' refl refl (λ l h. h) (λ h. h) (none_hidden c x t (λ i. out.scope x i (inl (inl refl)))) (none_hidden c x t (λ i. out.scope x i (inl (inl refl)))) (λ y h. inr h) g ks) (others (behind z c x t) k next (sound-behind c x t sound (out.writable x (inl (inl refl))) (out.kept x (inl (inl refl)))) (ahead-behind c x t next (ahead-later z lawful c j next (written z.is_mutable z.code.sure c.targets (var_def p x t b e) discard j once.0).onward ahead)) (outside-behind c x t (OwnAll (more_terms u us)) (outside-part c (OwnAll (more_terms (var_def p x t b e) (more_terms u us))) (OwnAll (more_terms u us)) (λ x o. inr o) out) (typed.1 x refl)) wr (scene_behind x t b scene) (amid-behind z.place.classes z.is_mutable z.code c.scope (around c) scene x t b amid typed.0.0.finds.0 (of_definition z.is_mutable b x (mutable_in e) (of_first z.is_mutable (mutable_in (var_def p x t b e)) (mutable_in_all (more_terms u us)) (front (var_def p x t b e)) mut))) (of_second z.is_mutable (mutable_in (var_def p x t b e)) (mutable_in_all (more_terms u us)) (front (var_def p x t b e)) mut) NoType asks typed.2 parts.1 labels once.1 y env s sc' q ready same))
+  defined_does p x t b e u us does others c k j sound ahead out wr scene amid mut i asks typed boxed labels once w env s sc q r same = one_and_rest (var_def p x t b e) (more_terms u us) us c k j (with_local x t c.scope) w env s sc q (define_does z lawful low p x t b e does c j sound ahead out_first (tree c scene amid discard (var_def p x t b e) (of_first z.is_mutable (mutable_in (var_def p x t b e)) (mutable_in_all (more_terms u us)) (front (var_def p x t b e)) mut) tt typed.0 parts.0 labels once.0) w env s sc q r same) (λ y v env s sc' q g ready ks same. sim_weaken z.direction (Came z.place z.code (behind z c x t) (behind z c x t).scope k y sc') (Came z.place z.code c c.scope k w sc) (ir_meaning.block z.place.classes z.low (more_terms u us) env s) (run z (block z.is_mutable z.code.sure c.targets k next (more_terms u us)).statements sc' q) (came-narrow z lawful c (behind z c x t) (behind z c x t).scope c.scope k w y sc sc' refl refl (λ l h. h) (λ h. h) (none_hidden c x t (λ i. out.scope x i (inl (inl refl)))) (none_hidden c x t (λ i. out.scope x i (inl (inl refl)))) (λ y h. inr h) g ks) (others (behind z c x t) k next (sound-behind c x t sound (out.writable x (inl (inl refl))) (out.kept x (inl (inl refl)))) (ahead-behind c x t next (ahead-later z lawful c j next (written z.is_mutable z.code.sure c.reaches c.tries c.targets (var_def p x t b e) discard j once.0).onward ahead)) (outside-behind c x t (OwnAll (more_terms u us)) (outside-part c (OwnAll (more_terms (var_def p x t b e) (more_terms u us))) (OwnAll (more_terms u us)) (λ x o. inr o) out) (typed.1 x refl)) wr (scene_behind x t b scene) (amid-behind z.place.classes z.is_mutable z.code c.scope (around c) scene x t b amid typed.0.0.finds.0 (of_definition z.is_mutable b x (mutable_in e) (of_first z.is_mutable (mutable_in (var_def p x t b e)) (mutable_in_all (more_terms u us)) (front (var_def p x t b e)) mut))) (of_second z.is_mutable (mutable_in (var_def p x t b e)) (mutable_in_all (more_terms u us)) (front (var_def p x t b e)) mut) NoType asks typed.2 parts.1 labels once.1 y env s sc' q ready same))
     where
       parts : Makes (boxes (goals_of c.targets) Goal.given_up (var_def p x t b e)) × Makes (last_boxes (goals_of c.targets) (goal_of k) (more_terms u us))
       parts = each (boxes (goals_of c.targets) Goal.given_up (var_def p x t b e)) (last_boxes (goals_of c.targets) (goal_of k) (more_terms u us)) boxed
@@ -287,10 +329,10 @@ module _ (z : Setting) (lawful : Lawful z) (low : LowAlike z) where
       out_first = outside-part c (OwnAll (more_terms (var_def p x t b e) (more_terms u us))) (Own (var_def p x t b e)) (λ x o. inl o) out
 
   abbrev CasesDo : Cases → Type 1
-  CasesDo cs = (c : Context) (k : Destination) (j : ℕ) → Sound z.is_mutable c → Ahead c j → Outside c (OwnCases cs) → Writes c.writable k → (scene : Scene) → AmidHere c scene → Mutable z.is_mutable (mutable_in_cases cs) → (t : IrType) → Asks z.place.classes k t → TypedCases z.place.classes (usable z) scene t cs → Makes (cases_box (goals_of c.targets) (goal_of k) cs) → (labels : List (List ℕ)) → OnceCases labels cs → CasesAlike z lawful c k (ir_meaning.branches z.place.classes z.low cs) (cases z.is_mutable z.code.sure c.targets k j cs).cases
+  CasesDo cs = (c : Context) (k : Destination) (j : ℕ) → Sound z.is_mutable c → Ahead c j → Outside c (OwnCases cs) → Writes c.written k → (scene : Scene) → AmidHere c scene → Mutable z.is_mutable (mutable_in_cases cs) → (t : IrType) → Asks z.place.classes k t → TypedCases z.place.classes (usable z) scene t cs → Makes (cases_box (goals_of c.targets) (goal_of k) cs) → (labels : List (List ℕ)) → PlacedCases c.reaches c.tries labels cs → CasesAlike z lawful c k (ir_meaning.branches z.place.classes z.low cs) (cases z.is_mutable z.code.sure c.targets k j cs).cases
 
   case_does : (n : ℤ) (ns : List ℤ) (t : Term) (cs : Cases) → TreeDoes z lawful low t → CasesDo cs → CasesDo (more_cases (n ∷ ns) t cs)
-  case_does n ns t cs does others c k j sound ahead out wr scene amid mut i asks typed boxed labels once = with_keys (n ∷ ns) (ir_meaning.step z.place.classes z.low t) code.statements (ir_meaning.branches z.place.classes z.low cs) (cases z.is_mutable z.code.sure c.targets k code.next cs).cases (undeclared-case c code.statements (undeclared c (Own t) j code out_case ahead (written z.is_mutable z.code.sure c.targets t k j once.0))) (does (settled c) k j (sound-settled z c sound) (ahead-settled c j ahead) (outside-settled c (Own t) out_case) wr (tree c scene amid k t (of_first z.is_mutable (mutable_in t) (mutable_in_cases cs) (front t) mut) (yields z.place.classes lawful.base.ordered k t i asks typed.0) typed.1 parts.0 labels once.0)) (others c k code.next sound (ahead-later z lawful c j code.next (written z.is_mutable z.code.sure c.targets t k j once.0).onward ahead) (outside-part c (OwnCases (more_cases (n ∷ ns) t cs)) (OwnCases cs) (λ x o. inr o) out) wr scene amid (of_second z.is_mutable (mutable_in t) (mutable_in_cases cs) (front t) mut) i asks typed.2 parts.1 labels once.1)
+  case_does n ns t cs does others c k j sound ahead out wr scene amid mut i asks typed boxed labels once = with_keys (n ∷ ns) (ir_meaning.step z.place.classes z.low t) code.statements (ir_meaning.branches z.place.classes z.low cs) (cases z.is_mutable z.code.sure c.targets k code.next cs).cases (undeclared-case c code.statements (undeclared c (Own t) j code out_case ahead (written z.is_mutable z.code.sure c.reaches c.tries c.targets t k j once.0))) (does (settled c) k j (sound-settled z c sound) (ahead-settled c j ahead) (outside-settled c (Own t) out_case) wr (tree c scene amid k t (of_first z.is_mutable (mutable_in t) (mutable_in_cases cs) (front t) mut) (yields z.place.classes lawful.base.ordered k t i asks typed.0) typed.1 parts.0 labels once.0)) (others c k code.next sound (ahead-later z lawful c j code.next (written z.is_mutable z.code.sure c.reaches c.tries c.targets t k j once.0).onward ahead) (outside-part c (OwnCases (more_cases (n ∷ ns) t cs)) (OwnCases cs) (λ x o. inr o) out) wr scene amid (of_second z.is_mutable (mutable_in t) (mutable_in_cases cs) (front t) mut) i asks typed.2 parts.1 labels once.1)
     where
       parts : Makes (boxes (goals_of c.targets) (goal_of k) t) × Makes (cases_box (goals_of c.targets) (goal_of k) cs)
       parts = each (boxes (goals_of c.targets) (goal_of k) t) (cases_box (goals_of c.targets) (goal_of k) cs) boxed
@@ -302,7 +344,7 @@ module _ (z : Setting) (lawful : Lawful z) (low : LowAlike z) where
       out_case = outside-part c (OwnCases (more_cases (n ∷ ns) t cs)) (Own t) (λ x o. inl o) out
 
   match_does : (p : Position) (e : Term) (cs : Cases) (d : Term) (t : IrType) → TreeDoes z lawful low e → CasesDo cs → TreeDoes z lawful low d → TreeDoes z lawful low (match_on p e cs d t)
-  match_does p e cs d t does_e do_cases does_d c k j sound ahead out wr fine = of_operands z lawful c k (piece z lawful low c.targets e ∷ []) j (ir_meaning.choose (ir_meaning.branches z.place.classes z.low cs) (ir_meaning.step z.place.classes z.low d)) (λ es i. switch_code p (first_of es) (cases z.is_mutable z.code.sure c.targets k i cs) (λ i. into z.is_mutable z.code.sure c.targets k i d)) sound ahead (operand_does z lawful low c j e does_e (outside-part c (Own (match_on p e cs d t)) (Own e) (λ x o. inl o) out) (part_of c fine.scene fine.amid e (of_first z.is_mutable (mutable_in e) (λ xs. mutable_in_cases cs (mutable_in d xs)) (front e) fine.written) Int fine.typed.0.meets.0 refl fine.typed.1 parts.0 fine.around fine.once.0), tt) (one_final z lawful c k j (type_of_term e) (ir_meaning.choose (ir_meaning.branches z.place.classes z.low cs) (ir_meaning.step z.place.classes z.low d)) (λ es i. switch_code p (first_of es) (cases z.is_mutable z.code.sure c.targets k i cs) (λ i. into z.is_mutable z.code.sure c.targets k i d)) (match_final z lawful c k p (ir_meaning.branches z.place.classes z.low cs) (ir_meaning.step z.place.classes z.low d) (λ i. cases z.is_mutable z.code.sure c.targets k i cs) (λ i. into z.is_mutable z.code.sure c.targets k i d) j sound wr (λ i l. (written_cases z.is_mutable z.code.sure c.targets cs k i fine.once.1).onward) (λ i l ah. do_cases c k i sound ah (outside-part c (Own (match_on p e cs d t)) (OwnCases cs) (λ x o. inr (inl o)) out) wr fine.scene fine.amid (of_first z.is_mutable (mutable_in_cases cs) (mutable_in d) (front_cases cs) (of_second z.is_mutable (mutable_in e) (λ xs. mutable_in_cases cs (mutable_in d xs)) (front e) fine.written)) t fine.asks fine.typed.2 branches_make.0 fine.around fine.once.1) (λ i l ah. undeclared-settled c (into z.is_mutable z.code.sure c.targets k i d).statements (undeclared c (Own d) i (into z.is_mutable z.code.sure c.targets k i d) out_default ah (written z.is_mutable z.code.sure c.targets d k i fine.once.2))) (λ i l ah. does_d (settled c) k i (sound-settled z c sound) (ahead-settled c i ah) (outside-settled c (Own d) out_default) wr (tree c fine.scene fine.amid k d (of_second z.is_mutable (mutable_in_cases cs) (mutable_in d) (front_cases cs) (of_second z.is_mutable (mutable_in e) (λ xs. mutable_in_cases cs (mutable_in d xs)) (front e) fine.written)) (yields z.place.classes lawful.base.ordered k d t fine.asks fine.typed.0.meets.2) fine.typed.3 branches_make.1 fine.around fine.once.2)) (type_of_term e)))
+  match_does p e cs d t does_e do_cases does_d c k j sound ahead out wr fine = of_operands z lawful c k (piece z lawful low c.targets e ∷ []) j (ir_meaning.choose (ir_meaning.branches z.place.classes z.low cs) (ir_meaning.step z.place.classes z.low d)) (λ es i. switch_code p (first_of es) (cases z.is_mutable z.code.sure c.targets k i cs) (λ i. into z.is_mutable z.code.sure c.targets k i d)) sound ahead (operand_does z lawful low c j e does_e (outside-part c (Own (match_on p e cs d t)) (Own e) (λ x o. inl o) out) (part_of c fine.scene fine.amid e (of_first z.is_mutable (mutable_in e) (λ xs. mutable_in_cases cs (mutable_in d xs)) (front e) fine.written) Int fine.typed.0.meets.0 refl fine.typed.1 parts.0 fine.around fine.once.0), tt) (one_final z lawful c k j (type_of_term e) (ir_meaning.choose (ir_meaning.branches z.place.classes z.low cs) (ir_meaning.step z.place.classes z.low d)) (λ es i. switch_code p (first_of es) (cases z.is_mutable z.code.sure c.targets k i cs) (λ i. into z.is_mutable z.code.sure c.targets k i d)) (match_final z lawful c k p (ir_meaning.branches z.place.classes z.low cs) (ir_meaning.step z.place.classes z.low d) (λ i. cases z.is_mutable z.code.sure c.targets k i cs) (λ i. into z.is_mutable z.code.sure c.targets k i d) j sound wr (λ i l. (written_cases z.is_mutable z.code.sure c.reaches c.tries c.targets cs k i fine.once.1).onward) (λ i l ah. do_cases c k i sound ah (outside-part c (Own (match_on p e cs d t)) (OwnCases cs) (λ x o. inr (inl o)) out) wr fine.scene fine.amid (of_first z.is_mutable (mutable_in_cases cs) (mutable_in d) (front_cases cs) (of_second z.is_mutable (mutable_in e) (λ xs. mutable_in_cases cs (mutable_in d xs)) (front e) fine.written)) t fine.asks fine.typed.2 branches_make.0 fine.around fine.once.1) (λ i l ah. undeclared-settled c (into z.is_mutable z.code.sure c.targets k i d).statements (undeclared c (Own d) i (into z.is_mutable z.code.sure c.targets k i d) out_default ah (written z.is_mutable z.code.sure c.reaches c.tries c.targets d k i fine.once.2))) (λ i l ah. does_d (settled c) k i (sound-settled z c sound) (ahead-settled c i ah) (outside-settled c (Own d) out_default) wr (tree c fine.scene fine.amid k d (of_second z.is_mutable (mutable_in_cases cs) (mutable_in d) (front_cases cs) (of_second z.is_mutable (mutable_in e) (λ xs. mutable_in_cases cs (mutable_in d xs)) (front e) fine.written)) (yields z.place.classes lawful.base.ordered k d t fine.asks fine.typed.0.meets.2) fine.typed.3 branches_make.1 fine.around fine.once.2)) (type_of_term e)))
     where
       parts : Makes (operand_boxes (goals_of c.targets) e) × Makes (cases_box (goals_of c.targets) (goal_of k) cs || boxes (goals_of c.targets) (goal_of k) d)
       parts = each (operand_boxes (goals_of c.targets) e) (cases_box (goals_of c.targets) (goal_of k) cs || boxes (goals_of c.targets) (goal_of k) d) fine.boxed
@@ -314,7 +356,7 @@ module _ (z : Setting) (lawful : Lawful z) (low : LowAlike z) where
       out_default = outside-part c (Own (match_on p e cs d t)) (Own d) (λ x o. inr (inr o)) out
 
   -- a receiver of a class, by what is known of it
-  receiver_of : (c : Context) (j : ℕ) (e : Term) (d : List ℕ) (own : List ℕ → Type 0) → ((x : List ℕ) → Own e x → own x) → TreeDoes z lawful low e → Outside c own → (scene : Scene) → AmidHere c scene → Mutable z.is_mutable (mutable_in e) → IsSub z.place.classes (type_of_term e) (class_type d) → may_check (usable z) scene.sure e ≡ true → Typed z.place.classes (usable z) scene e → Makes (operand_boxes (goals_of c.targets) e) → (labels : List (List ℕ)) → Once labels e → OperandDoes z lawful c j (receiver_piece z lawful low c.targets e)
+  receiver_of : (c : Context) (j : ℕ) (e : Term) (d : List ℕ) (own : List ℕ → Type 0) → ((x : List ℕ) → Own e x → own x) → TreeDoes z lawful low e → Outside c own → (scene : Scene) → AmidHere c scene → Mutable z.is_mutable (mutable_in e) → IsSub z.place.classes (type_of_term e) (class_type d) → may_check (usable z) scene.sure e ≡ true → Typed z.place.classes (usable z) scene e → Makes (operand_boxes (goals_of c.targets) e) → (labels : List (List ℕ)) → Placed c.reaches c.tries labels e → OperandDoes z lawful c j (receiver_piece z lawful low c.targets e)
   receiver_of c j e d own part does out scene amid mut sub may typed boxed labels once = receiver_does z lawful low c j e does (outside-part c own (Own e) part out) (part_of c scene amid e mut (class_type d) sub (class_has_value d) typed boxed labels once) (may_be_checked (usable z) z.code.sure e (subst (λ (q : List ℕ → Bool). may_check (usable z) q e ≡ true) amid.surely may)) (value_or_nothing z.place.classes lawful.base.ordered (type_of_term e) (class_type d) sub (class_has_value d))
 
   select_by : (p : Position) (e : Term) (d f : List ℕ) (t : IrType) → TreeDoes z lawful low e → TreeDoes z lawful low (select p e d f t)
@@ -408,7 +450,7 @@ module _ (z : Setting) (lawful : Lawful z) (low : LowAlike z) where
       (parts.0, inner.0, operands.0, operands.1)
 
   -- a call on a receiver: of a private or a public member, or of a constructor, which has no value
-  receive_by : (p : Position) (e : Term) (d : List ℕ) (n : Namespace) (m : MethodName) (ts : Terms) (t : IrType) → TreeDoes z lawful low e → OperandsFine ts → (c : Context) (k : Destination) (j : ℕ) → Sound z.is_mutable c → Ahead c j → Outside c (Own (apply_statically p e d n m ts t)) → Writes c.writable k → (fine : FineHere z lawful low c k (apply_statically p e d n m ts t)) → Received z.place.classes (usable z) (may_check (usable z) fine.scene.sure) e d n m ts → Does z lawful c k j (apply_statically p e d n m ts t)
+  receive_by : (p : Position) (e : Term) (d : List ℕ) (n : Namespace) (m : MethodName) (ts : Terms) (t : IrType) → TreeDoes z lawful low e → OperandsFine ts → (c : Context) (k : Destination) (j : ℕ) → Sound z.is_mutable c → Ahead c j → Outside c (Own (apply_statically p e d n m ts t)) → Writes c.written k → (fine : FineHere z lawful low c k (apply_statically p e d n m ts t)) → Received z.place.classes (usable z) (may_check (usable z) fine.scene.sure) e d n m ts → Does z lawful c k j (apply_statically p e d n m ts t)
   receive_by p e d n m ts t does_e do_all c k j sound ahead out wr fine its = receive_does z lawful low p c k j e d n m ts t sound ahead wr (fits z.place.classes lawful.base.ordered (usable z) k t fine.asks (result_is m.result t fine.typed.0.meets.1) (called e m ts t c k fine.boxed).0) its.there fine.typed.0.meets.1 (stands-for z lawful (class_type d) (type_of_term e) its.below its.stands) (stand-for-all z lawful ts m.params its.arguments) (receiver_of c j e d (Own (apply_statically p e d n m ts t)) (λ x o. inl o) does_e out fine.scene fine.amid (of_first z.is_mutable (mutable_in e) (mutable_in_all ts) (front e) fine.written) fine.typed.0.meets.2 its.may_be fine.typed.1 (called e m ts t c k fine.boxed).2 fine.around fine.once.0, do_all c j (outside-part c (Own (apply_statically p e d n m ts t)) (OwnAll ts) (λ x o. inr o) out) fine.scene fine.amid (of_second z.is_mutable (mutable_in e) (mutable_in_all ts) (front e) fine.written) m.params its.arguments fine.typed.2 (called e m ts t c k fine.boxed).3 fine.around fine.once.1)
 
   construct_by : (p : Position) (e : Term) (d : List ℕ) (m : MethodName) (ts : Terms) (t : IrType) → TreeDoes z lawful low e → OperandsFine ts → (c : Context) (k : Destination) (j : ℕ) → Sound z.is_mutable c → Ahead c j → Outside c (Own (apply_statically p e d Constructor m ts t)) → (fine : FineHere z lawful low c k (apply_statically p e d Constructor m ts t)) → Constructed z.place.classes (usable z) fine.scene e d m ts t → IsDiscard k → Does z lawful c k j (apply_statically p e d Constructor m ts t)
@@ -421,7 +463,7 @@ module _ (z : Setting) (lawful : Lawful z) (low : LowAlike z) where
   statically_does p e d n m ts t does_e do_all c k j sound ahead out wr fine = impossible fine.typed.0.built
 
   -- a call that is looked up, on a receiver of a hijacked class: a call of the member that this class runs
-  directly_does : (p : Position) (e : Term) (m : MethodName) (ts : Terms) (t : IrType) → TreeDoes z lawful low e → OperandsFine ts → (c : Context) (k : Destination) (j : ℕ) → Sound z.is_mutable c → Ahead c j → Outside c (Own (apply p e m ts t)) → Writes c.writable k → (fine : FineHere z lawful low c k (apply p e m ts t)) → Direct z.place.classes (usable z) fine.scene p e m ts t → Does z lawful c k j (apply p e m ts t)
+  directly_does : (p : Position) (e : Term) (m : MethodName) (ts : Terms) (t : IrType) → TreeDoes z lawful low e → OperandsFine ts → (c : Context) (k : Destination) (j : ℕ) → Sound z.is_mutable c → Ahead c j → Outside c (Own (apply p e m ts t)) → Writes c.written k → (fine : FineHere z lawful low c k (apply p e m ts t)) → Direct z.place.classes (usable z) fine.scene p e m ts t → Does z lawful c k j (apply p e m ts t)
   directly_does p e m ts t does_e do_all c k j sound ahead out wr fine d w env s sc u r same = subst (λ o. Ends z lawful c c.scope k w sc o (into z.is_mutable z.code.sure c.targets k j (apply p e m ts t)).statements sc u) ((λ i. ir_meaning.in_order (received ∷ ir_meaning.operands z.place.classes z.low ts) (sym runs i) env s) ∙ (λ i. ir_meaning.in_order (sym takes i ∷ ir_meaning.operands z.place.classes z.low ts) (ir_meaning.call_method z.place.classes z.low (type_of_term e) m m.result) env s)) (subst (λ (a : Code). Ends z lawful c c.scope k w sc (ir_meaning.step z.place.classes z.low (apply_statically p e d.is.direct.class Public m ts t) env s) a.statements sc u) (sym same_code) (statically_does p e d.is.direct.class Public m ts t does_e do_all c k j sound ahead out wr its w env s sc u r same))
     where
       its : FineHere z lawful low c k (apply_statically p e d.is.direct.class Public m ts t)
@@ -440,7 +482,7 @@ module _ (z : Setting) (lawful : Lawful z) (low : LowAlike z) where
       same_code = ap (λ q. then_use (spill (receiver z.is_mutable z.code.sure e (λ k j. into z.is_mutable z.code.sure c.targets k j e) ∷ operands z.is_mutable z.code.sure c.targets ts) j) (λ es. finish k p t false (core.receiver_call q (coerced_receiver (type_of_term e) (first_of es)) (expressions_of (coerced_arguments m.params (types_of ts) (rest_of es)))))) d.is.callee
 
   -- one of a method that is looked up
-  looked_does : (p : Position) (e : Term) (m : MethodName) (ts : Terms) (t : IrType) → TreeDoes z lawful low e → OperandsFine ts → (c : Context) (k : Destination) (j : ℕ) → Sound z.is_mutable c → Ahead c j → Outside c (Own (apply p e m ts t)) → Writes c.writable k → (fine : FineHere z lawful low c k (apply p e m ts t)) → ByLookup z.place.classes (usable z) fine.scene e m → Does z lawful c k j (apply p e m ts t)
+  looked_does : (p : Position) (e : Term) (m : MethodName) (ts : Terms) (t : IrType) → TreeDoes z lawful low e → OperandsFine ts → (c : Context) (k : Destination) (j : ℕ) → Sound z.is_mutable c → Ahead c j → Outside c (Own (apply p e m ts t)) → Writes c.written k → (fine : FineHere z lawful low c k (apply p e m ts t)) → ByLookup z.place.classes (usable z) fine.scene e m → Does z lawful c k j (apply p e m ts t)
   looked_does p e m ts t does_e do_all c k j sound ahead out wr fine d w env s sc u r same = subst (λ i. Goal received_run called_so (text_by (callee_of (type_of_term e) m)) i) (sym fine.typed.0.meets.1) (subst (λ q. Goal received_run called_so (text_by q) (call_type m.result)) (sym d.is.callee) (subst (λ run. Goal run called_so (text_by (callees.LookedUp l.class m)) (call_type m.result)) (sym (takes_instances z.place.classes (type_of_term e) m l.class l.receiver l.free d.is.result d.is.named (received env.sure))) (subst (λ a. Goal (taken env.sure) a (text_by (callees.LookedUp l.class m)) (call_type m.result)) (sym (calls_instance z.place.classes (type_of_term e) m l.class l.receiver l.free d.is.result d.is.named z.low)) (subst (λ q. Goal (taken q) act (text_by (callees.LookedUp l.class m)) (call_type m.result)) (sym r.sees.sure) (subst (λ os. Ends z lawful c c.scope k w sc (ir_meaning.in_order (taken z.code.sure ∷ ir_meaning.operands z.place.classes z.low ts) act env s) (then_use (spill ((receiver_piece z lawful low c.targets e).here ∷ os) j) (λ es. finish k p (call_type m.result) false (text_by (callees.LookedUp l.class m) es))).statements sc u) (sym (operands-list z lawful low c.targets ts)) (subst (λ rs. Ends z lawful c c.scope k w sc (ir_meaning.in_order (taken z.code.sure ∷ rs) act env s) (then_use (spill (operands_in z lawful (receiver_piece z lawful low c.targets e ∷ list_of z lawful low c.targets ts)) j) (λ es. finish k p (call_type m.result) false (text_by (callees.LookedUp l.class m) es))).statements sc u) (sym (runs-list z lawful low c.targets ts)) (looked_up z lawful low l.class m l.free l.there e ts on fit c k p sound wr (subst (FitsIn (usable z) k) fine.typed.0.meets.1 (fits z.place.classes lawful.base.ordered (usable z) k t fine.asks (result_is m.result t fine.typed.0.meets.1) makes.0)) j ahead ds w env s sc u r same)))))))
     where
       l : IsLookedUp (usable z) (type_of_term e) m
@@ -483,7 +525,7 @@ module _ (z : Setting) (lawful : Lawful z) (low : LowAlike z) where
       ds = (receiver_of c j e l.class (Own (apply p e m ts t)) (λ x o. inl o) does_e out fine.scene fine.amid (of_first z.is_mutable (mutable_in e) (mutable_in_all ts) (front e) fine.written) (l.below z.place.classes) d.checked fine.typed.1 makes.2 fine.around fine.once.0, do_all c j (outside-part c (Own (apply p e m ts t)) (OwnAll ts) (λ x o. inr o) out) fine.scene fine.amid (of_second z.is_mutable (mutable_in e) (mutable_in_all ts) (front e) fine.written) m.params may.1 fine.typed.2 makes.3 fine.around fine.once.1)
 
   -- one of a method of an array
-  array_does : (p : Position) (e : Term) (m : MethodName) (ts : Terms) (t : IrType) → TreeDoes z lawful low e → OperandsFine ts → (c : Context) (k : Destination) (j : ℕ) → Sound z.is_mutable c → Ahead c j → Outside c (Own (apply p e m ts t)) → Writes c.writable k → (fine : FineHere z lawful low c k (apply p e m ts t)) → OnArray z.place.classes (usable z) fine.scene e m → Does z lawful c k j (apply p e m ts t)
+  array_does : (p : Position) (e : Term) (m : MethodName) (ts : Terms) (t : IrType) → TreeDoes z lawful low e → OperandsFine ts → (c : Context) (k : Destination) (j : ℕ) → Sound z.is_mutable c → Ahead c j → Outside c (Own (apply p e m ts t)) → Writes c.written k → (fine : FineHere z lawful low c k (apply p e m ts t)) → OnArray z.place.classes (usable z) fine.scene e m → Does z lawful c k j (apply p e m ts t)
   array_does p e m ts t does_e do_all c k j sound ahead out wr fine d w env s sc u r same = subst (λ q. Goal received_run (text_by q)) (sym d.is.callee) (subst (λ run. Goal run (text_by (callees.OfArray m))) (sym (takes_instances z.place.classes (type_of_term e) m object d.array.receiver refl d.is.result d.is.named (received env.sure))) (subst (λ q. Goal (as_instances z object (received q)) (text_by (callees.OfArray m))) (sym r.sees.sure) (subst (λ os. Ends z lawful c c.scope k w sc (ir_meaning.in_order (as_instances z object (received z.code.sure) ∷ ir_meaning.operands z.place.classes z.low ts) act env s) (then_use (spill ((receiver_piece z lawful low c.targets e).here ∷ os) j) (λ es. finish k p t false (text_by (callees.OfArray m) es))).statements sc u) (sym (operands-list z lawful low c.targets ts)) (subst (λ rs. Ends z lawful c c.scope k w sc (ir_meaning.in_order (as_instances z object (received z.code.sure) ∷ rs) act env s) (then_use (spill (operands_in z lawful (receiver_piece z lawful low c.targets e ∷ list_of z lawful low c.targets ts)) j) (λ es. finish k p t false (text_by (callees.OfArray m) es))).statements sc u) (sym (runs-list z lawful low c.targets ts)) (array_called z lawful low d.array.reference m e d.array.is ts t act c k p sound wr (fits z.place.classes lawful.base.ordered (usable z) k t fine.asks (result_is m.result t fine.typed.0.meets.1) makes.0) j ahead ds w env s sc u r same)))))
     where
       act : List ir.Value → ir.Run
@@ -511,7 +553,7 @@ module _ (z : Setting) (lawful : Lawful z) (low : LowAlike z) where
       ds = (receiver_of c j e object (Own (apply p e m ts t)) (λ x o. inl o) does_e out fine.scene fine.amid (of_first z.is_mutable (mutable_in e) (mutable_in_all ts) (front e) fine.written) (to_any refl (array_valued (type_of_term e) d.array)) d.checked fine.typed.1 makes.2 fine.around fine.once.0, do_all c j (outside-part c (Own (apply p e m ts t)) (OwnAll ts) (λ x o. inr o) out) fine.scene fine.amid (of_second z.is_mutable (mutable_in e) (mutable_in_all ts) (front e) fine.written) m.params arguments fine.typed.2 makes.3 fine.around fine.once.1)
 
   -- one by a reflective name
-  named_does : (p : Position) (e : Term) (m : MethodName) (ts : Terms) (t : IrType) → TreeDoes z lawful low e → OperandsFine ts → (c : Context) (k : Destination) (j : ℕ) → Sound z.is_mutable c → Ahead c j → Outside c (Own (apply p e m ts t)) → Writes c.writable k → (fine : FineHere z lawful low c k (apply p e m ts t)) → ByName z.place.classes (usable z) fine.scene e m → Does z lawful c k j (apply p e m ts t)
+  named_does : (p : Position) (e : Term) (m : MethodName) (ts : Terms) (t : IrType) → TreeDoes z lawful low e → OperandsFine ts → (c : Context) (k : Destination) (j : ℕ) → Sound z.is_mutable c → Ahead c j → Outside c (Own (apply p e m ts t)) → Writes c.written k → (fine : FineHere z lawful low c k (apply p e m ts t)) → ByName z.place.classes (usable z) fine.scene e m → Does z lawful c k j (apply p e m ts t)
   named_does p e m ts t does_e do_all c k j sound ahead out wr fine d w env s sc u r same = subst (λ (q : Callee). Goal q m.result) (sym d.is.callee) (subst (λ (o : Option TypeRef). Goal (callees.Reflective m) o) (sym d.is.named) (reflect_does z lawful low p c k j e m ts t sound ahead wr (fits z.place.classes lawful.base.ordered (usable z) k t fine.asks (result_is m.result t fine.typed.0.meets.1) makes.0) d.is.there (fine.typed.0.meets.1 ∙ ap call_type d.is.named) on fit ds w env s sc u r same))
     where
       Goal : Callee → Option TypeRef → Type 0
@@ -552,6 +594,7 @@ module _ (z : Setting) (lawful : Lawful z) (low : LowAlike z) where
     does (assign p (select_static q d f t) e) = λ c k j sound ahead out wr fine. set_static_by p q d f t e (does e) c k j sound ahead out fine (given_up z.place.classes lawful.base.ordered k fine.asks)
     does (return_to p e l) = return_does p e l (does e)
     does (try_catch p e x d t) = try_does p e x d t (does e) (does d)
+    does (try_finally p e d) = finally_does p e d (does e) (does d)
     does (if_then p a b d t) = if_does p a b d t (does a) (does b) (does d)
     does (while_loop p a b) = while_does z lawful low p a b (does a) (does b)
     does (do_while p b a) = do_does z lawful low p b a (does b) (does a)

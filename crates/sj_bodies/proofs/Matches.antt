@@ -32,7 +32,7 @@ use Rattle.sj_trees.specs.declared.types.IrType.{IrType}
 
 -- the context of a case: it is no turn of a loop, since a break in it ends the switch
 abbrev pub settled : Context → Context
-settled c = record { scope = c.scope; writable = c.writable; kept = c.kept; targets = c.targets; reaches = c.reaches; turning = ⊥ }
+settled c = record { scope = c.scope; writable = c.writable; written = c.written; kept = c.kept; targets = c.targets; reaches = c.reaches; tries = c.tries; turning = ⊥ }
 
 pub ahead-settled : (c : Context) (j : ℕ) → Ahead c j → Ahead (settled c) j
 ahead-settled c j h = record { writable = h.writable; kept = h.kept }
@@ -44,7 +44,7 @@ pub undeclared-settled : (c : Context) (ss : core.Statements) → Undeclared c s
 undeclared-settled c ss h = record { scope = h.scope; writable = h.writable; kept = h.kept; receiver = h.receiver }
 
 pub sound-settled : (z : Setting) (c : Context) → Sound z.is_mutable c → Sound z.is_mutable (settled c)
-sound-settled z c h = record { hidden = h.hidden; constant = h.constant; changing = h.changing; alone = h.alone; reached = h.reached; receiver = h.receiver; received = h.received }
+sound-settled z c h = record { hidden = h.hidden; constant = h.constant; changing = h.changing; alone = h.alone; within = h.within; aims = h.aims; reached = h.reached; apart = h.apart; receiver = h.receiver; received = h.received }
 
 -- the statements of a case end the switch
 abbrev pub one_break : core.Statements
@@ -101,7 +101,7 @@ module _ (z : Setting) (lawful : Lawful z) where
   settles c k from before _ _ (stopped y env s sc u t g r ks same) = absurd t
 
   -- a case or the default in its block, and the end of the switch
-  case_alike : (c : Context) (k : Destination) (names ss : core.Statements) (r : ir.Run) → Undeclared (settled c) names → Sound z.is_mutable c → Writes c.writable k → Alike z lawful (settled c) k r (run z ss) → (w : World) (env : ir.Env) (s : ir.State) (sc : js.Scope) (u : js.State) → Ready z.place z.code c.scope c.writable w env sc → SameState z.place w s u → Sim z.direction (Came z.place z.code c c.scope k w sc) (r env s) (then_do (block_in names ss sc u) js_meaning.behind_switch)
+  case_alike : (c : Context) (k : Destination) (names ss : core.Statements) (r : ir.Run) → Undeclared (settled c) names → Sound z.is_mutable c → Writes c.written k → Alike z lawful (settled c) k r (run z ss) → (w : World) (env : ir.Env) (s : ir.State) (sc : js.Scope) (u : js.State) → Ready z.place z.code c.scope c.writable w env sc → SameState z.place w s u → Sim z.direction (Came z.place z.code c c.scope k w sc) (r env s) (then_do (block_in names ss sc u) js_meaning.behind_switch)
   case_alike c k names ss r free sound wr does w env s sc u ready same = subst (λ o. Sim z.direction (Came z.place z.code c c.scope k w sc) o (then_do (block_in names ss sc u) js_meaning.behind_switch)) (then_do-right (r env s)) (sim_then z.direction (Came z.place z.code (settled c) c.scope k w sc) (Came z.place z.code c c.scope k w sc) (r env s) (block_in names ss sc u) done js_meaning.behind_switch (scoped_alike z lawful (settled c) names free k w env sc u (r env s) (run z ss) (sound-settled z c sound) wr ready (λ inner. does w env s (js_meaning.enter (statement_templates z.place.name z.place.label (usable z).lookup names) sc) u inner same)) (settles c k w sc))
 
   -- the cases of a match, and those of the switch: one without keys is left out
@@ -111,7 +111,7 @@ module _ (z : Setting) (lawful : Lawful z) where
     with_keys : (ns : List ℤ) (r : ir.Run) (ss : core.Statements) (bs : List ir_meaning.Branch) (cs : core.Cases) → Undeclared (settled c) (with_break ss) → Alike z lawful (settled c) k r (run z ss) → CasesAlike c k bs cs → CasesAlike c k (record { keys = ns; body = r } ∷ bs) (core.switch_case ns (with_break ss) cs)
 
   -- a case that is taken, or those behind it
-  case_or_others : (c : Context) (k : Destination) (b : Bool) (q others : ir.Run) (ts : core.Statements) (later js_others : js.Execution) → Undeclared (settled c) (with_break ts) → Sound z.is_mutable c → Writes c.writable k → Alike z lawful (settled c) k q (run z ts) → (w : World) (env : ir.Env) (s : ir.State) (sc : js.Scope) (u : js.State) → Ready z.place z.code c.scope c.writable w env sc → SameState z.place w s u → Sim z.direction (Came z.place z.code c c.scope k w sc) (others env s) (then_do (js_others sc u) js_meaning.behind_switch) → Sim z.direction (Came z.place z.code c c.scope k w sc) ((if b then q else others) env s) (then_do (elim b as (λ b. Out js.StatementEnd) [ true ↦ then_do (block_in (with_break ts) (with_break ts) sc u) (js.next_statement later) | false ↦ js_others sc u ]) js_meaning.behind_switch)
+  case_or_others : (c : Context) (k : Destination) (b : Bool) (q others : ir.Run) (ts : core.Statements) (later js_others : js.Execution) → Undeclared (settled c) (with_break ts) → Sound z.is_mutable c → Writes c.written k → Alike z lawful (settled c) k q (run z ts) → (w : World) (env : ir.Env) (s : ir.State) (sc : js.Scope) (u : js.State) → Ready z.place z.code c.scope c.writable w env sc → SameState z.place w s u → Sim z.direction (Came z.place z.code c c.scope k w sc) (others env s) (then_do (js_others sc u) js_meaning.behind_switch) → Sim z.direction (Came z.place z.code c c.scope k w sc) ((if b then q else others) env s) (then_do (elim b as (λ b. Out js.StatementEnd) [ true ↦ then_do (block_in (with_break ts) (with_break ts) sc u) (js.next_statement later) | false ↦ js_others sc u ]) js_meaning.behind_switch)
   case_or_others c k true q others ts later js_others free sound wr does w env s sc u ready same rest = subst (λ o. Sim z.direction (Came z.place z.code c c.scope k w sc) (q env s) o) (sym (case_is ts later sc u)) (case_alike c k (with_break ts) ts q free sound wr does w env s sc u ready same)
   case_or_others c k false q others ts later js_others free sound wr does w env s sc u ready same rest = rest
 
@@ -119,7 +119,7 @@ module _ (z : Setting) (lawful : Lawful z) where
   clauses_in cs = js_meaning.clauses z.place.program z.js_low (case_templates z.place.name z.place.label (usable z).lookup cs)
 
   -- both sides take the first case with the key, or the default
-  chosen_alike : (c : Context) (k : Destination) (bs : List ir_meaning.Branch) (cs : core.Cases) (r : ir.Run) (ss : core.Statements) → CasesAlike c k bs cs → Undeclared (settled c) ss → Sound z.is_mutable c → Writes c.writable k → Alike z lawful (settled c) k r (run z ss) → (n : ℤ) (w : World) (env : ir.Env) (s : ir.State) (sc : js.Scope) (u : js.State) → Ready z.place z.code c.scope c.writable w env sc → SameState z.place w s u → Sim z.direction (Came z.place z.code c c.scope k w sc) (ir_meaning.branch_of bs r n env s) (then_do (js_meaning.from_case (clauses_in cs) (block_in ss ss) (js.number n) sc u) js_meaning.behind_switch)
+  chosen_alike : (c : Context) (k : Destination) (bs : List ir_meaning.Branch) (cs : core.Cases) (r : ir.Run) (ss : core.Statements) → CasesAlike c k bs cs → Undeclared (settled c) ss → Sound z.is_mutable c → Writes c.written k → Alike z lawful (settled c) k r (run z ss) → (n : ℤ) (w : World) (env : ir.Env) (s : ir.State) (sc : js.Scope) (u : js.State) → Ready z.place z.code c.scope c.writable w env sc → SameState z.place w s u → Sim z.direction (Came z.place z.code c c.scope k w sc) (ir_meaning.branch_of bs r n env s) (then_do (js_meaning.from_case (clauses_in cs) (block_in ss ss) (js.number n) sc u) js_meaning.behind_switch)
   chosen_alike c k _ _ r ss no_case free sound wr does n w env s sc u ready same = case_alike c k ss ss r free sound wr does w env s sc u ready same
   chosen_alike c k _ cs r ss (without_keys q bs _ rest) free sound wr does n w env s sc u ready same = chosen_alike c k bs cs r ss rest free sound wr does n w env s sc u ready same
   chosen_alike c k _ _ r ss (with_keys ns q ts bs cs free_case does_case rest) free sound wr does n w env s sc u ready same = case_or_others c k (list_any (int_eq n) ns) q (ir_meaning.branch_of bs r n) ts (js_meaning.fall (clauses_in cs) (block_in ss ss)) (js_meaning.from_case (clauses_in cs) (block_in ss ss) (js.number n)) free_case sound wr does_case w env s sc u ready same (chosen_alike c k bs cs r ss rest free sound wr does n w env s sc u ready same)
@@ -132,7 +132,7 @@ module _ (z : Setting) (lawful : Lawful z) where
   switch_shown : (p : Position) (e : core.Expression) (cs : core.Cases) (ss : core.Statements) (sc : js.Scope) (u : js.State) → act_of z (core.switch_of (Some p) e cs ss) sc u ≡ then_do (shown z e sc u) (js.in_statement sc (λ v u. then_do (js_meaning.from_case (clauses_in cs) (block_in ss ss) v sc u) js_meaning.behind_switch))
   switch_shown p e cs ss sc u = then_do-associative (shown z e sc u) (js.in_statement sc (λ v. js_meaning.from_case (clauses_in cs) (block_in ss ss) v sc)) js_meaning.behind_switch ∙ ap (then_do (shown z e sc u)) (fun_ext (selected cs ss sc))
 
-  pub match_final : (c : Context) (k : Destination) (p : Position) (bs : List ir_meaning.Branch) (r : ir.Run) (made : ℕ → Branches) (other : ℕ → Code) (j : ℕ) → Sound z.is_mutable c → Writes c.writable k → ((i : ℕ) → j ≤ i → i ≤ (made i).next) → ((i : ℕ) → j ≤ i → Ahead c i → CasesAlike c k bs (made i).cases) → ((i : ℕ) → j ≤ i → Ahead c i → Undeclared (settled c) (other i).statements) → ((i : ℕ) → j ≤ i → Ahead c i → Alike z lawful (settled c) k r (run z (other i).statements)) → (own : IrType) (w : World) (sc : js.Scope) → OneFinal z lawful c k w sc j own (ir_meaning.choose bs r) (λ es i. switch_code p (first_of es) (made i) other)
+  pub match_final : (c : Context) (k : Destination) (p : Position) (bs : List ir_meaning.Branch) (r : ir.Run) (made : ℕ → Branches) (other : ℕ → Code) (j : ℕ) → Sound z.is_mutable c → Writes c.written k → ((i : ℕ) → j ≤ i → i ≤ (made i).next) → ((i : ℕ) → j ≤ i → Ahead c i → CasesAlike c k bs (made i).cases) → ((i : ℕ) → j ≤ i → Ahead c i → Undeclared (settled c) (other i).statements) → ((i : ℕ) → j ≤ i → Ahead c i → Alike z lawful (settled c) k r (run z (other i).statements)) → (own : IrType) (w : World) (sc : js.Scope) → OneFinal z lawful c k w sc j own (ir_meaning.choose bs r) (λ es i. switch_code p (first_of es) (made i) other)
   match_final c k p bs r made other j sound wr up cases_do free does own from before i q e w env s sc u ahead l g ready ks same operand = ends-one z lawful c c.scope k from before (ir_meaning.in_order (q ∷ []) (ir_meaning.choose bs r) env s) (core.switch_of (Some p) e (made i).cases (other (made i).next).statements) sc u (subst (λ o. Sim z.direction (Came z.place z.code c c.scope k from before) (ir_meaning.in_order (q ∷ []) (ir_meaning.choose bs r) env s) o) (sym (switch_shown p e (made i).cases (other (made i).next).statements sc u)) (act_alike z lawful (Came z.place z.code c c.scope k from before) w env s sc u own q e (ir_meaning.choose bs r) (λ v u. then_do (js_meaning.from_case (clauses_in (made i).cases) (block_in (other (made i).next).statements (other (made i).next).statements) v sc u) js_meaning.behind_switch) operand same (throws-on z lawful c c.scope k from w before env sc g ks ready) (λ y v x s u h a same. goes y v x s u h a.stands same)))
     where
       later : j ≤ (made i).next

@@ -89,7 +89,7 @@ not_all false b h = refl
 
 module _ (z : Setting) (lawful : Lawful z) (low : LowAlike z) where
   -- operands, and behind them an expression of their values
-  pub expression_does : (c : Context) (k : Destination) (j : ℕ) (ts : List Piece) (t : IrType) (p : Position) (act : List ir.Value → ir.Run) (text : List core.Expression → core.Expression) → Sound z.is_mutable c → Ahead c j → Writes c.writable k → FitsIn (usable z) k t → OperandsDo z lawful c j ts → ((rs : List ir.Run) (es : List core.Expression) (w : World) (env : ir.Env) (s : ir.State) (sc : js.Scope) (u : js.State) → Inside z.place z.code sc → OperandsAlike z w env sc (types z lawful ts) rs es → SameState z.place w s u → Sim z.direction (Valued z.place w env t) (ir_meaning.in_order rs act env s) (shown z (text es) sc u)) → (w : World) (env : ir.Env) (s : ir.State) (sc : js.Scope) (u : js.State) → Ready z.place z.code c.scope c.writable w env sc → SameState z.place w s u → Ends z lawful c c.scope k w sc (ir_meaning.in_order (runs z lawful ts) act env s) (then_use (spill (operands_in z lawful ts) j) (λ es. finish k p t false (text es))).statements sc u
+  pub expression_does : (c : Context) (k : Destination) (j : ℕ) (ts : List Piece) (t : IrType) (p : Position) (act : List ir.Value → ir.Run) (text : List core.Expression → core.Expression) → Sound z.is_mutable c → Ahead c j → Writes c.written k → FitsIn (usable z) k t → OperandsDo z lawful c j ts → ((rs : List ir.Run) (es : List core.Expression) (w : World) (env : ir.Env) (s : ir.State) (sc : js.Scope) (u : js.State) → Inside z.place z.code sc → OperandsAlike z w env sc (types z lawful ts) rs es → SameState z.place w s u → Sim z.direction (Valued z.place w env t) (ir_meaning.in_order rs act env s) (shown z (text es) sc u)) → (w : World) (env : ir.Env) (s : ir.State) (sc : js.Scope) (u : js.State) → Ready z.place z.code c.scope c.writable w env sc → SameState z.place w s u → Ends z lawful c c.scope k w sc (ir_meaning.in_order (runs z lawful ts) act env s) (then_use (spill (operands_in z lawful ts) j) (λ es. finish k p t false (text es))).statements sc u
   expression_does c k j ts t p act text sound ahead wr fits ds given w env s sc u r same = of_operands z lawful c k ts j act (λ es. finish k p t false (text es)) sound ahead ds final w env s sc u r same
     where
       final : (w : World) (sc : js.Scope) → Final z lawful c k w sc c.kept j sc w (types z lawful ts) act (λ es. finish k p t false (text es))
@@ -112,7 +112,7 @@ module _ (z : Setting) (lawful : Lawful z) (low : LowAlike z) where
   nothing_final : (c : Context) (x : core.Variable) (p : Position) (j : ℕ) (own : IrType) → own ≡ Nothing → (usable z).helper check_name ≡ true → (w : World) (sc : js.Scope) → OneFinal z lawful c (to_variable x own) w sc j own (null_act z) (λ es. finish (to_variable x own) p own false (core.checked_value (first_of es)))
   nothing_final c x p j own is has = subst (λ t. (w : World) (sc : js.Scope) → OneFinal z lawful c (to_variable x t) w sc j t (null_act z) (λ es. finish (to_variable x t) p t false (core.checked_value (first_of es)))) (sym is) (never_final c x p j has)
 
-  checked_does : (c : Context) (x : core.Variable) (j : ℕ) (e : Term) → (usable z).helper check_name ≡ true → (has_no_value (type_of_term e) ≡ false) ⊎ (type_of_term e ≡ Nothing) → Sound z.is_mutable c → Ahead c j → c.writable x → OperandDoes z lawful c j (piece z lawful low c.targets e) → (w : World) (env : ir.Env) (s : ir.State) (sc : js.Scope) (u : js.State) → Ready z.place z.code c.scope c.writable w env sc → SameState z.place w s u → Ends z lawful c c.scope (to_variable x (type_of_term e)) w sc (ir_meaning.in_order (ir_meaning.step z.place.classes z.low e ∷ []) (null_act z) env s) (then_use (spill ((piece z lawful low c.targets e).here ∷ []) j) (λ es. finish (to_variable x (type_of_term e)) (position_of e) (type_of_term e) false (core.checked_value (first_of es)))).statements sc u
+  checked_does : (c : Context) (x : core.Variable) (j : ℕ) (e : Term) → (usable z).helper check_name ≡ true → (has_no_value (type_of_term e) ≡ false) ⊎ (type_of_term e ≡ Nothing) → Sound z.is_mutable c → Ahead c j → c.written x → OperandDoes z lawful c j (piece z lawful low c.targets e) → (w : World) (env : ir.Env) (s : ir.State) (sc : js.Scope) (u : js.State) → Ready z.place z.code c.scope c.writable w env sc → SameState z.place w s u → Ends z lawful c c.scope (to_variable x (type_of_term e)) w sc (ir_meaning.in_order (ir_meaning.step z.place.classes z.low e ∷ []) (null_act z) env s) (then_use (spill ((piece z lawful low c.targets e).here ∷ []) j) (λ es. finish (to_variable x (type_of_term e)) (position_of e) (type_of_term e) false (core.checked_value (first_of es)))).statements sc u
   checked_does c x j e has (inl value) sound ahead wr operand = expression_does c (to_variable x (type_of_term e)) j (piece z lawful low c.targets e ∷ []) (type_of_term e) (position_of e) (null_act z) (λ es. core.checked_value (first_of es)) sound ahead wr (value, inl (fits-same (type_of_term e)), stands-same (can_box (usable z)) (is_char (type_of_term e))) (operand, tt) (check_given (type_of_term e) has)
   checked_does c x j e has (inr none) sound ahead wr operand = of_operands z lawful c (to_variable x (type_of_term e)) (piece z lawful low c.targets e ∷ []) j (null_act z) (λ es. finish (to_variable x (type_of_term e)) (position_of e) (type_of_term e) false (core.checked_value (first_of es))) sound ahead (operand, tt) (one_final z lawful c (to_variable x (type_of_term e)) j (type_of_term e) (null_act z) (λ es. finish (to_variable x (type_of_term e)) (position_of e) (type_of_term e) false (core.checked_value (first_of es))) (nothing_final c x (position_of e) j (type_of_term e) none has))
 
@@ -121,7 +121,7 @@ module _ (z : Setting) (lawful : Lawful z) (low : LowAlike z) where
   receiver_by true c j e does out fine may value = operand_does z lawful low c j e does out fine
   receiver_by false c j e does out fine (inl i) value = absurd (impossible i)
   receiver_by false c j e does out (inl h) (inr has) value = inl (h.plain, record { alike = λ w env sc sees. checked_alike z lawful (type_of_term e) w env sc (ir_meaning.step z.place.classes z.low e) (expression_of z.code.sure e) has sees.inside (more_operands (type_of_term e) (ir_meaning.step z.place.classes z.low e) (expression_of z.code.sure e) [] [] [] (plain_alike z lawful c.scope e h).told (as_operand z lawful c.scope e (plain_alike z lawful c.scope e h).alike w env sc sees) no_operands); told = refl; fixes = λ i p sound w env sc sees. impossible i })
-  receiver_by false c j e does out (inr h) (inr has) value = inr (h.0, refl, received-onward (operand z.is_mutable z.code.sure e (λ k j. into z.is_mutable z.code.sure c.targets k j e)) (λ k i. (written z.is_mutable z.code.sure c.targets e k i (h.2 (core.numbered j)).once).onward), λ p i l ext sound ahead. checked_does (writing (keeping c p) (core.numbered i)) (core.numbered i) (suc i) e has value (sound-writing z lawful (keeping c p) i sound ahead) (ahead-writing z lawful (keeping c p) i ahead) (inl refl) (operand_does z lawful low (writing (keeping c p) (core.numbered i)) (suc i) e does (outside-writing z lawful c p i (Own e) ext out) (inr h)))
+  receiver_by false c j e does out (inr h) (inr has) value = inr (h.0, refl, received-onward (operand z.is_mutable z.code.sure e (λ k j. into z.is_mutable z.code.sure c.targets k j e)) (λ k i. (written z.is_mutable z.code.sure c.reaches c.tries c.targets e k i (h.2 (core.numbered j)).once).onward), λ p i l ext sound ahead. checked_does (writing (keeping c p) (core.numbered i)) (core.numbered i) (suc i) e has value (sound-writing z lawful (keeping c p) i sound ahead) (ahead-writing z lawful (keeping c p) i ahead) (inl refl) (operand_does z lawful low (writing (keeping c p) (core.numbered i)) (suc i) e does (outside-writing z lawful c p i (Own e) ext out) (inr h)))
 
   pub receiver_does : (c : Context) (j : ℕ) (e : Term) → TreeDoes z lawful low e → Outside c (Own e) → FineAt c e → (is_sure z.code.sure e ≡ true) ⊎ ((usable z).helper check_name ≡ true) → (has_no_value (type_of_term e) ≡ false) ⊎ (type_of_term e ≡ Nothing) → OperandDoes z lawful c j (receiver_piece c.targets e)
   receiver_does c j e = receiver_by (is_sure z.code.sure e) c j e
@@ -131,14 +131,14 @@ module _ (z : Setting) (lawful : Lawful z) (low : LowAlike z) where
   sure_run e act rs w env s sc scope sees = ap (λ (q : List ℕ → Bool). ir_meaning.in_order (ir_meaning.receiving z.place.classes (is_sure q e) z.low (ir_meaning.step z.place.classes z.low e) ∷ rs) act env s) sees.sure
 
   -- a field of an object
-  pub select_does : (p : Position) (c : Context) (k : Destination) (j : ℕ) (e : Term) (d f : List ℕ) (t : IrType) → Sound z.is_mutable c → Ahead c j → Writes c.writable k → FitsIn (usable z) k t → (usable z).field d f t ≡ true → OperandDoes z lawful c j (receiver_piece c.targets e) → Does z lawful c k j (select p e d f t)
+  pub select_does : (p : Position) (c : Context) (k : Destination) (j : ℕ) (e : Term) (d f : List ℕ) (t : IrType) → Sound z.is_mutable c → Ahead c j → Writes c.written k → FitsIn (usable z) k t → (usable z).field d f t ≡ true → OperandDoes z lawful c j (receiver_piece c.targets e) → Does z lawful c k j (select p e d f t)
   select_does p c k j e d f t sound ahead wr fits has operand w env s sc u r same = subst (λ o. Ends z lawful c c.scope k w sc o (into z.is_mutable z.code.sure c.targets k j (select p e d f t)).statements sc u) (sym (sure_run e (ir_meaning.select_field d f) [] w env s sc c.scope r.sees)) (expression_does c k j (receiver_piece c.targets e ∷ []) t p (ir_meaning.select_field d f) (λ es. core.field_of (first_of es) d f) sound ahead wr fits (operand, tt) given w env s sc u r same)
     where
       given : (rs : List ir.Run) (es : List core.Expression) (w : World) (env : ir.Env) (s : ir.State) (sc : js.Scope) (u : js.State) → Inside z.place z.code sc → OperandsAlike z w env sc ((receiver_piece c.targets e).here.tpe ∷ []) rs es → SameState z.place w s u → Sim z.direction (Valued z.place w env t) (ir_meaning.in_order rs (ir_meaning.select_field d f) env s) (shown z (core.field_of (first_of es) d f) sc u)
       given _ _ w env s sc u inside (more_operands own q g _ _ _ told one no_operands) same = select_alike z lawful.base w env s sc u own q g d f t (lawful.base.fields d f t has).field (more_operands own q g [] [] [] told one no_operands) same
 
   -- a new object
-  pub new_does : (p : Position) (c : Context) (k : Destination) (j : ℕ) (d : List ℕ) (m : MethodName) (ts : Terms) → Sound z.is_mutable c → Ahead c j → Writes c.writable k → FitsIn (usable z) k (class_type d) → (usable z).built (member d Constructor m) ≡ true → (usable z).made d ≡ true → is_hijacked d ≡ false → StandForAll z (types_referred m.params) (types_of ts) → OperandsDo z lawful c j (list_of z lawful low c.targets ts) → Does z lawful c k j (new_object p d m ts)
+  pub new_does : (p : Position) (c : Context) (k : Destination) (j : ℕ) (d : List ℕ) (m : MethodName) (ts : Terms) → Sound z.is_mutable c → Ahead c j → Writes c.written k → FitsIn (usable z) k (class_type d) → (usable z).built (member d Constructor m) ≡ true → (usable z).made d ≡ true → is_hijacked d ≡ false → StandForAll z (types_referred m.params) (types_of ts) → OperandsDo z lawful c j (list_of z lawful low c.targets ts) → Does z lawful c k j (new_object p d m ts)
   new_does p c k j d m ts sound ahead wr fits built made free fit ds w env s sc u r same = subst (λ os. Ends z lawful c c.scope k w sc (ir_meaning.in_order (ir_meaning.operands z.place.classes z.low ts) act env s) (then_use (spill os j) (λ es. finish k p (class_type d) false (text es))).statements sc u) (sym (operands-list z lawful low c.targets ts)) (subst (λ rs. Ends z lawful c c.scope k w sc (ir_meaning.in_order rs act env s) (then_use (spill (operands_in z lawful (list_of z lawful low c.targets ts)) j) (λ es. finish k p (class_type d) false (text es))).statements sc u) (sym (runs-list z lawful low c.targets ts)) (expression_does c k j (list_of z lawful low c.targets ts) (class_type d) p act text sound ahead wr fits ds given w env s sc u r same))
     where
       act : List ir.Value → ir.Run
@@ -151,7 +151,7 @@ module _ (z : Setting) (lawful : Lawful z) (low : LowAlike z) where
       given rs es w env s sc u inside alike same = new_alike z lawful.base d m (all_stood (types_referred m.params) (types_of ts) fit.0) rs (coerced_arguments m.params (types_of ts) es) (coerced_arguments m.params (types_of ts) es) refl built made free (all-stood-fit (types_referred m.params) (types_of ts) fit.0) w env s sc u inside (operands_coerced z lawful.base w env sc inside m.params (types_of ts) rs es fit.0 fit.1 (subst (λ is. OperandsAlike z w env sc is rs es) (sym (types-list z lawful low c.targets ts)) alike)) same
 
   -- This, where there is one
-  pub this_does : (p : Position) (c : Context) (k : Destination) (j : ℕ) (t : IrType) → Sound z.is_mutable c → Writes c.writable k → FitsIn (usable z) k t → Plain z.place.classes (usable z) z.code c.scope (this_ref p t) → Does z lawful c k j (this_ref p t)
+  pub this_does : (p : Position) (c : Context) (k : Destination) (j : ℕ) (t : IrType) → Sound z.is_mutable c → Writes c.written k → FitsIn (usable z) k t → Plain z.place.classes (usable z) z.code c.scope (this_ref p t) → Does z lawful c k j (this_ref p t)
   this_does p c k j t sound wr fits plain w env s sc u r same = by env.this_value (sc.bindings (z.place.name core.receiver)) r.sees.this refl
     where
       by : (o : Option ir.Value) (cell : js.Cell) → Receiving w z.code.owner o cell → env.this_value ≡ o → Ends z lawful c c.scope k w sc (ir_meaning.local_value env.this_value env s) (finish k p t true (core.variable_use core.receiver) j).statements sc u
@@ -271,7 +271,7 @@ module _ (z : Setting) (lawful : Lawful z) (low : LowAlike z) where
       own = received-type (is_sure z.code.sure e) (operand z.is_mutable z.code.sure e (λ k j. into z.is_mutable z.code.sure c.targets k j e))
 
   -- a call of a private or a public member on a receiver
-  pub receive_does : (p : Position) (c : Context) (k : Destination) (j : ℕ) (e : Term) (d : List ℕ) (n : Namespace) (m : MethodName) (ts : Terms) (t : IrType) → Sound z.is_mutable c → Ahead c j → Writes c.writable k → FitsIn (usable z) k t → (usable z).received (called_member (usable z).lookup n (member d n m)) ≡ true → t ≡ call_type m.result → StandsFor z (class_type d) (type_of_term e) → StandForAll z (types_referred m.params) (types_of ts) → OperandsDo z lawful c j (receiver_piece c.targets e ∷ list_of z lawful low c.targets ts) → Does z lawful c k j (apply_statically p e d n m ts t)
+  pub receive_does : (p : Position) (c : Context) (k : Destination) (j : ℕ) (e : Term) (d : List ℕ) (n : Namespace) (m : MethodName) (ts : Terms) (t : IrType) → Sound z.is_mutable c → Ahead c j → Writes c.written k → FitsIn (usable z) k t → (usable z).received (called_member (usable z).lookup n (member d n m)) ≡ true → t ≡ call_type m.result → StandsFor z (class_type d) (type_of_term e) → StandForAll z (types_referred m.params) (types_of ts) → OperandsDo z lawful c j (receiver_piece c.targets e ∷ list_of z lawful low c.targets ts) → Does z lawful c k j (apply_statically p e d n m ts t)
   receive_does p c k j e d n m ts t sound ahead wr fits there is on fit ds w env s sc u r same = subst (λ o. Ends z lawful c c.scope k w sc o (into z.is_mutable z.code.sure c.targets k j (apply_statically p e d n m ts t)).statements sc u) (sym (sure_run e act (ir_meaning.operands z.place.classes z.low ts) w env s sc c.scope r.sees)) (subst (λ os. Ends z lawful c c.scope k w sc (ir_meaning.in_order ((receiver_piece c.targets e).run ∷ ir_meaning.operands z.place.classes z.low ts) act env s) (then_use (spill ((receiver_piece c.targets e).here ∷ os) j) (λ es. finish k p t false (text es))).statements sc u) (sym (operands-list z lawful low c.targets ts)) (subst (λ rs. Ends z lawful c c.scope k w sc (ir_meaning.in_order ((receiver_piece c.targets e).run ∷ rs) act env s) (then_use (spill (operands_in z lawful (receiver_piece c.targets e ∷ list_of z lawful low c.targets ts)) j) (λ es. finish k p t false (text es))).statements sc u) (sym (runs-list z lawful low c.targets ts)) (expression_does c k j (receiver_piece c.targets e ∷ list_of z lawful low c.targets ts) t p act text sound ahead wr fits ds given w env s sc u r same)))
     where
       act : List ir.Value → ir.Run
@@ -287,7 +287,7 @@ module _ (z : Setting) (lawful : Lawful z) (low : LowAlike z) where
       given _ _ w env s sc u inside (more_operands own q g _ qs gs told one others) same = subst (λ o. Sim z.direction (Valued z.place w env t) (ir_meaning.in_order (q ∷ qs) act env s) (shown z o sc u)) (sym (text_is g gs)) (subst (λ i. Sim z.direction (Valued z.place w env i) (ir_meaning.in_order (q ∷ qs) act env s) (shown z (core.receiver_call (callees.Member (member d n m)) (coerced (class_type d) (type_of_term e) g) (expressions_of (coerced_arguments m.params (types_of ts) gs))) sc u)) (sym is) (received_call_alike z lawful.base (member d n m) (stood (class_type d) (type_of_term e) on.0) (all_stood (types_referred m.params) (types_of ts) fit.0) q qs (coerced (class_type d) (type_of_term e) g) (coerced_arguments m.params (types_of ts) gs) there (stood-fits (class_type d) (type_of_term e) on.0) (all-stood-fit (types_referred m.params) (types_of ts) fit.0) w env s sc u inside (called_with c e d m ts on fit w env sc inside q qs g gs told one others) same))
 
   -- a call by a reflective name
-  pub reflect_does : (p : Position) (c : Context) (k : Destination) (j : ℕ) (e : Term) (m : MethodName) (ts : Terms) (t : IrType) → Sound z.is_mutable c → Ahead c j → Writes c.writable k → FitsIn (usable z) k t → (usable z).reflected m ≡ true → t ≡ Any → StandsFor z (class_type object) (type_of_term e) → StandForAll z (types_referred m.params) (types_of ts) → OperandsDo z lawful c j (receiver_piece c.targets e ∷ list_of z lawful low c.targets ts) → (w : World) (env : ir.Env) (s : ir.State) (sc : js.Scope) (u : js.State) → Ready z.place z.code c.scope c.writable w env sc → SameState z.place w s u → Ends z lawful c c.scope k w sc (ir_meaning.in_order (ir_meaning.receiving z.place.classes (is_sure env.sure e) z.low (ir_meaning.step z.place.classes z.low e) ∷ ir_meaning.operands z.place.classes z.low ts) (ir_meaning.call_reflective z.place.classes z.low m) env s) (then_use (spill (receiver z.is_mutable z.code.sure e (λ k j. into z.is_mutable z.code.sure c.targets k j e) ∷ operands z.is_mutable z.code.sure c.targets ts) j) (λ es. finish k p t false (core.receiver_call (callees.Reflective m) (coerced_receiver (type_of_term e) (first_of es)) (expressions_of (coerced_arguments m.params (types_of ts) (rest_of es)))))).statements sc u
+  pub reflect_does : (p : Position) (c : Context) (k : Destination) (j : ℕ) (e : Term) (m : MethodName) (ts : Terms) (t : IrType) → Sound z.is_mutable c → Ahead c j → Writes c.written k → FitsIn (usable z) k t → (usable z).reflected m ≡ true → t ≡ Any → StandsFor z (class_type object) (type_of_term e) → StandForAll z (types_referred m.params) (types_of ts) → OperandsDo z lawful c j (receiver_piece c.targets e ∷ list_of z lawful low c.targets ts) → (w : World) (env : ir.Env) (s : ir.State) (sc : js.Scope) (u : js.State) → Ready z.place z.code c.scope c.writable w env sc → SameState z.place w s u → Ends z lawful c c.scope k w sc (ir_meaning.in_order (ir_meaning.receiving z.place.classes (is_sure env.sure e) z.low (ir_meaning.step z.place.classes z.low e) ∷ ir_meaning.operands z.place.classes z.low ts) (ir_meaning.call_reflective z.place.classes z.low m) env s) (then_use (spill (receiver z.is_mutable z.code.sure e (λ k j. into z.is_mutable z.code.sure c.targets k j e) ∷ operands z.is_mutable z.code.sure c.targets ts) j) (λ es. finish k p t false (core.receiver_call (callees.Reflective m) (coerced_receiver (type_of_term e) (first_of es)) (expressions_of (coerced_arguments m.params (types_of ts) (rest_of es)))))).statements sc u
   reflect_does p c k j e m ts t sound ahead wr fits there is on fit ds w env s sc u r same = subst (λ o. Ends z lawful c c.scope k w sc o (then_use (spill ((receiver_piece c.targets e).here ∷ operands z.is_mutable z.code.sure c.targets ts) j) (λ es. finish k p t false (text es))).statements sc u) (sym (sure_run e act (ir_meaning.operands z.place.classes z.low ts) w env s sc c.scope r.sees)) (subst (λ os. Ends z lawful c c.scope k w sc (ir_meaning.in_order ((receiver_piece c.targets e).run ∷ ir_meaning.operands z.place.classes z.low ts) act env s) (then_use (spill ((receiver_piece c.targets e).here ∷ os) j) (λ es. finish k p t false (text es))).statements sc u) (sym (operands-list z lawful low c.targets ts)) (subst (λ rs. Ends z lawful c c.scope k w sc (ir_meaning.in_order ((receiver_piece c.targets e).run ∷ rs) act env s) (then_use (spill (operands_in z lawful (receiver_piece c.targets e ∷ list_of z lawful low c.targets ts)) j) (λ es. finish k p t false (text es))).statements sc u) (sym (runs-list z lawful low c.targets ts)) (expression_does c k j (receiver_piece c.targets e ∷ list_of z lawful low c.targets ts) t p act text sound ahead wr fits ds given w env s sc u r same)))
     where
       act : List ir.Value → ir.Run

@@ -23,7 +23,7 @@ use Rattle.sj_proper.specs.Built.{Usable, may_make}
 use Rattle.sj_proper.specs.Locals.{Scope, Mutable, with_local, HasValue}
 use Rattle.sj_proper.specs.Standing.{MayStand}
 use Rattle.sj_proper.proofs.Fitting.{value-not, not_no_type, left-operand-value, right-operand-value}
-use Rattle.sj_proper.specs.Once.{Once}
+use Rattle.sj_bodies.specs.Placed.{Placed}
 use Rattle.sj_proper.proofs.Locals.{values-behind, mutable-behind}
 use Rattle.sj_bodies.specs.Fine.{Around, with_label, IsDiscard, is_discard, FitsIn, FineOperand, Fine, Amid, Asks}
 use Rattle.sj_names.proofs.Same.{impossible}
@@ -136,7 +136,6 @@ amid-behind w is_mutable here g ls s x t b a v m = record {
   values = values-behind s.locals (record { name = x; «mutable» = b; tpe = t }) a.values v;
   changing = mutable-behind is_mutable s.locals (record { name = x; «mutable» = b; tpe = t }) a.changing m;
   targets = a.targets;
-  reaches = a.reaches;
 }
 
 pub amid-inside : (w : Classes) → IsSubtyping (IsSub w) → (is_mutable : List ℕ → Bool) (here : Code) (g : Scope) (ls : Around) (s : Scene) (l : List ℕ) (t : IrType) (k : Destination) → Amid w is_mutable here g ls s → Asks w k t → Amid w is_mutable here g (with_label l k ls) (in_label l t s)
@@ -147,7 +146,6 @@ amid-inside w law is_mutable here g ls s l t k a asks = record {
   values = a.values;
   changing = a.changing;
   targets = reach-inside w law s.labels ls.targets l t k asks a.targets;
-  reaches = λ m. inr (a.reaches m);
 }
 
 module _ (w : Classes) (law : IsSubtyping (IsSub w)) (is_mutable : List ℕ → Bool) (has : Usable) (here : Code) (g : Scope) (ls : Around) where
@@ -168,11 +166,11 @@ module _ (w : Classes) (law : IsSubtyping (IsSub w)) (is_mutable : List ℕ → 
   plain_at s a e h boxed i apart = record { scene = s; surely = a.surely; owned = a.owned; seen = a.seen; typed = h; boxed = boxed; plain = i; apart = apart }
 
   -- a tree in this scene
-  pub tree_in : (s : Scene) → Here s → (k : Destination) (e : Term) → Mutable is_mutable (mutable_in e) → Asks w k (type_of_term e) → Typed w has s e → Makes (boxes (goals_of ls.targets) (goal_of k) e) → (around : List (List ℕ)) → Once around e → FineAt k e
+  pub tree_in : (s : Scene) → Here s → (k : Destination) (e : Term) → Mutable is_mutable (mutable_in e) → Asks w k (type_of_term e) → Typed w has s e → Makes (boxes (goals_of ls.targets) (goal_of k) e) → (around : List (List ℕ)) → Placed ls.reaches ls.tries around e → FineAt k e
   tree_in s a k e m asks h boxed around once = record { scene = s; amid = a; around = around; once = once; written = m; asks = asks; typed = h; boxed = boxed }
 
   -- an operand, by whether it is plain
-  pub operand_by : (s : Scene) → Here s → (e : Term) → Mutable is_mutable (mutable_in e) → ((y : core.Variable) → Asks w (to_variable y (type_of_term e)) (type_of_term e)) → Typed w has s e → Makes (operand_boxes (goals_of ls.targets) e) → (around : List (List ℕ)) → Once around e → OperandAt e
+  pub operand_by : (s : Scene) → Here s → (e : Term) → Mutable is_mutable (mutable_in e) → ((y : core.Variable) → Asks w (to_variable y (type_of_term e)) (type_of_term e)) → Typed w has s e → Makes (operand_boxes (goals_of ls.targets) e) → (around : List (List ℕ)) → Placed ls.reaches ls.tries around e → OperandAt e
   operand_by s a e m asks h boxed around once = go (is_plain e) refl boxed
     where
       go : (b : Bool) → is_plain e ≡ b → Makes (if b then boxes_as_text e else boxes (goals_of ls.targets) (brought_to (type_of_term e)) e) → OperandAt e
@@ -180,7 +178,7 @@ module _ (w : Classes) (law : IsSubtyping (IsSub w)) (is_mutable : List ℕ → 
       go false i may = inr (i, not_fixed is_mutable e i, λ y. tree_in s a (to_variable y (type_of_term e)) e m (asks y) h may around once)
 
   -- one that fits a type with values
-  pub operand_in : (s : Scene) → Here s → (e : Term) → Mutable is_mutable (mutable_in e) → (t : IrType) → IsSub w (type_of_term e) t → HasValue t → Typed w has s e → Makes (operand_boxes (goals_of ls.targets) e) → (around : List (List ℕ)) → Once around e → OperandAt e
+  pub operand_in : (s : Scene) → Here s → (e : Term) → Mutable is_mutable (mutable_in e) → (t : IrType) → IsSub w (type_of_term e) t → HasValue t → Typed w has s e → Makes (operand_boxes (goals_of ls.targets) e) → (around : List (List ℕ)) → Placed ls.reaches ls.tries around e → OperandAt e
   operand_in s a e m t fits value h boxed around once = operand_by s a e m (λ y. asks-own w law y (type_of_term e) t fits (value-not t value)) h boxed around once
 
   -- the right side of a definition

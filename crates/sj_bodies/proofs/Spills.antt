@@ -37,10 +37,10 @@ use Rattle.sj_plain.proofs.Worlds.{World, Grows, grows-refl, grows-trans, SameVa
 
 -- a context in which further variables keep what they hold, and one in which one more may be written
 abbrev pub keeping : Context → (core.Variable → Type 0) → Context
-keeping c p = record { scope = c.scope; writable = c.writable; kept = p; targets = c.targets; reaches = c.reaches; turning = c.turning }
+keeping c p = record { scope = c.scope; writable = c.writable; written = c.written; kept = p; targets = c.targets; reaches = c.reaches; tries = c.tries; turning = c.turning }
 
 abbrev pub writing : Context → core.Variable → Context
-writing c x = record { scope = c.scope; writable = λ y. (y ≡ x) ⊎ c.writable y; kept = c.kept; targets = c.targets; reaches = c.reaches; turning = c.turning }
+writing c x = record { scope = c.scope; writable = λ y. (y ≡ x) ⊎ c.writable y; written = λ y. (y ≡ x) ⊎ c.written y; kept = c.kept; targets = c.targets; reaches = c.reaches; tries = c.tries; turning = c.turning }
 
 -- more is kept, but no more locals
 pub record Extends (c : Context) (p : core.Variable → Type 0) : Type 0 where
@@ -197,7 +197,10 @@ module _ (z : Setting) (lawful : Lawful z) where
     constant = λ x t h m. inr (sound.constant x t h m);
     changing = λ x t g k m. ⊎_elim (λ e. numbered-named x j e) (λ i. sound.changing x t g i m) k;
     alone = sound.alone;
+    within = sound.within;
+    aims = sound.aims;
     reached = sound.reached;
+    apart = λ t y k wr. ⊎_elim (λ e. ahead.writable j (omega arith) (subst c.writable e (sound.within y wr))) (λ i. sound.apart t y i wr) k;
     receiver = inr sound.receiver;
     received = sound.received;
   }

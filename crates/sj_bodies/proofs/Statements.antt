@@ -109,7 +109,7 @@ module _ (z : Setting) (lawful : Lawful z) where
       sees_still : Sees z.place z.code c.scope y env (js_meaning.start false (z.place.name x) j sc)
       sees_still = record { inside = started-inside z lawful false x j sc r.sees.inside; this = subst (Receiving y z.code.owner env.this_value) (sym (started-other z lawful false x core.receiver j sc (λ e. sound.received (subst c.writable (sym e) wr)))) r.sees.this; sure = r.sees.sure; locals = λ q t h. subst (Holding y t (env.locals q)) (sym (started-other z lawful false x (core.named q) j sc (λ e. sound.hidden q t (subst c.writable (sym e) wr) h))) (r.sees.locals q t h) }
 
-  pub finish_alike : (c : Context) (k : Destination) (p : Position) (t : IrType) (e : core.Expression) (i : ℕ) → Sound z.is_mutable c → Writes c.writable k → FitsIn (usable z) k t → (w from : World) (before : js.Scope) (env : ir.Env) (o : Out ir.Ended) (sc : js.Scope) (u : js.State) → Grows from w → Keeps z.place c.kept before sc → Ready z.place z.code c.scope c.writable w env sc → (s : ir.State) → SameState z.place w s u → Sim z.direction (Valued z.place w env t) o (shown z e sc u) → Ends c c.scope k from before o (finish k p t false e i).statements sc u
+  pub finish_alike : (c : Context) (k : Destination) (p : Position) (t : IrType) (e : core.Expression) (i : ℕ) → Sound z.is_mutable c → Writes c.written k → FitsIn (usable z) k t → (w from : World) (before : js.Scope) (env : ir.Env) (o : Out ir.Ended) (sc : js.Scope) (u : js.State) → Grows from w → Keeps z.place c.kept before sc → Ready z.place z.code c.scope c.writable w env sc → (s : ir.State) → SameState z.place w s u → Sim z.direction (Valued z.place w env t) o (shown z e sc u) → Ends c c.scope k from before o (finish k p t false e i).statements sc u
   finish_alike c discard p t e i sound wr fits w from before env o sc u g ks r s states alike = ends-one c c.scope discard from before o (core.evaluate_of (Some p) e) sc u (value_statement (Came z.place z.code c c.scope discard from before) w env t sc u o e (λ v. js_meaning.nothing sc) alike (throws-on c c.scope discard from w before env sc g ks r) (λ y v x s u h a same. sim_done z.direction (Came z.place z.code c c.scope discard from before) (ir.ends (ir.gives v) env s) (js.ends js.normally sc u) (gave y v env s sc u js.normally (grows-trans from w y g h) let_go (ready-lift z c.scope c.writable w y env sc h r) (keeps-less z c.kept discard before sc ks) same)))
-  finish_alike c (to_variable x expected) p t e i sound wr fits w from before env o sc u g ks r s states alike = subst (λ b. Ends c c.scope (to_variable x expected) from before o (elim b as (λ b. Code) [ true ↦ one (core.evaluate_of (Some p) e) i | false ↦ one (core.assign_to (Some p) x (coerced expected t e)) i ]).statements sc u) (sym fits.0) (ends-one c c.scope (to_variable x expected) from before o (core.assign_to (Some p) x (coerced expected t e)) sc u (value_statement (Came z.place z.code c c.scope (to_variable x expected) from before) w env expected sc u o (coerced expected t e) (λ v. js_meaning.assign z.place.program (z.place.name x) v (sc.bindings (z.place.name x)) sc) (coerced_alike z lawful.base expected t fits.1 (may-box z lawful expected t fits.2) w env s sc u r.sees.inside states o e alike) (throws-on c c.scope (to_variable x expected) from w before env sc g ks r) (λ y v j s u h a same. subst (λ q. Sim z.direction (Came z.place z.code c c.scope (to_variable x expected) from before) (done (ir.ends (ir.gives v) env s)) q) (sym (assigned x j sc u (r.«open» x wr))) (sim_done z.direction (Came z.place z.code c c.scope (to_variable x expected) from before) (ir.ends (ir.gives v) env s) (js.ends js.normally (js_meaning.start false (z.place.name x) j sc) u) (stores c x expected from before sound wr y v j env s sc u (grows-trans from w y g h) a (ready-lift z c.scope c.writable w y env sc h r) ks same)))))
+  finish_alike c (to_variable x expected) p t e i sound wr fits w from before env o sc u g ks r s states alike = subst (λ b. Ends c c.scope (to_variable x expected) from before o (elim b as (λ b. Code) [ true ↦ one (core.evaluate_of (Some p) e) i | false ↦ one (core.assign_to (Some p) x (coerced expected t e)) i ]).statements sc u) (sym fits.0) (ends-one c c.scope (to_variable x expected) from before o (core.assign_to (Some p) x (coerced expected t e)) sc u (value_statement (Came z.place z.code c c.scope (to_variable x expected) from before) w env expected sc u o (coerced expected t e) (λ v. js_meaning.assign z.place.program (z.place.name x) v (sc.bindings (z.place.name x)) sc) (coerced_alike z lawful.base expected t fits.1 (may-box z lawful expected t fits.2) w env s sc u r.sees.inside states o e alike) (throws-on c c.scope (to_variable x expected) from w before env sc g ks r) (λ y v j s u h a same. subst (λ q. Sim z.direction (Came z.place z.code c c.scope (to_variable x expected) from before) (done (ir.ends (ir.gives v) env s)) q) (sym (assigned x j sc u (r.«open» x (sound.within x wr)))) (sim_done z.direction (Came z.place z.code c c.scope (to_variable x expected) from before) (ir.ends (ir.gives v) env s) (js.ends js.normally (js_meaning.start false (z.place.name x) j sc) u) (stores c x expected from before sound (sound.within x wr) y v j env s sc u (grows-trans from w y g h) a (ready-lift z c.scope c.writable w y env sc h r) ks same)))))
   finish_alike c (to_result expected) p t e i sound wr fits w from before env o sc u g ks r s states alike = subst (λ b. Ends c c.scope (to_result expected) from before o (elim b as (λ b. Code) [ true ↦ one (core.evaluate_of (Some p) e) i | false ↦ one (core.return_of (Some p) (coerced expected t e)) i ]).statements sc u) (sym fits.0) (ends-one c c.scope (to_result expected) from before o (core.return_of (Some p) (coerced expected t e)) sc u (value_statement (Came z.place z.code c c.scope (to_result expected) from before) w env expected sc u o (coerced expected t e) (λ v u. done (js.ends (js.returns v) sc u)) (coerced_alike z lawful.base expected t fits.1 (may-box z lawful expected t fits.2) w env s sc u r.sees.inside states o e alike) (throws-on c c.scope (to_result expected) from w before env sc g ks r) (λ y v j s u h a same. sim_done z.direction (Came z.place z.code c c.scope (to_result expected) from before) (ir.ends (ir.gives v) env s) (js.ends (js.returns j) sc u) (gave y v env s sc u (js.returns j) (grows-trans from w y g h) (returned expected j a) (ready-lift z c.scope c.writable w y env sc h r) (keeps-less z c.kept (to_result expected) before sc ks) same))))

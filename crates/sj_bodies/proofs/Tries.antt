@@ -25,7 +25,7 @@ use Rattle.sj_trees.specs.declared.types.IrType.{IrType}
 use Rattle.sj_trees.specs.declared.types.IrType.TheVariants.{Any}
 use Rattle.sj_plain.specs.Settings.{Receiving, Setting, run, SameState, Lawful, Holding, OfNoVariable, usable}
 use Rattle.sj_bodies.proofs.Blocks.{Outside, Undeclared, not_declared, not_among, entered, enter-ready, block_alike}
-use Rattle.sj_bodies.proofs.Contexts.{Context, Writes, Sound, Ready, Keeps, Less, Arrives, let_go, stored, returned, Came, gave, left, threw, stopped, keeps-refl, started-other}
+use Rattle.sj_bodies.proofs.Contexts.{Context, Writes, writes-more, Sound, Ready, Keeps, Less, Arrives, let_go, stored, returned, Came, gave, left, threw, stopped, keeps-refl, started-other}
 use Rattle.sj_bodies.proofs.Forms.{set-ready, came-narrow, rebased}
 use Rattle.sj_bodies.proofs.Statements.{ends-one, Ends}
 use Rattle.sj_bodies.proofs.Trees.{behind}
@@ -87,9 +87,9 @@ module _ (z : Setting) (lawful : Lawful z) (c : Context) (x : List ℕ) (unseen 
   leave-arrives w v outer inner usual _ _ wr (stored y t j a h) = stored y t j a (behind_handler outer inner (z.place.name y) (not_own y (λ e. unseen.writable (subst c.writable e wr)) (free.writable y wr)) ∙ h)
   leave-arrives w v outer inner usual _ _ wr (returned t j a) = returned t j a
 
-  leaving_alike : (k : Destination) (w : World) (q : js.Value) (sc : js.Scope) → Sound z.is_mutable c → Writes c.writable k → (a : ir.Ended) (b : js.StatementEnd) → Came z.place z.code c c.scope k w (handler_scope q sc) a b → Sim z.direction (Came z.place z.code c c.scope k w sc) (done a) (js_meaning.leaving_handler caught_name shown_handler sc b)
-  leaving_alike k w q sc sound wr _ _ (gave y v env s sc' u e g a r ks same) = sim_done z.direction (Came z.place z.code c c.scope k w sc) (ir.ends (ir.gives v) env s) (js.ends e (js_meaning.leave_handler caught_name shown_handler sc sc') u) (gave y v env s (js_meaning.leave_handler caught_name shown_handler sc sc') u e g (leave-arrives y v sc sc' js.normally k e wr a) (leave-ready y env sc sc' r) (leave-keeps (Less c.kept k) q sc sc' (λ y h. h.0) ks) same)
-  leaving_alike k w q sc sound wr _ _ (left y l v env s sc' u e reach g a r ks same) = sim_done z.direction (Came z.place z.code c c.scope k w sc) (ir.ends (ir.leaves l v) env s) (js.ends e (js_meaning.leave_handler caught_name shown_handler sc sc') u) (left y l v env s (js_meaning.leave_handler caught_name shown_handler sc sc') u e reach g (leave-arrives y v sc sc' (js.breaks (z.place.label l)) (target_of c.targets l) e (sound.reached l reach) a) (leave-ready y env sc sc' r) (leave-keeps (Less c.kept (target_of c.targets l)) q sc sc' (λ y h. h.0) ks) same)
+  leaving_alike : (k : Destination) (w : World) (q : js.Value) (sc : js.Scope) → Sound z.is_mutable c → Writes c.written k → (a : ir.Ended) (b : js.StatementEnd) → Came z.place z.code c c.scope k w (handler_scope q sc) a b → Sim z.direction (Came z.place z.code c c.scope k w sc) (done a) (js_meaning.leaving_handler caught_name shown_handler sc b)
+  leaving_alike k w q sc sound wr _ _ (gave y v env s sc' u e g a r ks same) = sim_done z.direction (Came z.place z.code c c.scope k w sc) (ir.ends (ir.gives v) env s) (js.ends e (js_meaning.leave_handler caught_name shown_handler sc sc') u) (gave y v env s (js_meaning.leave_handler caught_name shown_handler sc sc') u e g (leave-arrives y v sc sc' js.normally k e (writes-more c.written c.writable k sound.within wr) a) (leave-ready y env sc sc' r) (leave-keeps (Less c.kept k) q sc sc' (λ y h. h.0) ks) same)
+  leaving_alike k w q sc sound wr _ _ (left y l v env s sc' u e reach g a r ks same) = sim_done z.direction (Came z.place z.code c c.scope k w sc) (ir.ends (ir.leaves l v) env s) (js.ends e (js_meaning.leave_handler caught_name shown_handler sc sc') u) (left y l v env s (js_meaning.leave_handler caught_name shown_handler sc sc') u e reach g (leave-arrives y v sc sc' (js.breaks (z.place.label l)) (target_of c.targets l) e (sound.aims l) a) (leave-ready y env sc sc' r) (leave-keeps (Less c.kept (target_of c.targets l)) q sc sc' (λ y h. h.0) ks) same)
   leaving_alike k w q sc sound wr _ _ (threw y v j env s sc' u g a r ks same) = sim_done z.direction (Came z.place z.code c c.scope k w sc) (ir.ends (ir.throws v) env s) (js.ends (js.thrown_with j) (js_meaning.leave_handler caught_name shown_handler sc sc') u) (threw y v j env s (js_meaning.leave_handler caught_name shown_handler sc sc') u g a (leave-ready y env sc sc' r) (leave-keeps c.kept q sc sc' (λ y h. h) ks) same)
   leaving_alike k w q sc sound wr _ _ (stopped y env s sc' u t g r ks same) = sim_done z.direction (Came z.place z.code c c.scope k w sc) (ir.ends ir.stops env s) (js.ends js.breaks_nearest (js_meaning.leave_handler caught_name shown_handler sc sc') u) (stopped y env s (js_meaning.leave_handler caught_name shown_handler sc sc') u t g (leave-ready y env sc sc' r) (leave-keeps c.kept q sc sc' (λ y h. h) ks) same)
 
@@ -100,7 +100,7 @@ module _ (z : Setting) (lawful : Lawful z) (c : Context) (x : List ℕ) (unseen 
   still_there : (y : List ℕ) (i : IrType) → c.scope y i → with_local x Any c.scope y i
   still_there y i h = inr ((λ e. unseen.scope i (subst (λ (n : List ℕ). c.scope n i) e h)), h)
 
-  handler_alike : (k : Destination) (w : World) (v : ir.Value) (j : js.Value) (env : ir.Env) (s : ir.State) (sc : js.Scope) (u : js.State) (r : ir.Run) → Sound z.is_mutable c → Writes c.writable k → SameValue w Any v j → Ready z.place z.code c.scope c.writable w env sc → (Ready z.place z.code handling.scope c.writable w (ir_meaning.set_local x v env) (handler_scope j sc) → Sim z.direction (Came z.place z.code handling handling.scope k w (handler_scope j sc)) (r (ir_meaning.set_local x v env) s) (run z ss (handler_scope j sc) u)) → Sim z.direction (Came z.place z.code c c.scope k w sc) (r (ir_meaning.set_local x v env) s) (js_meaning.in_handler caught_name shown_handler (run z ss) j sc u)
+  handler_alike : (k : Destination) (w : World) (v : ir.Value) (j : js.Value) (env : ir.Env) (s : ir.State) (sc : js.Scope) (u : js.State) (r : ir.Run) → Sound z.is_mutable c → Writes c.written k → SameValue w Any v j → Ready z.place z.code c.scope c.writable w env sc → (Ready z.place z.code handling.scope c.writable w (ir_meaning.set_local x v env) (handler_scope j sc) → Sim z.direction (Came z.place z.code handling handling.scope k w (handler_scope j sc)) (r (ir_meaning.set_local x v env) s) (run z ss (handler_scope j sc) u)) → Sim z.direction (Came z.place z.code c c.scope k w sc) (r (ir_meaning.set_local x v env) s) (js_meaning.in_handler caught_name shown_handler (run z ss) j sc u)
   handler_alike k w v j env s sc u r sound wr same ready does =
       let inner = handler_scope j sc in
       let o = r (ir_meaning.set_local x v env) s in
@@ -129,7 +129,7 @@ module _ (z : Setting) (lawful : Lawful z) (c : Context) (k : Destination) (w : 
       passes _ _ (returned t j i) q = sim_done z.direction (Came z.place z.code c c.scope k w sc) (ir.ends (ir.leaves l v) env s) (js.ends (js.returns j) sc' u) (left y l v env s sc' u (js.returns j) reach g (subst (λ d. Arrives z.place y v sc' (js.breaks (z.place.label l)) d (js.returns j)) (sym q) (returned t j i)) ready ks same)
 
 -- a tree whose statements come to this in the context, and those of a handler
-pub try_alike : (z : Setting) (lawful : Lawful z) (c : Context) (k : Destination) (p : Position) (x : List ℕ) (a b : core.Statements) (first second : ir.Run) → Sound z.is_mutable c → Writes c.writable k → Unseen c x → Undeclared c a → Undeclared c b → ((w : World) (env : ir.Env) (s : ir.State) (sc : js.Scope) (u : js.State) → Ready z.place z.code c.scope c.writable w env sc → SameState z.place w s u → Ends z lawful c c.scope k w sc (first env s) a sc u) → ((w : World) (env : ir.Env) (s : ir.State) (sc : js.Scope) (u : js.State) → Ready z.place z.code (with_local x Any c.scope) c.writable w env sc → SameState z.place w s u → Ends z lawful (behind z c x Any) (with_local x Any c.scope) k w sc (second env s) b sc u) → (w : World) (env : ir.Env) (s : ir.State) (sc : js.Scope) (u : js.State) → Ready z.place z.code c.scope c.writable w env sc → SameState z.place w s u → Ends z lawful c c.scope k w sc (then_do (first env s) (ir_meaning.caught x second)) (core.statement (core.try_of (Some p) a (core.named x) b) core.no_statements) sc u
+pub try_alike : (z : Setting) (lawful : Lawful z) (c : Context) (k : Destination) (p : Position) (x : List ℕ) (a b : core.Statements) (first second : ir.Run) → Sound z.is_mutable c → Writes c.written k → Unseen c x → Undeclared c a → Undeclared c b → ((w : World) (env : ir.Env) (s : ir.State) (sc : js.Scope) (u : js.State) → Ready z.place z.code c.scope c.writable w env sc → SameState z.place w s u → Ends z lawful c c.scope k w sc (first env s) a sc u) → ((w : World) (env : ir.Env) (s : ir.State) (sc : js.Scope) (u : js.State) → Ready z.place z.code (with_local x Any c.scope) c.writable w env sc → SameState z.place w s u → Ends z lawful (behind z c x Any) (with_local x Any c.scope) k w sc (second env s) b sc u) → (w : World) (env : ir.Env) (s : ir.State) (sc : js.Scope) (u : js.State) → Ready z.place z.code c.scope c.writable w env sc → SameState z.place w s u → Ends z lawful c c.scope k w sc (then_do (first env s) (ir_meaning.caught x second)) (core.statement (core.try_of (Some p) a (core.named x) b) core.no_statements) sc u
 try_alike z lawful c k p x a b first second sound wr unseen free_a free_b does_a does_b w env s sc u ready same =
     let shown_a = statement_templates z.place.name z.place.label (usable z).lookup a in
     let shown_b = statement_templates z.place.name z.place.label (usable z).lookup b in

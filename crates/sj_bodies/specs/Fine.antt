@@ -11,7 +11,7 @@ use Rattle.sj_trees.specs.declared.types.IrType.{IrType}
 use Rattle.sj_trees.specs.declared.types.IrType.TheVariants.{NoType}
 use Rattle.sj_plain.specs.Conditions.{InScope, Plain}
 use Rattle.sj_plain.specs.Settings.{Code}
-use Rattle.sj_proper.specs.Once.{Once}
+use Rattle.sj_bodies.specs.Placed.{Placed, with_reach}
 use Rattle.sj_proper.specs.Locals.{HaveValues, AreMutable, Mutable, Scope}
 use Rattle.sj_proper.specs.Standing.{MayStand}
 use Rattle.sj_plain.specs.Standing.{Takes}
@@ -31,18 +31,19 @@ FitsIn has discard t = Unit {0}
 FitsIn has (to_variable x expected) t = (has_no_value t ≡ false) × Takes expected t × MayStand has expected t
 FitsIn has (to_result expected) t = (has_no_value t ≡ false) × Takes expected t × MayStand has expected t
 
--- the labels around a tree: where what leaves to each goes, and those to which the tree may leave
+-- the labels around a tree: where what leaves to each goes, and those to which the tree may leave; and whether a try with a finalizer may stand there
 pub record Around : Type 1 where
   pub targets : Targets
   pub reaches : List ℕ → Type 0
+  pub tries : Type 0
 
 -- these, and one more
 abbrev pub with_label : List ℕ → Destination → Around → Around
-with_label l k ls = record { targets = record { label = l; goes_to = k } ∷ ls.targets; reaches = λ m. (m ≡ l) ⊎ ls.reaches m }
+with_label l k ls = record { targets = record { label = l; goes_to = k } ∷ ls.targets; reaches = with_reach l ls.reaches; tries = ls.tries }
 
 -- no labels: a body leaves to its own alone
 abbrev pub no_labels : Around
-no_labels = record { targets = []; reaches = λ l. Unit {0} }
+no_labels = record { targets = []; reaches = λ l. Unit {0}; tries = Unit {0} }
 
 -- a type that may be brought to a destination: it is given up, or stands for one that has values
 abbrev pub Asks : Classes → Destination → IrType → Type 0
@@ -59,15 +60,14 @@ pub record Amid (w : Classes) (is_mutable : List ℕ → Bool) (here : Code) (g 
   pub values : HaveValues s.locals
   pub changing : AreMutable is_mutable s.locals
   pub targets : (l : List ℕ) (t : IrType) → type_of_label s.labels l ≡ Some t → Asks w (target_of ls.targets l) t
-  pub reaches : (l : List ℕ) → ls.reaches l
 
--- a tree that keeps the rules where it is written, defines each local once, may be brought to its destination, and whose code makes objects that hold chars only
+-- a tree that keeps the rules where it is written, is placed so that it defines each local once, may be brought to its destination, and whose code makes objects that hold chars only
 -- if they can be made
 pub record Fine (w : Classes) (is_mutable : List ℕ → Bool) (has : Usable) (here : Code) (g : Scope) (ls : Around) (k : Destination) (t : Term) : Type 0 where
   pub scene : Scene
   pub amid : Amid w is_mutable here g ls scene
   pub around : List (List ℕ)
-  pub once : Once around t
+  pub once : Placed ls.reaches ls.tries around t
   pub written : Mutable is_mutable (mutable_in t)
   pub asks : Asks w k (type_of_term t)
   pub typed : Typed w has scene t

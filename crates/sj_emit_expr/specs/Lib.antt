@@ -13,6 +13,7 @@ pub use Rattle.sj_desugar.specs.CalleeVariants
 pub use Rattle.sj_desugar.specs.Tables
 pub use Rattle.sj_desugar.specs.Coercions
 pub use Rattle.sj_desugar.specs.Desugar
+pub use Rattle.sj_desugar.specs.Finalizers
 pub use Rattle.sj_desugar.specs.Plain
 pub use Rattle.sj_desugar.specs.Ancestors
 pub use Rattle.sj_desugar.specs.Known

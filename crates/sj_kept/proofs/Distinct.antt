@@ -8,7 +8,7 @@ use Rattle.sj_local.specs.declared.walks.Declaration.TheVariants as declaration
 use Rattle.sj_local.specs.Nodes.{Context, Node, node, inside, in_a_block, with_label, with_local, caught, behind, below, statements_below, all_below, cases_below}
 use Rattle.sj_local.specs.TreeRules.{declarations}
 use Rattle.sj_names.specs.declared.method_names.Namespace.{Namespace}
-use Rattle.sj_trees.specs.Term.{Term, Terms, no_terms, more_terms, Cases, no_cases, more_cases, var_def, skip, block_of, labeled, assign, return_to, if_then, while_loop, do_while, throw, try_catch, match_on, new_object, select, apply, apply_statically, apply_static, unary_op, binary_op, is_instance_of, as_instance_of, log_line, store_module}
+use Rattle.sj_trees.specs.Term.{Term, Terms, no_terms, more_terms, Cases, no_cases, more_cases, var_def, skip, block_of, labeled, assign, return_to, if_then, while_loop, do_while, throw, try_catch, try_finally, match_on, new_object, select, apply, apply_statically, apply_static, unary_op, binary_op, is_instance_of, as_instance_of, log_line, store_module}
 use Rattle.sj_proper.specs.Locals.{Own, OwnAll, OwnCases}
 use Rattle.sj_proper.proofs.Equal.{is-equal}
 use Rattle.sj_names.proofs.Same.{impossible}
@@ -84,6 +84,8 @@ mutual
   own-declares (try_catch p e v d t) x y (inl same) = inl (ap declaration.Local (sym same))
   own-declares (try_catch p e v d t) x y (inr (inl o)) = inr (in-left (At x e) (At (with_local (caught v) x) d) (declaration.Local y) (own-declares e x y o))
   own-declares (try_catch p e v d t) x y (inr (inr o)) = inr (in-right (At x e) (At (with_local (caught v) x) d) (declaration.Local y) (own-declares d (with_local (caught v) x) y o))
+  own-declares (try_finally p e d) x y (inl o) = in-left (At x e) (At x d) (declaration.Local y) (own-declares e x y o)
+  own-declares (try_finally p e d) x y (inr o) = in-right (At x e) (At x d) (declaration.Local y) (own-declares d x y o)
   own-declares (match_on p e cs d t) x y (inl o) = in-left (At x e ++ cases_below x cs) (At x d) (declaration.Local y) (in-left (At x e) (cases_below x cs) (declaration.Local y) (own-declares e x y o))
   own-declares (match_on p e cs d t) x y (inr (inl o)) = in-left (At x e ++ cases_below x cs) (At x d) (declaration.Local y) (in-right (At x e) (cases_below x cs) (declaration.Local y) (own-cases cs x y o))
   own-declares (match_on p e cs d t) x y (inr (inr o)) = in-right (At x e ++ cases_below x cs) (At x d) (declaration.Local y) (own-declares d x y o)
@@ -206,6 +208,7 @@ module _ (owner : List ℕ) (space : Namespace) where
           once d c c a refl l w.0 w.1 g.1 (out-right a (At x e) (At c d) r),
           apart (Own e) (Own d) (At x e) (At c d) (own-declares e x) (own-declares d c) g.2,
         )
+    once (try_finally p e d) x y a z l k h f o = two_by e d x a (once e x x a refl l) (once d x x a refl l) h f o
     once (match_on p e cs d t) x y a z l k h f o =
         let g = parts (At x e ++ cases_below x cs) (At x d) f in
         let i = parts (At x e) (cases_below x cs) g.0 in

@@ -40,7 +40,7 @@ use Rattle.body_rules.specs.Texts.{operand_of}
 use Rattle.body_rules.specs.Templates.{check_name, member_name, looked_up_template, expression_template, expression_templates, binary_template, unary_template, is_nonzero_literal}
 use Rattle.sj_names.proofs.Same.{impossible}
 use Rattle.sj_names.specs.declared.method_names.Member.{Member}
-use Rattle.sj_trees.specs.Term.{Term, Terms, no_terms, more_terms, var_def, skip, block_of, labeled, assign, return_to, if_then, while_loop, do_while, throw, try_catch, match_on, new_object, select, select_static, apply, apply_statically, this_ref, apply_static, unary_op, binary_op, is_instance_of, as_instance_of, log_line, undefined_literal, null_literal, boolean_literal, char_literal, byte_literal, short_literal, int_literal, long_literal, string_literal, var_ref, load_module, store_module}
+use Rattle.sj_trees.specs.Term.{Term, Terms, no_terms, more_terms, var_def, skip, block_of, labeled, assign, return_to, if_then, while_loop, do_while, throw, try_catch, try_finally, match_on, new_object, select, select_static, apply, apply_statically, this_ref, apply_static, unary_op, binary_op, is_instance_of, as_instance_of, log_line, undefined_literal, null_literal, boolean_literal, char_literal, byte_literal, short_literal, int_literal, long_literal, string_literal, var_ref, load_module, store_module}
 use Rattle.sj_trees.specs.TypeOf.{type_of_term, unary_result, binary_result}
 use Rattle.sj_trees.specs.declared.operators.BinaryOp.{BinaryOp}
 use Rattle.sj_trees.specs.declared.operators.BinaryOp.TheVariants.{StrictEqual, StrictNotEqual, StringConcatenate, IntDivide, IntRemainder, LongDivide, LongRemainder, LongShiftLeft, LongShiftRightLogical, LongShiftRightArithmetic}
@@ -585,6 +585,7 @@ module _ (z : Setting) (lawful : Lawful z) (scope : Scope) where
       tree_alike (do_while p b c) h boxed k v = impossible k
       tree_alike (throw p e) h boxed k v = impossible k
       tree_alike (try_catch p e x d t) h boxed k v = impossible k
+      tree_alike (try_finally p e d) h boxed k v = impossible k
       tree_alike (store_module p c e) h boxed k v = impossible k
       tree_alike (match_on p e cs d t) h boxed k v = impossible k
       tree_alike (log_line p e) h boxed k v = impossible k

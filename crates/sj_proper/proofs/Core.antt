@@ -12,7 +12,6 @@ use Rattle.body_rules.specs.Templates.{statement_template, statement_templates, 
 use Rattle.body_rules.proofs.Equal.{equals, is-equal}
 use Rattle.sj_proper.proofs.Declared.{DeclaresOne, Declares, declares-followed, declared-named}
 use Rattle.sj_names.proofs.Same.{impossible}
-use Rattle.sj_names.specs.declared.method_names.Member.{Member}
 use Rattle.sj_proper.specs.Once.{IsAmong}
 
 -- no variable is declared twice in one list
@@ -35,6 +34,7 @@ abbrev mutual
   ProperOne ls b (core.labeled_of p l ss) = (IsAmong ls l → ⊥) × Distinct ss × Proper (l ∷ ls) b ss
   ProperOne ls b (core.switch_of p e cs ss) = ProperCases ls cs × Distinct ss × Proper ls true ss
   ProperOne ls b (core.try_of p ss x ts) = Distinct ss × Proper ls b ss × (Declares ts x → ⊥) × Distinct ts × Proper ls b ts
+  ProperOne ls b (core.finally_of p ss ts) = Distinct ss × Proper ls b ss × Distinct ts × Proper ls b ts
   ProperOne ls b _ = Unit {0}
 
   pub Proper : List (List ℕ) → Bool → core.Statements → Type 0
@@ -115,6 +115,7 @@ module _ (name_of : core.Variable → Name) (label_of : List ℕ → Name) (look
     proper-template ls b (core.loop_of p ss) h = both (are_distinct (declared (templates ss))) (are_proper (at ls true) (templates ss)) (distinct-templates ss h.0) (proper-templates ls true ss h.1)
     proper-template ls b (core.labeled_of p l ss) h = both (not (is_among (map label_of ls) (label_of l)) && are_distinct (declared (templates ss))) (are_proper (at (l ∷ ls) b) (templates ss)) (both (not (is_among (map label_of ls) (label_of l))) (are_distinct (declared (templates ss))) (not_is (is_among (map label_of ls) (label_of l)) (label_new ls l h.0)) (distinct-templates ss h.1)) (proper-templates (l ∷ ls) b ss h.2)
     proper-template ls b (core.try_of p ss x ts) h = both (are_distinct (declared (templates ss)) && are_proper (at ls b) (templates ss) && are_distinct (name_of x ∷ declared (templates ts))) (are_proper (at ls b) (templates ts)) (both (are_distinct (declared (templates ss)) && are_proper (at ls b) (templates ss)) (are_distinct (name_of x ∷ declared (templates ts))) (both (are_distinct (declared (templates ss))) (are_proper (at ls b) (templates ss)) (distinct-templates ss h.0) (proper-templates ls b ss h.1)) (declaring x ts h.2 (distinct-templates ts h.3))) (proper-templates ls b ts h.4)
+    proper-template ls b (core.finally_of p ss ts) h = both (are_distinct (declared (templates ss)) && are_proper (at ls b) (templates ss) && are_distinct (declared (templates ts))) (are_proper (at ls b) (templates ts)) (both (are_distinct (declared (templates ss)) && are_proper (at ls b) (templates ss)) (are_distinct (declared (templates ts))) (both (are_distinct (declared (templates ss))) (are_proper (at ls b) (templates ss)) (distinct-templates ss h.0) (proper-templates ls b ss h.1)) (distinct-templates ts h.2)) (proper-templates ls b ts h.3)
     proper-template ls b (core.switch_of p e cs ss) h = both (are_proper_cases (at ls true) (case_templates name_of label_of lookup cs) && are_distinct (declared (templates ss))) (are_proper (at ls true) (templates ss)) (both (are_proper_cases (at ls true) (case_templates name_of label_of lookup cs)) (are_distinct (declared (templates ss))) (proper-cases ls cs h.0) (distinct-templates ss h.1)) (proper-templates ls true ss h.2)
     proper-template ls b _ h = refl
 

@@ -11,7 +11,6 @@ use Rattle.body_rules.specs.Templates.{statement_templates}
 pub use Rattle.body_rules.specs.Locals.{Own, OwnAll, OwnCases}
 use Rattle.body_rules.proofs.Equal.{is-equal}
 use Rattle.sj_names.proofs.Same.{impossible}
-use Rattle.sj_names.specs.declared.method_names.Member.{Member}
 
 abbrev pub DeclaresOne : core.Statement → core.Variable → Type 0
 DeclaresOne (core.constant_of p x e) y = x ≡ y

@@ -1,11 +1,13 @@
 -- Code that declares each variable once and has no early error, piece by piece.
-use Rattle.std.proofs.Common.{◌≡◌, ◌≤◌, ◌<◌, ℕ, suc, Bool, true, false, ◌&&◌, List, ◌∷◌, Some, None, refl, sym, subst, arith, ⊎_elim}
+use Rattle.std.proofs.Common.{◌≡◌, ◌≤◌, ◌<◌, ℕ, suc, Bool, true, false, ◌&&◌, List, [], ◌∷◌, Some, None, refl, sym, subst, arith, ⊎_elim}
 use Rattle.std.specs.Prelude.{ℤ}
 use Rattle.body_rules.specs.Terms as core
 use Rattle.body_rules.specs.Terms.{followed}
 use Rattle.body_rules.specs.Coercions.{coerced}
-use Rattle.body_rules.specs.Desugar.{finish, has_no_value, branches, tries, break_unless, Branches, one_case, switch_code}
+use Rattle.body_rules.specs.Desugar.{finish, has_no_value, branches, tries, finishes, break_unless, Branches, one_case, switch_code}
 use Rattle.body_rules.specs.Spill.{Destination, discard, to_variable, to_result, Code, no_code, one, put_first, joined, Operand, all_plain, Spilled, spill, spill_case, then_use}
+use Rattle.sj_desugar.specs.Finalizers.{kept, keep_all, give_all_back, finalizer_code}
+use Rattle.sj_trees.specs.Term.{Term}
 use Rattle.sj_trees.specs.declared.positions.Position.{Position}
 use Rattle.sj_trees.specs.declared.types.IrType.{IrType}
 use Rattle.sj_proper.proofs.Declared.{DeclaresOne, Declares, declares-followed}
@@ -117,6 +119,32 @@ branches-good one other own ls b p e c d j g h = good-one own ls b j (d c.next).
 -- a block, and the handler of what it throws, which doesn't define the name of that: lists of their own
 pub tries-good : (one other own : List ℕ → Type 0) (ls : List (List ℕ)) (b : Bool) (p : Position) (x : List ℕ) (c : Code) (d : ℕ → Code) (j : ℕ) → Good one ls b j c → (other x → ⊥) → Good other ls b c.next (d c.next) → Good own ls b j (tries p x c d)
 tries-good one other own ls b p x c d j g fresh h = good-one own ls b j (d c.next).next (core.try_of (Some p) c.statements (core.named x) (d c.next).statements) (let a = g.onward in let k = h.onward in omega arith) (λ y i. i) (g.distinct, g.proper, (λ i. fresh (h.fresh (core.named x) i)), h.distinct, h.proper)
+
+-- a block, and its finalizer: lists of their own
+pub finishes-good : (one other own : List ℕ → Type 0) (ls : List (List ℕ)) (b : Bool) (p : Position) (c : Code) (d : ℕ → Code) (j : ℕ) → Good one ls b j c → Good other ls b c.next (d c.next) → Good own ls b j (finishes p c d)
+finishes-good one other own ls b p c d j g h = good-one own ls b j (d c.next).next (core.finally_of (Some p) c.statements (d c.next).statements) (let a = g.onward in let k = h.onward in omega arith) (λ y i. i) (g.distinct, g.proper, h.distinct, h.proper)
+
+-- what is kept is in variables of the next numbers
+keep-good : (own : List ℕ → Type 0) (ls : List (List ℕ)) (b : Bool) (xs : List core.Variable) (j : ℕ) → Good own ls b j (keep_all xs j)
+keep-good own ls b [] j = good-none own ls b j
+keep-good own ls b (x ∷ xs) j = good-first own ls b j (core.constant_of None (core.numbered j) (core.variable_use x)) (keep_all xs (suc j)) (λ y d. d) tt (keep-good own ls b xs (suc j))
+
+give-good : (own : List ℕ → Type 0) (ls : List (List ℕ)) (b : Bool) (xs : List core.Variable) (j next : ℕ) → Good own ls b next (give_all_back xs j next)
+give-good own ls b [] j next = good-none own ls b next
+give-good own ls b (x ∷ xs) j next = good-front own ls b next (core.assign_to None x (core.variable_use (core.numbered j))) (give_all_back xs (suc j) next) (λ y d. d) tt (give-good own ls b xs (suc j) next)
+
+-- what a finalizer does, between what keeps variables and what gives them back
+pub finalizer-good : (own : List ℕ → Type 0) (ls : List (List ℕ)) (b : Bool) (goes_to : List ℕ → Destination) (f : Term) (j : ℕ) (body : ℕ → Code) → ((i : ℕ) → Good own ls b i (body i)) → Good own ls b j (finalizer_code goes_to f j body)
+finalizer-good own ls b goes_to f j body h = good-joined own no_name own ls b j (joined first second) (give_all_back xs j second.next) (good-joined no_name own own ls b j first second (keep-good no_name ls b xs j) (h first.next) (λ x i k. i) (λ x i. absurd i) (λ x i. i)) (give-good no_name ls b xs j second.next) (λ x i k. k) (λ x i. i) (λ x i. absurd i)
+  where
+    xs : List core.Variable
+    xs = kept goes_to f
+
+    first : Code
+    first = keep_all xs j
+
+    second : Code
+    second = body first.next
 
 -- `if (!c) { break; }` in front, inside a loop
 pub break-good : (own : List ℕ → Type 0) (ls : List (List ℕ)) (j : ℕ) (e : core.Expression) (c : Code) → Good own ls true j c → Good own ls true j (put_first (break_unless e) c)

@@ -17,7 +17,6 @@ use Rattle.sj_proper.specs.Once.{DefinesOnce, IsAmong, AreDistinct}
 use Rattle.sj_proper.proofs.Names.{variables-differ, labels-differ}
 use Rattle.sj_mangling.proofs.FunctionNames.{function_names_differ}
 use Rattle.sj_names.specs.declared.entry_points.EntryPoint.{EntryPoint}
-use Rattle.sj_names.specs.declared.method_names.Member.{Member}
 use Rattle.sj_names.specs.declared.method_names.Namespace.{Namespace}
 use Rattle.sj_names.specs.declared.method_names.Namespace.TheVariants.{Public, PublicStatic, Private, PrivateStatic, Constructor}
 use Rattle.sj_trees.specs.declared.classes.ParamDef.{ParamDef}

@@ -10,7 +10,8 @@ use Rattle.body_rules.specs.Desugar.{callee_of, receiver, received, rest_of, ope
 use Rattle.body_rules.specs.Plain.{is_plain}
 use Rattle.body_rules.specs.Texts.{operand_of}
 use Rattle.body_rules.specs.Spill.{Destination, discard, to_variable, to_result, Code, Operand, no_code, one, put_first, then_code, spill, then_use}
-use Rattle.sj_trees.specs.Term.{Term, Terms, no_terms, more_terms, Cases, no_cases, more_cases, var_def, block_of, labeled, assign, return_to, if_then, while_loop, do_while, throw, try_catch, match_on, new_object, select, select_static, apply, apply_statically, apply_static, unary_op, binary_op, is_instance_of, as_instance_of, undefined_literal, null_literal, boolean_literal, char_literal, byte_literal, short_literal, int_literal, long_literal, string_literal, var_ref, this_ref, log_line, load_module, store_module}
+use Rattle.sj_desugar.specs.Finalizers.{finalizer_code}
+use Rattle.sj_trees.specs.Term.{Term, Terms, no_terms, more_terms, Cases, no_cases, more_cases, var_def, block_of, labeled, assign, return_to, if_then, while_loop, do_while, throw, try_catch, try_finally, match_on, new_object, select, select_static, apply, apply_statically, apply_static, unary_op, binary_op, is_instance_of, as_instance_of, undefined_literal, null_literal, boolean_literal, char_literal, byte_literal, short_literal, int_literal, long_literal, string_literal, var_ref, this_ref, log_line, load_module, store_module}
 use Rattle.sj_names.specs.declared.method_names.Namespace.TheVariants.{Constructor}
 use Rattle.sj_trees.specs.Types.{class_type}
 use Rattle.body_rules.specs.Sure.{is_sure}
@@ -22,7 +23,7 @@ use Rattle.body_rules.specs.Locals.{Own, OwnAll}
 use Rattle.body_rules.proofs.Equal.{equals, is-equal}
 use Rattle.sj_names.proofs.Same.{impossible}
 use Rattle.sj_proper.specs.Once.{IsAmong, Apart, Once, OnceAll, OnceCases}
-use Rattle.sj_proper.proofs.Good.{Good, Part, no_name, good-widen, good-none, good-one, good-joined, good-named, spilled, operand-good, good-use, finish-good, branches-good, tries-good, break-good, GoodCases, case-good-in, switch-good}
+use Rattle.sj_proper.proofs.Good.{Good, Part, no_name, good-widen, good-none, good-one, good-joined, good-named, spilled, operand-good, good-use, finish-good, branches-good, tries-good, finishes-good, finalizer-good, break-good, GoodCases, case-good-in, switch-good}
 
 abbrev IsLeft : Destination → Type 0
 IsLeft (to_result t) = ⊥
@@ -145,6 +146,7 @@ module _ (is_mutable sure : List ℕ → Bool) where
     good (while_loop p c d) = λ around ts ls b k j h em. either-good (Own (while_loop p c d)) ls b (is_plain c) j (wrapped (core.while_of (Some p) (expression_of sure c)) (into is_mutable sure ts discard j d)) (wrapped (core.while_of (Some p) (core.boolean_value true)) (while_code c d ts j)) (let g = good d around ts ls true discard j h.1 em in good-one (Own (while_loop p c d)) ls b j (into is_mutable sure ts discard j d).next (core.while_of (Some p) (expression_of sure c) (into is_mutable sure ts discard j d).statements) g.onward (λ y i. i) (g.distinct, g.proper)) (let g = while_good p c d (good c) (good d) around ts ls j h em in good-one (Own (while_loop p c d)) ls b j (while_code c d ts j).next (core.while_of (Some p) (core.boolean_value true) (while_code c d ts j).statements) g.onward (λ y i. i) (g.distinct, g.proper))
     good (do_while p d c) = λ around ts ls b k j h em. let g = do_good p d c (good d) (good c) around ts ls j h em in good-one (Own (do_while p d c)) ls b j (do_code d c ts j).next (core.loop_of (Some p) (do_code d c ts j).statements) g.onward (λ y i. i) (g.distinct, g.proper)
     good (try_catch p e x d t) = λ around ts ls b k j h em. tries-good (Own e) (Own d) (Own (try_catch p e x d t)) ls b p x (into is_mutable sure ts k j e) (λ j. into is_mutable sure ts k j d) j (good e around ts ls b k j h.2 em) h.1 (good d around ts ls b k (into is_mutable sure ts k j e).next h.3 em)
+    good (try_finally p e d) = λ around ts ls b k j h em. finishes-good (Own e) (Own d) (Own (try_finally p e d)) ls b p (into is_mutable sure ts k j e) (λ j. finalizer_code (target_of ts) d j (λ i. into is_mutable sure ts discard i d)) j (good e around ts ls b k j h.0 em) (finalizer-good (Own d) ls b (target_of ts) d (into is_mutable sure ts k j e).next (λ i. into is_mutable sure ts discard i d) (λ i. good d around ts ls b discard i h.1 em))
     good (match_on p e cs d t) = λ around ts ls b k j h em. act_good e (good e) (Own (match_on p e cs d t)) (λ x o. inl o) around ts ls b j (λ es j. switch_code p (first_of es) (cases is_mutable sure ts k j cs) (λ j. into is_mutable sure ts k j d)) h.0 em (λ es i. switch-good no_name (Own d) ls b p (first_of es) (cases is_mutable sure ts k i cs) (λ j. into is_mutable sure ts k j d) i (good_cases cs around ts ls k i h.1 em) (good d around ts ls true k (cases is_mutable sure ts k i cs).next h.2 em))
     good (apply_static p c n m es t) = λ around ts ls b k j h em. good-use (OwnAll es) no_name (OwnAll es) ls b (operands is_mutable sure ts es) (λ xs. finish k p t false (core.static_call (member c n m) (expressions_of (coerced_arguments m.params (types_of es) xs)))) j (good_operands es around ts ls b h em j) (λ xs i. finish-good no_name ls b k p t false (core.static_call (member c n m) (expressions_of (coerced_arguments m.params (types_of es) xs))) i) (nothing_apart (OwnAll es)) (all_part (OwnAll es)) (no_part (OwnAll es))
     good (apply p e m es t) = λ around ts ls b k j h em. good-use (Own (apply p e m es t)) no_name (Own (apply p e m es t)) ls b (receiver_in e ts ∷ operands is_mutable sure ts es) (λ xs. finish k p t false (core.receiver_call (callee_of (type_of_term e) m) (coerced_receiver (type_of_term e) (first_of xs)) (expressions_of (coerced_arguments m.params (types_of es) (rest_of xs))))) j (receiver_first e (good e) (OwnAll es) (Own (apply p e m es t)) (operands is_mutable sure ts es) h.2 (λ x o. inl o) (λ x o. inr o) around ts ls b h.0 em (good_operands es around ts ls b h.1 em) j) (λ xs i. finish-good no_name ls b k p t false (core.receiver_call (callee_of (type_of_term e) m) (coerced_receiver (type_of_term e) (first_of xs)) (expressions_of (coerced_arguments m.params (types_of es) (rest_of xs)))) i) (nothing_apart (Own (apply p e m es t))) (all_part (Own (apply p e m es t))) (no_part (Own (apply p e m es t)))

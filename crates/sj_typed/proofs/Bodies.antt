@@ -22,7 +22,7 @@ use Rattle.sj_kept.specs.Locals.{local_of, HasValue}
 use Rattle.sj_kept.specs.Typing as scenes
 use Rattle.sj_kept.specs.Once.{Once, OnceAll, OnceCases}
 use Rattle.sj_kept.specs.Methods.{scene_of, KeepsRules}
-use Rattle.sj_trees.specs.Term.{Term, Terms, no_terms, more_terms, Cases, no_cases, more_cases, var_def, skip, block_of, labeled, assign, return_to, if_then, while_loop, do_while, throw, try_catch, match_on, new_object, select, select_static, apply, apply_statically, apply_static, unary_op, binary_op, is_instance_of, as_instance_of, undefined_literal, null_literal, boolean_literal, char_literal, byte_literal, short_literal, int_literal, long_literal, string_literal, var_ref, this_ref, log_line, load_module, store_module}
+use Rattle.sj_trees.specs.Term.{Term, Terms, no_terms, more_terms, Cases, no_cases, more_cases, var_def, skip, block_of, labeled, assign, return_to, if_then, while_loop, do_while, throw, try_catch, try_finally, match_on, new_object, select, select_static, apply, apply_statically, apply_static, unary_op, binary_op, is_instance_of, as_instance_of, undefined_literal, null_literal, boolean_literal, char_literal, byte_literal, short_literal, int_literal, long_literal, string_literal, var_ref, this_ref, log_line, load_module, store_module}
 use Rattle.sj_trees.specs.declared.classes.ClassDef.{ClassDef}
 use Rattle.sj_trees.specs.declared.classes.MethodDef.{MethodDef}
 use Rattle.sj_trees.specs.declared.classes.ParamDef.{ParamDef}
@@ -128,6 +128,11 @@ module _ (w : Classes) (has : Usable) where
         let q = and_parts has.objects (is_built has (may_check has s.sure) e && is_built has (may_check has s.sure) d) built in
         let parts = and_parts (is_built has (may_check has s.sure) e) (is_built has (may_check has s.sure) d) q.1 in
         (record { meets = own s.space s.labels n (try_catch p e v d t) all; built = q.0; finds = o.1 }, typed e x x s a (n + 1) refl c first.0 first.1 o.2 parts.0 listed.0 (one s.space s.labels (n + 1) e d met), typed d handler handler (catching v s) a (n + 1 + size e) refl (scope-behind x.scope s.locals (record { name = v; «mutable» = false; tpe = Any }) c) later.0 later.1 o.3 parts.1 listed.2 (other s.space s.labels (n + 1) e d met))
+    typed (try_finally p e d) x y s a n z c k h o built listed all =
+        let met = inner s.space s.labels n (try_finally p e d) all in
+        let later = keep-behind s.owner s.space (At x e) (At x d) h in
+        let parts = and_parts (is_built has (may_check has s.sure) e) (is_built has (may_check has s.sure) d) built in
+        (record { meets = own s.space s.labels n (try_finally p e d) all; built = refl; finds = tt }, typed e x x s a (n + 1) refl c h.0 (keep-front s.owner s.space (below x e) (At x d) h.1) o.0 parts.0 listed.0 (one s.space s.labels (n + 1) e d met), typed d x x s a (n + 1 + size e) refl c later.0 later.1 o.1 parts.1 listed.1 (other s.space s.labels (n + 1) e d met))
     typed (match_on p e cs d t) x y s a n z c k h o built listed all =
         let met = inner s.space s.labels n (match_on p e cs d t) all in
         let i = n + 1 + size e in
