@@ -38,6 +38,7 @@ use Rattle.sj_names.specs.declared.references.TypeRef.{TypeRef}
 use Rattle.sj_bodies.specs.Standing.{types_referred, call_type}
 use Rattle.sj_bodies.proofs.Mutable.{mutable-known, parameter-known}
 use Rattle.sj_bodies.specs.Built.{Usable}
+use Rattle.sj_bodies.proofs.Placed.{anywhere}
 use Rattle.sj_bodies.specs.Fine.{Fine, Asks, no_labels}
 use Rattle.sj_trees.specs.Term.{Term}
 use Rattle.sj_trees.specs.declared.classes.MethodDef.{MethodDef}
@@ -64,7 +65,7 @@ Kept is_mutable scope (core.numbered k) = ⊥
 Kept is_mutable scope core.receiver = Unit {0}
 
 abbrev pub start : (List ℕ → Bool) → List ParamDef → Context
-start is_mutable ds = record { scope = parameters_of ds; writable = λ y. ⊥; kept = Kept is_mutable (IsParameter ds); targets = []; reaches = λ l. Unit {0}; turning = ⊥ }
+start is_mutable ds = record { scope = parameters_of ds; writable = λ y. ⊥; written = λ y. ⊥; kept = Kept is_mutable (IsParameter ds); targets = []; reaches = λ l. Unit {0}; tries = Unit {0}; turning = ⊥ }
 
 pub sound-start : (is_mutable : List ℕ → Bool) (ds : List ParamDef) → Sound is_mutable (start is_mutable ds)
 sound-start is_mutable ds = record {
@@ -72,7 +73,10 @@ sound-start is_mutable ds = record {
   constant = λ x t g m. (named_parameter ds x t g, m);
   changing = λ x t g k m. impossible (sym k.1 ∙ m);
   alone = one_type ds;
+  within = λ y wr. wr;
+  aims = λ l. tt;
   reached = λ l r. tt;
+  apart = λ t y k wr. wr;
   receiver = tt;
   received = λ wr. wr;
 }
@@ -113,8 +117,8 @@ pub body-fine : (w : Classes) (has : Usable) (file : Name) (c : List ℕ) (d : M
 body-fine w has file c d e r = record {
   scene = scene_of c d e;
   around = [];
-  once = r.once.once;
-  amid = record { surely = refl; owned = refl; seen = λ x t h. h; values = r.values; changing = λ x p i m. parameter-known d e x p i m; targets = λ l t e. no_type e; reaches = λ l. tt };
+  once = anywhere (λ l. Unit {0}) (Unit {0}) [] (λ l. tt) tt e r.once.once;
+  amid = record { surely = refl; owned = refl; seen = λ x t h. h; values = r.values; changing = λ x p i m. parameter-known d e x p i m; targets = λ l t e. no_type e };
   written = mutable-known d e;
   asks = asks-result w e d.result (result_destination d.result) (way d.result) r.yields;
   typed = r.typed;
