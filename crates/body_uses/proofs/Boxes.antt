@@ -15,6 +15,7 @@ use Rattle.sj_core.specs.Terms.{Expression, boxed_char, checked_value, followed}
 use Rattle.sj_core.specs.Views.{expressions_of}
 use Rattle.sj_desugar.specs.Coercions.{is_char, coerced, coerced_arguments, coerced_receiver}
 use Rattle.sj_desugar.specs.Desugar.{operand, receiver, received, received_text, into, block, operands, cases, finish, target_of, Targets, expression_of, all_expressions, wrapped, break_unless, first_of, second_of, rest_of, member, types_of, callee_of}
+use Rattle.sj_desugar.specs.Finalizers.{kept, keep_all, finalizer_code}
 use Rattle.sj_desugar.specs.Plain.{is_no_type, is_plain, are_plain}
 use Rattle.sj_desugar.specs.Spill.{Destination, discard, to_variable, to_result, Code, one, put_first, Operand, Spilled, spill, then_use}
 use Rattle.sj_desugar.specs.Texts.{operand_of}
@@ -23,7 +24,7 @@ use Rattle.sj_emit_expr.specs.Uses.{object_binding, function_binding, class_use,
 use Rattle.sj_names.proofs.Same.{impossible}
 use Rattle.sj_names.specs.declared.method_names.Namespace.TheVariants.{Constructor}
 use Rattle.sj_names.specs.declared.references.TypeRef.{TypeRef}
-use Rattle.sj_trees.specs.Term.{Term, Terms, no_terms, more_terms, Cases, no_cases, more_cases, var_def, block_of, labeled, assign, return_to, if_then, while_loop, do_while, try_catch, match_on, throw, new_object, load_module, store_module, select, select_static, apply_statically, apply_static, unary_op, binary_op, is_instance_of, as_instance_of, char_literal, var_ref, this_ref, log_line, apply}
+use Rattle.sj_trees.specs.Term.{Term, Terms, no_terms, more_terms, Cases, no_cases, more_cases, var_def, block_of, labeled, assign, return_to, if_then, while_loop, do_while, try_catch, try_finally, match_on, throw, new_object, load_module, store_module, select, select_static, apply_statically, apply_static, unary_op, binary_op, is_instance_of, as_instance_of, char_literal, var_ref, this_ref, log_line, apply}
 use Rattle.sj_trees.specs.TypeOf.{type_of_term, unary_result, binary_result}
 use Rattle.sj_trees.specs.Types.{class_type, reference_type}
 use Rattle.sj_trees.specs.declared.operators.BinaryOp.{BinaryOp}
@@ -32,7 +33,7 @@ use Rattle.sj_trees.specs.declared.positions.Position.{Position}
 use Rattle.sj_trees.specs.declared.types.IrType.{IrType}
 use Rattle.sj_trees.specs.declared.types.IrType.TheVariants.{Any, Boolean, Char}
 use Rattle.sure_receivers.specs.Sure.{is_sure}
-use Rattle.body_uses.proofs.Uses.{fixed_plain, spill_count, front, back, In, InAll, Within, only, followed_parts, uncoerced, arguments_in, operand_in, Written, as_text, as_code, AllWritten, spill_in, one_in, two_in, first_and_rest, finished, labeled_in, leaving_in, break_in}
+use Rattle.body_uses.proofs.Uses.{fixed_plain, spill_count, front, back, In, InAll, Within, only, followed_parts, uncoerced, arguments_in, operand_in, Written, as_text, as_code, AllWritten, spill_in, one_in, two_in, first_and_rest, finished, labeled_in, leaving_in, finalizer_in, break_in}
 
 either : {A : Type 0} (a b : Bool) → (a || b) ≡ true → (a ≡ true → A) → (b ≡ true → A) → A
 either true b h f g = f refl
@@ -266,6 +267,11 @@ module _ (U : Binding → Type 0) (runs : Lookup) where
             let handler : Code = into is_mutable sure ts k block.next d in
             let inside = only U runs (core.try_of (Some p) block.statements (core.named x) handler.statements) h in
             either (boxes (goals_of ts) (goal_of k) e) (boxes (goals_of ts) (goal_of k) d) i (tree e ts k j (front U runs (uses_of_all runs block.statements) (uses_of_all runs handler.statements) inside)) (tree d ts k block.next (back U runs (uses_of_all runs block.statements) (uses_of_all runs handler.statements) inside))
+        tree (try_finally p e d) ts k j h i =
+            let block : Code = into is_mutable sure ts k j e in
+            let finalizer : Code = finalizer_code (target_of ts) d block.next (λ i. into is_mutable sure ts discard i d) in
+            let inside = only U runs (core.finally_of (Some p) block.statements finalizer.statements) h in
+            either (boxes (goals_of ts) (goal_of k) e) (boxes (goals_of ts) Goal.given_up d) i (tree e ts k j (front U runs (uses_of_all runs block.statements) (uses_of_all runs finalizer.statements) inside)) (tree d ts discard (keep_all (kept (target_of ts) d) block.next).next (finalizer_in U runs (target_of ts) d block.next (λ i. into is_mutable sure ts discard i d) (back U runs (uses_of_all runs block.statements) (uses_of_all runs finalizer.statements) inside)))
         tree (throw p e) ts k j h i =
             let s : Spilled = spill (one_of ts e) j in
             let last = core.throw_of (Some p) (coerced Any (type_of_term e) (first_of s.expressions)) in

@@ -17,6 +17,7 @@ use Rattle.sj_core.specs.declared.callees.Callee.{Callee}
 use Rattle.sj_core.specs.declared.callees.Callee.TheVariants as callees
 use Rattle.sj_desugar.specs.Coercions.{is_char, coerced, coerced_arguments, coerced_receiver}
 use Rattle.sj_desugar.specs.Desugar.{operand, receiver, received, received_text, into, block, operands, cases, finish, has_no_value, target_of, Targets, expression_of, all_expressions, labeled_code, leaving_code, wrapped, break_unless, first_of, second_of, rest_of, member, types_of, callee_of}
+use Rattle.sj_desugar.specs.Finalizers.{kept, keep_all, give_all_back, finalizer_code}
 use Rattle.sj_desugar.specs.Plain.{is_no_type, is_plain, are_plain, is_fixed}
 use Rattle.sj_desugar.specs.Spill.{Destination, discard, to_variable, to_result, Code, one, put_first, Operand, all_plain, texts, Spilled, spill, spill_case, then_use}
 use Rattle.sj_desugar.specs.Texts.{operand_of}
@@ -34,7 +35,7 @@ use Rattle.sj_names.specs.declared.method_names.MethodName.{MethodName}
 use Rattle.sj_names.specs.declared.method_names.Namespace.{Namespace}
 use Rattle.sj_names.specs.declared.method_names.Namespace.TheVariants.{Public, Private, Constructor}
 use Rattle.sure_receivers.specs.Sure.{is_sure}
-use Rattle.sj_trees.specs.Term.{Term, Terms, no_terms, more_terms, Cases, no_cases, more_cases, var_def, skip, block_of, labeled, assign, return_to, if_then, while_loop, do_while, try_catch, match_on, throw, new_object, load_module, store_module, select, select_static, apply_statically, apply_static, unary_op, binary_op, is_instance_of, as_instance_of, undefined_literal, null_literal, boolean_literal, char_literal, byte_literal, short_literal, int_literal, long_literal, string_literal, var_ref, this_ref, log_line, apply}
+use Rattle.sj_trees.specs.Term.{Term, Terms, no_terms, more_terms, Cases, no_cases, more_cases, var_def, skip, block_of, labeled, assign, return_to, if_then, while_loop, do_while, try_catch, try_finally, match_on, throw, new_object, load_module, store_module, select, select_static, apply_statically, apply_static, unary_op, binary_op, is_instance_of, as_instance_of, undefined_literal, null_literal, boolean_literal, char_literal, byte_literal, short_literal, int_literal, long_literal, string_literal, var_ref, this_ref, log_line, apply}
 use Rattle.sj_trees.specs.TypeOf.{type_of_term, unary_result, binary_result}
 use Rattle.sj_trees.specs.Types.{class_type, reference_type}
 use Rattle.sj_trees.specs.declared.operators.BinaryOp.{BinaryOp}
@@ -251,6 +252,14 @@ module _ (U : Binding → Type 0) (runs : Lookup) where
       go true h = only (core.evaluate_of (Some p) e) h
       go false h = uncoerced expected t e (only (core.return_of (Some p) (coerced expected t e)) h)
 
+  -- what keeps variables and gives them back lies around the code of a finalizer
+  pub finalizer_in : (goes_to : List ℕ → Destination) (d : Term) (j : ℕ) (body : ℕ → Code) → Within (finalizer_code goes_to d j body).statements → Within (body (keep_all (kept goes_to d) j).next).statements
+  finalizer_in goes_to d j body h =
+      let ahead : Code = keep_all (kept goes_to d) j in
+      let code : Code = body ahead.next in
+      let last : Code = give_all_back (kept goes_to d) j code.next in
+      (followed_parts ahead.statements code.statements (followed_parts (followed ahead.statements code.statements) last.statements h).0).1
+
   pub labeled_in : (k : Destination) (p : Position) (l : List ℕ) (c : Code) → Within (labeled_code k p l c).statements → Within c.statements
   labeled_in (to_result t) p l c h = h
   labeled_in discard p l c h = only (core.labeled_of (Some p) l c.statements) h
@@ -382,6 +391,7 @@ module _ (U : Binding → Type 0) (runs : Lookup) where
     literal (return_to p e n) q k l = impossible q
     literal (while_loop p c b) q k l = impossible q
     literal (try_catch p e x d t) q k l = impossible q
+    literal (try_finally p e d) q k l = impossible q
     literal (do_while p b c) q k l = impossible q
     literal (match_on p e cs d t) q k l = impossible q
     literal (throw p e) q k l = impossible q
@@ -559,6 +569,7 @@ module _ (U : Binding → Type 0) (runs : Lookup) where
       plain (return_to p e l) q k g h = impossible q
       plain (while_loop p c b) q k g h = impossible q
       plain (try_catch p e x d t) q k g h = impossible q
+      plain (try_finally p e d) q k g h = impossible q
       plain (do_while p b c) q k g h = impossible q
       plain (match_on p e cs d t) q k g h = impossible q
       plain (log_line p e) q k g h = impossible q
@@ -694,6 +705,13 @@ module _ (U : Binding → Type 0) (runs : Lookup) where
             let inside = only (core.try_of (Some p) block.statements (core.named x) handler.statements) h in
             let g0 = two e d (inner (try_catch p e x d t) g) in
             and_from (has.objects) (new e && new d) (objects k0.0) (and_from (new e) (new d) (tree e ts k j k1.0 g0.0 (front (uses_of_all runs block.statements) (uses_of_all runs handler.statements) inside)) (tree d ts k block.next k1.1 g0.1 (back (uses_of_all runs block.statements) (uses_of_all runs handler.statements) inside)))
+        tree (try_finally p e d) ts k j q g h =
+            let k0 = and_parts (old e) (old d) q in
+            let block : Code = into is_mutable sure ts k j e in
+            let finalizer : Code = finalizer_code (target_of ts) d block.next (λ i. into is_mutable sure ts discard i d) in
+            let inside = only (core.finally_of (Some p) block.statements finalizer.statements) h in
+            let g0 = two e d (inner (try_finally p e d) g) in
+            and_from (new e) (new d) (tree e ts k j k0.0 g0.0 (front (uses_of_all runs block.statements) (uses_of_all runs finalizer.statements) inside)) (tree d ts discard (keep_all (kept (target_of ts) d) block.next).next k0.1 g0.1 (finalizer_in (target_of ts) d block.next (λ i. into is_mutable sure ts discard i d) (back (uses_of_all runs block.statements) (uses_of_all runs finalizer.statements) inside)))
         tree (throw p e) ts k j q g h =
             let k0 = and_parts (from.objects) (old e) q in
             let s : Spilled = spill (one_of ts e) j in

@@ -6,7 +6,7 @@ use Rattle.sj_names.specs.declared.method_names.Namespace.TheVariants.{Public, P
 use Rattle.sj_names.specs.declared.references.BaseRef.{BaseRef}
 use Rattle.sj_names.specs.declared.references.TypeRef.{TypeRef}
 use Rattle.sj_trees.specs.Erase.{nowhere}
-use Rattle.sj_trees.specs.Term.{Term, no_terms, more_terms, no_cases, more_cases, var_def, load_module, store_module, new_array, skip, block_of, labeled, assign, return_to, if_then, try_catch, match_on, throw, new_object, select, select_static, apply, apply_statically, apply_static, this_ref, binary_op, is_instance_of, as_instance_of, char_literal, int_literal, long_literal, var_ref}
+use Rattle.sj_trees.specs.Term.{Term, no_terms, more_terms, no_cases, more_cases, var_def, load_module, store_module, new_array, skip, block_of, labeled, assign, return_to, if_then, try_catch, try_finally, match_on, throw, new_object, select, select_static, apply, apply_statically, apply_static, this_ref, binary_op, is_instance_of, as_instance_of, char_literal, int_literal, long_literal, var_ref}
 use Rattle.sj_trees.specs.declared.classes.MethodDef.{MethodDef}
 use Rattle.sj_trees.specs.declared.operators.BinaryOp.{BinaryOp}
 use Rattle.sj_trees.specs.declared.operators.BinaryOp.TheVariants.{StrictEqual, StrictNotEqual, IntDivide, IntEqual, LongRemainder}
@@ -51,6 +51,10 @@ storing value = store_module nowhere (codes "A") value
 -- what the block throws is caught for the handler
 abbrev pub catching : Term → Term → Term
 catching block handler = try_catch nowhere block (codes "e") handler NoType
+
+-- behind the block the finalizer runs
+abbrev pub finalizing : Term → Term → Term
+finalizing block finalizer = try_finally nowhere block finalizer
 
 abbrev pub catching_value : Term → Term → Term
 catching_value block handler = try_catch nowhere block (codes "e") handler Any
@@ -165,6 +169,9 @@ pub record WorkedForms : Type 0 where
   pub catches_in_what_is_not_built : not_built (static (catching unbuilt nothing)) ≡ true
   pub catches_for_what_is_not_built : not_built (static (catching nothing unbuilt)) ≡ true
   pub catches_without_objects : is_built anything (λ e. true) (catching nothing nothing) ≡ false
+  pub finalizes : not_built (static (finalizing nothing nothing)) ≡ false
+  pub finalizes_what_is_not_built : not_built (static (finalizing unbuilt nothing)) ≡ true
+  pub finalizes_by_what_is_not_built : not_built (static (finalizing nothing unbuilt)) ≡ true
   pub throws_a_char : not_built (static (throw nowhere letter)) ≡ false
   pub calls_a_private_method : not_built (static (direct Private object NoType)) ≡ false
   pub calls_a_private_method_on_a_char : not_built (static (direct Private letter NoType)) ≡ false
@@ -240,6 +247,8 @@ pub record WorkedForms : Type 0 where
   pub char_that_is_caught_for : makes_box Any (catching_value letter (number 1)) ≡ true
   pub char_of_a_handler : makes_box Any (catching_value (number 1) letter) ≡ true
   pub char_of_neither : makes_box Any (catching_value (number 1) (number 2)) ≡ false
+  pub char_that_is_finalized : makes_box Any (finalizing letter (number 1)) ≡ true
+  pub char_of_a_finalizer : makes_box Any (finalizing (number 1) letter) ≡ false
   pub throws_a_char_itself : makes_box NoType (throw nowhere letter) ≡ true
   pub branch_is_a_char : makes_box Any (choice Any letter (number 1)) ≡ true
   pub branch_is_a_char_given_up : makes_box NoType (choice Any (two nothing letter) (number 1)) ≡ false

@@ -9,7 +9,7 @@ use Rattle.linked_folders.specs.Built.{Usable, can_call, stands, is_built, are_b
 use Rattle.linked_folders.proofs.WrittenTrees.{written, written_below, all_written, cases_written}
 use Rattle.sj_desugar.specs.Desugar.{callee_of}
 use Rattle.sj_names.proofs.Same.{impossible}
-use Rattle.sj_trees.specs.Term.{Term, Terms, no_terms, more_terms, Cases, no_cases, more_cases, var_def, block_of, labeled, assign, return_to, if_then, while_loop, do_while, try_catch, match_on, throw, new_object, store_module, select, select_static, apply, apply_statically, apply_static, unary_op, binary_op, is_instance_of, as_instance_of, var_ref, log_line}
+use Rattle.sj_trees.specs.Term.{Term, Terms, no_terms, more_terms, Cases, no_cases, more_cases, var_def, block_of, labeled, assign, return_to, if_then, while_loop, do_while, try_catch, try_finally, match_on, throw, new_object, store_module, select, select_static, apply, apply_statically, apply_static, unary_op, binary_op, is_instance_of, as_instance_of, var_ref, log_line}
 use Rattle.sj_trees.specs.TypeOf.{type_of_term}
 
 abbrev pub Called : Usable → Term → Type 0
@@ -53,6 +53,7 @@ module _ (has : Usable) (checked : Term → Bool) where
     each_called (while_loop p c b) h = let inside = and_parts (built c) (built b) h in top (while_loop p c b) tt (pair (written c) (written b) (each_called c inside.0) (each_called b inside.1))
     each_called (do_while p b c) h = let inside = and_parts (built b) (built c) h in top (do_while p b c) tt (pair (written b) (written c) (each_called b inside.0) (each_called c inside.1))
     each_called (try_catch p e x d t) h = let inside = and_parts (built e) (built d) (and_parts (own (try_catch p e x d t)) (built e && built d) h).1 in top (try_catch p e x d t) tt (pair (written e) (written d) (each_called e inside.0) (each_called d inside.1))
+    each_called (try_finally p e d) h = let inside = and_parts (built e) (built d) h in top (try_finally p e d) tt (pair (written e) (written d) (each_called e inside.0) (each_called d inside.1))
     each_called (throw p e) h = top (throw p e) tt (each_called e (and_parts (own (throw p e)) (built e) h).1)
     each_called (match_on p e cs d t) h =
         let first = and_parts (built e) (are_built_cases has checked cs && built d) h in

@@ -5,7 +5,7 @@ use Rattle.std.proofs.lemmas.Bool.{and_parts}
 use Rattle.code_vectors.specs.Forms.{is_built_operator, is_public, is_object, is_built, are_built, are_built_cases, is_built_body}
 use Rattle.sj_names.proofs.Same.{impossible}
 use Rattle.sj_pieces.specs.Owners.{OnObjects, AllOnObjects, CasesOnObjects, BodyOnObjects}
-use Rattle.sj_trees.specs.Term.{Term, Terms, no_terms, more_terms, Cases, no_cases, more_cases, var_def, block_of, labeled, assign, return_to, if_then, while_loop, do_while, throw, try_catch, match_on, new_object, load_module, store_module, select, select_static, apply, apply_statically, apply_static, unary_op, binary_op, is_instance_of, as_instance_of, var_ref, this_ref, log_line}
+use Rattle.sj_trees.specs.Term.{Term, Terms, no_terms, more_terms, Cases, no_cases, more_cases, var_def, block_of, labeled, assign, return_to, if_then, while_loop, do_while, throw, try_catch, try_finally, match_on, new_object, load_module, store_module, select, select_static, apply, apply_statically, apply_static, unary_op, binary_op, is_instance_of, as_instance_of, var_ref, this_ref, log_line}
 use Rattle.sj_trees.specs.TypeOf.{type_of_term}
 use Rattle.sj_trees.specs.Types.{class_type}
 use Rattle.sj_trees.specs.declared.positions.Position.{Position}
@@ -51,6 +51,7 @@ mutual
   on_objects (while_loop p c b) h = let q = and_parts (is_built c) (is_built b) h in (on_objects c q.0, on_objects b q.1)
   on_objects (do_while p b c) h = let q = and_parts (is_built b) (is_built c) h in (on_objects b q.0, on_objects c q.1)
   on_objects (try_catch p e x d t) h = let q = and_parts (is_built e) (is_built d) h in (on_objects e q.0, on_objects d q.1)
+  on_objects (try_finally p e d) h = let q = and_parts (is_built e) (is_built d) h in (on_objects e q.0, on_objects d q.1)
   on_objects (throw p e) h = on_objects e h
   on_objects (match_on p e cs d t) h =
       let q = and_parts (is_built e) (are_built_cases cs && is_built d) h in

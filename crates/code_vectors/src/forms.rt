@@ -46,7 +46,8 @@ fn is_built_tree(tree: &Tree) -> bool
         Tree::Assign(_, first, second)
         | Tree::While(_, first, second)
         | Tree::DoWhile(_, first, second)
-        | Tree::TryCatch(_, first, _, second, _) => is_built_tree(first) && is_built_tree(second),
+        | Tree::TryCatch(_, first, _, second, _)
+        | Tree::TryFinally(_, first, second) => is_built_tree(first) && is_built_tree(second),
         Tree::If(_, condition, yes, no, _) => {
             is_built_tree(condition) && is_built_tree(yes) && is_built_tree(no)
         }
@@ -70,8 +71,7 @@ fn is_built_tree(tree: &Tree) -> bool
         | Tree::StringLiteral(_, _)
         | Tree::VarRef(_, _, _)
         | Tree::This(_, _) => true,
-        Tree::TryFinally(_, _, _)
-        | Tree::Apply(_, _, _, _, _)
+        Tree::Apply(_, _, _, _, _)
         | Tree::NewArray(_, _, _)
         | Tree::ArrayValue(_, _, _)
         | Tree::ArrayLength(_, _)

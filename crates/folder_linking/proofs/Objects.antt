@@ -26,7 +26,7 @@ use Rattle.sj_names.specs.declared.folders.SourceFile.{SourceFile}
 use Rattle.sj_pieces.specs.Keys.{HasKeys}
 use Rattle.sj_pieces.specs.Owners.{OnObjects, AllOnObjects, CasesOnObjects, BodyOnObjects, FieldsHaveOwners}
 use Rattle.body_soundness.specs.Emitted.{EmittedMethod}
-use Rattle.sj_trees.specs.Term.{Term, Terms, no_terms, more_terms, Cases, no_cases, more_cases, var_def, block_of, labeled, assign, return_to, if_then, while_loop, do_while, throw, try_catch, match_on, new_object, store_module, select, select_static, apply, apply_statically, apply_static, unary_op, binary_op, is_instance_of, as_instance_of, var_ref, log_line}
+use Rattle.sj_trees.specs.Term.{Term, Terms, no_terms, more_terms, Cases, no_cases, more_cases, var_def, block_of, labeled, assign, return_to, if_then, while_loop, do_while, throw, try_catch, try_finally, match_on, new_object, store_module, select, select_static, apply, apply_statically, apply_static, unary_op, binary_op, is_instance_of, as_instance_of, var_ref, log_line}
 use Rattle.sj_trees.specs.TypeOf.{type_of_term}
 use Rattle.sj_trees.specs.Types.{class_type}
 use Rattle.sj_trees.specs.declared.classes.ClassDef.{ClassDef}
@@ -68,6 +68,7 @@ mutual
   on_objects (while_loop p c b) h = let all = All-tail IsOfObject (while_loop p c b) (trees c ++ trees b) h in (on_objects c (ahead IsOfObject (trees c) (trees b) all), on_objects b (after IsOfObject (trees c) (trees b) all))
   on_objects (do_while p b c) h = let all = All-tail IsOfObject (do_while p b c) (trees b ++ trees c) h in (on_objects b (ahead IsOfObject (trees b) (trees c) all), on_objects c (after IsOfObject (trees b) (trees c) all))
   on_objects (try_catch p e x d t) h = let all = All-tail IsOfObject (try_catch p e x d t) (trees e ++ trees d) h in (on_objects e (ahead IsOfObject (trees e) (trees d) all), on_objects d (after IsOfObject (trees e) (trees d) all))
+  on_objects (try_finally p e d) h = let all = All-tail IsOfObject (try_finally p e d) (trees e ++ trees d) h in (on_objects e (ahead IsOfObject (trees e) (trees d) all), on_objects d (after IsOfObject (trees e) (trees d) all))
   on_objects (throw p e) h = on_objects e (All-tail IsOfObject (throw p e) (trees e) h)
   on_objects (match_on p e cs d t) h =
       let all = All-tail IsOfObject (match_on p e cs d t) ((trees e ++ cases_below cs) ++ trees d) h in

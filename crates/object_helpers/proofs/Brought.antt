@@ -14,6 +14,7 @@ use Rattle.sj_core.specs.Terms.{Expression, followed}
 use Rattle.sj_core.specs.Views.{expressions_of}
 use Rattle.sj_desugar.specs.Coercions.{is_char, coerced, coerced_arguments, coerced_receiver}
 use Rattle.sj_desugar.specs.Desugar.{operand, receiver, received, received_text, into, block, operands, cases, finish, has_no_value, target_of, Targets, expression_of, all_expressions, labeled_code, leaving_code, wrapped, branches, break_unless, switch_code, first_of, second_of, rest_of, member, types_of, callee_of}
+use Rattle.sj_desugar.specs.Finalizers.{kept, keep_all, give_all_back, finalizer_code}
 use Rattle.sj_desugar.specs.Plain.{is_plain}
 use Rattle.sj_desugar.specs.Spill.{Destination, discard, to_variable, to_result, Code, one, put_first, Operand, all_plain, texts, Spilled, spill, spill_case, then_use}
 use Rattle.sj_desugar.specs.Texts.{text_of, operand_of}
@@ -23,7 +24,7 @@ use Rattle.sj_infos.specs.Infos.{is_other_than_zero}
 use Rattle.sj_names.proofs.Same.{impossible}
 use Rattle.sj_names.specs.declared.method_names.Namespace.TheVariants.{Constructor}
 use Rattle.sj_names.specs.declared.references.TypeRef.{TypeRef}
-use Rattle.sj_trees.specs.Term.{Term, Terms, no_terms, more_terms, Cases, no_cases, more_cases, var_def, block_of, labeled, assign, return_to, if_then, while_loop, do_while, try_catch, match_on, throw, new_object, load_module, store_module, select, select_static, apply_statically, apply_static, unary_op, binary_op, is_instance_of, as_instance_of, undefined_literal, null_literal, boolean_literal, char_literal, byte_literal, short_literal, int_literal, long_literal, string_literal, var_ref, this_ref, log_line, apply}
+use Rattle.sj_trees.specs.Term.{Term, Terms, no_terms, more_terms, Cases, no_cases, more_cases, var_def, block_of, labeled, assign, return_to, if_then, while_loop, do_while, try_catch, try_finally, match_on, throw, new_object, load_module, store_module, select, select_static, apply_statically, apply_static, unary_op, binary_op, is_instance_of, as_instance_of, undefined_literal, null_literal, boolean_literal, char_literal, byte_literal, short_literal, int_literal, long_literal, string_literal, var_ref, this_ref, log_line, apply}
 use Rattle.sj_trees.specs.TypeOf.{type_of_term, unary_result, binary_result}
 use Rattle.sj_trees.specs.Types.{class_type, reference_type}
 use Rattle.sj_trees.specs.declared.operators.BinaryOp.{BinaryOp}
@@ -324,6 +325,24 @@ module _ (Q : Binding → Type 0) (runs : Lookup) (box : Q (object_binding (code
     try_in : (p : Position) (x : List ℕ) (first second : core.Statements) → Within first → Within second → Within (core.statement (core.try_of (Some p) first (core.named x) second) core.no_statements)
     try_in p x first second h k = alone (core.try_of (Some p) first (core.named x) second) (join (uses_of_all runs first) (uses_of_all runs second) h k)
 
+    finally_in : (p : Position) (first second : core.Statements) → Within first → Within second → Within (core.statement (core.finally_of (Some p) first second) core.no_statements)
+    finally_in p first second h k = alone (core.finally_of (Some p) first second) (join (uses_of_all runs first) (uses_of_all runs second) h k)
+
+    keep_in : (xs : List core.Variable) (j : ℕ) → Within (keep_all xs j).statements
+    keep_in [] j = none
+    keep_in (x ∷ xs) j = keep_in xs (suc j)
+
+    give_in : (xs : List core.Variable) (j next : ℕ) → Within (give_all_back xs j next).statements
+    give_in [] j next = none
+    give_in (x ∷ xs) j next = give_in xs (suc j) next
+
+    -- what keeps variables and gives them back uses nothing
+    finalizer_in : (goes_to : List ℕ → Destination) (d : Term) (j : ℕ) (body : ℕ → Code) → ((i : ℕ) → Within (body i).statements) → Within (finalizer_code goes_to d j body).statements
+    finalizer_in goes_to d j body h =
+        let front : Code = keep_all (kept goes_to d) j in
+        let code : Code = body front.next in
+        followed_in (followed front.statements code.statements) (give_all_back (kept goes_to d) j code.next).statements (followed_in front.statements code.statements (keep_in (kept goes_to d) j) (h front.next)) (give_in (kept goes_to d) j code.next)
+
     branch_in : (p : Position) (e : Expression) (first second : core.Statements) → In e → Within first → Within second → Within (core.statement (core.if_of (Some p) e first second) core.no_statements)
     branch_in p e first second h k l = alone (core.if_of (Some p) e first second) (join (uses_in runs e ++ uses_of_all runs first) (uses_of_all runs second) (join (uses_in runs e) (uses_of_all runs first) h k) l)
 
@@ -379,6 +398,7 @@ module _ (Q : Binding → Type 0) (runs : Lookup) (box : Q (object_binding (code
             let made : List Expression → ℕ → Code = (λ es. one (break_unless (first_of es))) in
             alone (core.loop_of (Some p) (followed body.statements (then_use (spill (operand_for ts c ∷ []) body.next) made).statements)) (followed_in body.statements (then_use (spill (operand_for ts c ∷ []) body.next) made).statements (tree b g0.0 ts discard j) (act_in c g0.1 (tree c g0.1) ts body.next made (λ x i f. alone (break_unless (first_of x)) (break_in (first_of x) f))))
         tree (try_catch p e x d t) g ts k j = let g0 = two e d (inner (try_catch p e x d t) g) in try_in p x (into is_mutable sure ts k j e).statements (into is_mutable sure ts k (into is_mutable sure ts k j e).next d).statements (tree e g0.0 ts k j) (tree d g0.1 ts k (into is_mutable sure ts k j e).next)
+        tree (try_finally p e d) g ts k j = let g0 = two e d (inner (try_finally p e d) g) in finally_in p (into is_mutable sure ts k j e).statements (finalizer_code (target_of ts) d (into is_mutable sure ts k j e).next (λ i. into is_mutable sure ts discard i d)).statements (tree e g0.0 ts k j) (finalizer_in (target_of ts) d (into is_mutable sure ts k j e).next (λ i. into is_mutable sure ts discard i d) (λ i. tree d g0.1 ts discard i))
         tree (match_on p e cs d t) g ts k j =
             let i0 : Each (written e ++ cases_written cs ++ written d) = inner (match_on p e cs d t) g in
             let i1 : Each (written e ++ cases_written cs) = ahead Brings (written e ++ cases_written cs) (written d) i0 in

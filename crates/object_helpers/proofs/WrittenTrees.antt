@@ -4,7 +4,7 @@ use Rattle.std.specs.List.{All}
 use Rattle.std.proofs.lemmas.List.Elements.{All-nil, All-cons, All-head, All-tail}
 use Rattle.body_uses.proofs.Uses.{ahead, after, combine}
 use Rattle.sj_infos.specs.Trees.{trees, below, all_below, cases_below}
-use Rattle.sj_trees.specs.Term.{Term, Terms, no_terms, more_terms, Cases, no_cases, more_cases, var_def, block_of, labeled, assign, return_to, if_then, while_loop, do_while, try_catch, match_on, throw, new_object, store_module, select, apply, apply_statically, apply_static, unary_op, binary_op, is_instance_of, as_instance_of, log_line}
+use Rattle.sj_trees.specs.Term.{Term, Terms, no_terms, more_terms, Cases, no_cases, more_cases, var_def, block_of, labeled, assign, return_to, if_then, while_loop, do_while, try_catch, try_finally, match_on, throw, new_object, store_module, select, apply, apply_statically, apply_static, unary_op, binary_op, is_instance_of, as_instance_of, log_line}
 
 abbrev mutual
   -- the written trees in a tree
@@ -18,6 +18,7 @@ abbrev mutual
   written_below (while_loop p a b) = (a ∷ written_below a) ++ (b ∷ written_below b)
   written_below (do_while p a b) = (a ∷ written_below a) ++ (b ∷ written_below b)
   written_below (try_catch p a x b t) = (a ∷ written_below a) ++ (b ∷ written_below b)
+  written_below (try_finally p a b) = (a ∷ written_below a) ++ (b ∷ written_below b)
   written_below (throw p e) = e ∷ written_below e
   written_below (match_on p e cs d t) = (e ∷ written_below e) ++ cases_written cs ++ (d ∷ written_below d)
   written_below (new_object p c m ts) = all_written ts
@@ -65,6 +66,7 @@ module _ (P : Term → Type 0) where
     each_below (while_loop p a b) h = two (trees a) (trees b) (written a) (written b) (under a (each_below a)) (under b (each_below b)) h
     each_below (do_while p a b) h = two (trees a) (trees b) (written a) (written b) (under a (each_below a)) (under b (each_below b)) h
     each_below (try_catch p a x b t) h = two (trees a) (trees b) (written a) (written b) (under a (each_below a)) (under b (each_below b)) h
+    each_below (try_finally p a b) h = two (trees a) (trees b) (written a) (written b) (under a (each_below a)) (under b (each_below b)) h
     each_below (throw p e) h = under e (each_below e) h
     each_below (match_on p e cs d t) h = two (trees e ++ cases_below cs) (trees d) (written e ++ cases_written cs) (written d) (two (trees e) (cases_below cs) (written e) (cases_written cs) (under e (each_below e)) (each_of_cases cs)) (under d (each_below d)) h
     each_below (new_object p c m ts) h = each_of_all ts h

@@ -5,7 +5,8 @@ use Rattle.sj_core.specs.Terms as core
 use Rattle.sj_core.specs.declared.callees.Callee.{Callee}
 use Rattle.sj_desugar.specs.Coercions.{coerced, coerced_arguments, coerced_receiver}
 use Rattle.sj_core.specs.Views.{expressions_of}
-use Rattle.sj_desugar.specs.Desugar.{Targets, into, expression_of, cases, member, types_of, operand, operands, branched, wrapped, break_unless, switched, finish, first_of, second_of, rest_of, received, receiver, position_of, branches, switch_code, Branches, tried}
+use Rattle.sj_desugar.specs.Desugar.{Targets, into, expression_of, cases, member, types_of, operand, operands, branched, wrapped, break_unless, switched, finish, first_of, second_of, rest_of, received, receiver, position_of, branches, switch_code, Branches, tried, finished, target_of}
+use Rattle.sj_desugar.specs.Finalizers.{kept, keep_all, give_all_back, finalizer_code}
 use Rattle.sj_desugar.specs.Plain.{is_plain, are_plain}
 use Rattle.sj_desugar.specs.Spill.{Destination, discard, to_variable, Code, one, put_first, joined, Spilled, spill, then_use}
 use Rattle.sj_desugar.specs.Texts.{operand_of}
@@ -17,7 +18,7 @@ use Rattle.sj_desugarer.proofs.Spilling.{use-one, use-two, use-first}
 use Rattle.sj_desugarer.proofs.Runs.{operands-plain}
 use Rattle.sj_names.specs.declared.method_names.MethodName.{MethodName}
 use Rattle.sj_names.specs.declared.method_names.Namespace.{Namespace}
-use Rattle.sj_trees.specs.Term.{Term, Terms, Cases, apply_static, throw, store_module, select, select_static, assign, var_ref, if_then, while_loop, do_while, try_catch, match_on, unary_op, binary_op, is_instance_of, as_instance_of, log_line}
+use Rattle.sj_trees.specs.Term.{Term, Terms, Cases, apply_static, throw, store_module, select, select_static, assign, var_ref, if_then, while_loop, do_while, try_catch, try_finally, match_on, unary_op, binary_op, is_instance_of, as_instance_of, log_line}
 use Rattle.sj_trees.specs.TypeOf.{type_of_term, unary_result, binary_result}
 use Rattle.sj_trees.specs.Types.{class_type}
 use Rattle.sj_trees.specs.declared.operators.BinaryOp.{BinaryOp}
@@ -63,6 +64,11 @@ module _ (m s : List ℕ → Bool) (ls : Targets) (k : Destination) (j : ℕ) (p
   -- the same where the parts are known by other names
   pub try-joins : (u v : Code) (a : Term) (x : List ℕ) (b : Term) (t : IrType) → u ≡ into m s ls k j a → v ≡ into m s ls k u.next b → into m s ls k j (try_catch p a x b t) ≡ tried p x u v
   try-joins u v a x b t h g = ap (λ (c : Code). tried p x c (into m s ls k c.next b)) (sym h) ∙ ap (tried p x u) (sym g)
+
+  pub finally-joins : (u f v : Code) (a b : Term) → u ≡ into m s ls k j a → f ≡ keep_all (kept (target_of ls) b) u.next → v ≡ into m s ls discard f.next b → into m s ls k j (try_finally p a b) ≡ finished p u (joined (joined f v) (give_all_back (kept (target_of ls) b) u.next v.next))
+  finally-joins u f v a b h g e =
+      let xs = kept (target_of ls) b in
+      ap (λ (c : Code). finished p c (finalizer_code (target_of ls) b c.next (λ i. into m s ls discard i b))) (sym h) ∙ ap (λ (c : Code). finished p u (joined (joined c (into m s ls discard c.next b)) (give_all_back xs u.next (into m s ls discard c.next b).next))) (sym g) ∙ ap (λ (c : Code). finished p u (joined (joined f c) (give_all_back xs u.next c.next))) (sym e)
 
   pub if-joins : (o : Placed) (u v : Code) (c a b : Term) (t : IrType) → o ≡ comes_to m s ls true j c → u ≡ into m s ls k o.next a → v ≡ into m s ls k u.next b → into m s ls k j (if_then p c a b t) ≡ behind o (λ g i. branched p g u v)
   if-joins o u v c a b t h hy hn =

@@ -15,12 +15,13 @@ use sj_desugaring::{
     CalledMember, Destination, FieldPlace, Operation, Placed, PlacedAll, SwitchCases, Target,
     Written, are_plain, assigned, binary_value, branched, brought, call_value, case_of, cast_value,
     checked, checked_operand, coerced_argument, declared, defined, expression_of, field_set,
-    field_value, in_place, is_fixed, is_plain, is_sure, joined, kept, labeled, leaving,
+    field_value, finished, in_place, is_fixed, is_plain, is_sure, joined, kept, labeled, leaving,
     local_destination, logged, looked_up_value, looped, looped_behind, made_value, member_value,
     module_stored, nothing, number_behind, operand_destination, position_of, static_set, switched,
     target_of, tested_loop, tested_value, thrown, tried, unary_value, value_of, with_label,
     without_first,
 };
+use sj_finalizers::{given_back, keep_all, kept_in};
 use sj_names::{LocalName, NoMemory, TypeRef};
 use sj_trees::{MatchCase, Position, Tree, type_of};
 use std::alloc::Global;
@@ -102,6 +103,16 @@ pub fn statements_of(
             let first = statements_of(alloc, locals, targets, destination, next, block)?;
             let second = statements_of(alloc, locals, targets, destination, first.next, handler)?;
             tried(alloc, *position, first, name, second)
+        }
+        Tree::TryFinally(position, block, finalizer) => {
+            let nowhere = Destination::Discard;
+            let first = statements_of(alloc, locals, targets, destination, next, block)?;
+            let number = first.next;
+            let kept_variables = kept_in(alloc, targets, finalizer)?;
+            let front = keep_all(alloc, &kept_variables, number)?;
+            let code = statements_of(alloc, locals, targets, &nowhere, front.next, finalizer)?;
+            let second = given_back(alloc, &kept_variables, number, front, code)?;
+            finished(alloc, *position, first, second)
         }
         Tree::Match(position, selector, cases, default, _) => {
             let selected = operand_of(alloc, locals, targets, true, next, selector)?;
@@ -215,7 +226,6 @@ pub fn statements_of(
         | Tree::SelectStatic(_, _, _, _)
         | Tree::LoadModule(_, _) => value_of(alloc, destination, next, tree),
         Tree::Skip(_)
-        | Tree::TryFinally(_, _, _)
         | Tree::NewArray(_, _, _)
         | Tree::ArrayValue(_, _, _)
         | Tree::ArrayLength(_, _)

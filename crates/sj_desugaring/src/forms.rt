@@ -225,6 +225,20 @@ pub fn tried(
     one(alloc, statement, handler.next)
 }
 
+/// A block behind which the code of a finalizer runs, however it ends.
+pub fn finished(
+    alloc: Global,
+    position: Position,
+    block: Written,
+    finalizer: Written,
+) -> Result<Written, NoMemory>
+    ensures { IfOk result (λ w. code_view w ≡ desugar.finished position (code_view block) (code_view finalizer)) }
+{
+    let statement =
+        CoreStatement::Finally(Some(position), block.statements, finalizer.statements);
+    one(alloc, statement, finalizer.next)
+}
+
 // `(!c)`
 fn negated(alloc: Global, condition: CoreExpression) -> Result<CoreExpression, NoMemory>
     ensures { IfOk result (λ e. expression_view e ≡ terms.unary_of BooleanNot (expression_view condition)) }

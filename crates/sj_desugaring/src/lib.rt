@@ -11,10 +11,10 @@ mod placing;
 mod values;
 mod writing;
 
-pub use destinations::{Destination, Target, target_of, with_label};
+pub use destinations::{Destination, Target, copied_variable, target_of, with_label};
 pub use forms::{
     CalledMember, Operation, SwitchCases, assigned, binary_value, branched, call_value, case_of,
-    declared, defined, logged, looped, looped_behind, switched, tested_loop, tried, unary_value,
+    declared, defined, finished, logged, looped, looped_behind, switched, tested_loop, tried, unary_value,
 };
 pub use jumps::{labeled, leaving};
 pub use objects::{
@@ -30,4 +30,4 @@ pub use plain_desugaring::{
     mutable_locals, position_of, sure_locals, without_first,
 };
 pub use values::value_of;
-pub use writing::{Written, joined, nothing};
+pub use writing::{Written, joined, nothing, one};

@@ -123,6 +123,10 @@ fn add_calls_of(statement: &CoreStatement, inquiries: &mut Vec<Inquiry>) -> Resu
         CoreStatement::Loop(_, body) | CoreStatement::Labeled(_, _, body) => {
             add_calls_of_all(body, inquiries)
         }
+        CoreStatement::Finally(_, block, finalizer) => {
+            add_calls_of_all(block, inquiries)?;
+            add_calls_of_all(finalizer, inquiries)
+        }
         CoreStatement::Try(_, block, _, handler) => {
             add_calls_of_all(block, inquiries)?;
             add_calls_of_all(handler, inquiries)

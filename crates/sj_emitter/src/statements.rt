@@ -130,6 +130,11 @@ fn emit_statement(
                 handler,
             })
         }
+        CoreStatement::Finally(_, block, finalizer) => {
+            let body = emit_statements(alloc, known, block)?;
+            let finalizer = emit_statements(alloc, known, finalizer)?;
+            Ok(JsStmt::TryFinally { body, finalizer })
+        }
         CoreStatement::Switch(_, selector, cases, default) => {
             let selector = emit_expression(alloc, known, selector)?;
             let cases = emit_cases(alloc, known, cases)?;

@@ -349,6 +349,10 @@ fn add_uses_of(
         CoreStatement::Loop(_, body) | CoreStatement::Labeled(_, _, body) => {
             add_uses_of_all(alloc, known, body, bindings)
         }
+        CoreStatement::Finally(_, block, finalizer) => {
+            add_uses_of_all(alloc, known, block, bindings)?;
+            add_uses_of_all(alloc, known, finalizer, bindings)
+        }
         CoreStatement::Try(_, block, _, handler) => {
             add_uses_of_all(alloc, known, block, bindings)?;
             add_uses_of_all(alloc, known, handler, bindings)

@@ -162,6 +162,7 @@ module _ (known : Lookup) where
     statement-kept (core.loop_of p ss) h k o r = statements-kept ss h k o r
     statement-kept (core.labeled_of p l ss) h k o r = (label-named l h.0, statements-kept ss h.1 k o r)
     statement-kept (core.try_of p ss x ts) h k o r = let q = two known (calls_of_all ss) (calls_of_all ts) r in (statements-kept ss h.0 k.0 o.0 q.0, variable-named x h.1, statements-kept ts h.2 k.1 o.1 q.1)
+    statement-kept (core.finally_of p ss ts) h k o r = let q = two known (calls_of_all ss) (calls_of_all ts) r in (statements-kept ss h.0 k.0 o.0 q.0, statements-kept ts h.1 k.1 o.1 q.1)
     statement-kept (core.switch_of p e cs ss) h k o r = let q = three known (calls_in e) (calls_of_cases cs) (calls_of_all ss) r in (expression-kept e h.0 o.0 q.0, cases-kept cs h.1 k.0 o.1 q.1, statements-kept ss h.2 k.1 o.2 q.2)
 
     statements-kept : (ss : core.Statements) → FitStatements ss → AreKeyed ss → AreOwned ss → RunsFit known (calls_of_all ss) → AreStatements (statement_templates variable_name label_name known ss)

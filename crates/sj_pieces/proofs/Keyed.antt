@@ -6,10 +6,11 @@ use Rattle.sj_core.specs.Views.{expressions_of}
 use Rattle.sj_core.specs.declared.callees.Callee.TheVariants as callees
 use Rattle.sj_desugar.specs.Coercions.{coerced, coerced_arguments, coerced_receiver}
 use Rattle.sj_desugar.specs.Desugar.{operand, into, block, operands, cases, finish, has_no_value, target_of, Targets, expression_of, labeled_code, leaving_code, wrapped, branches, break_unless, switch_code, first_of, second_of, rest_of, member, callee_of, types_of, received, receiver, desugared, desugared_member, completed, body_code, is_mutable_in, result_destination}
+use Rattle.sj_desugar.specs.Finalizers.{kept, keep_all, give_all_back, finalizer_code}
 use Rattle.sj_desugar.specs.Plain.{is_plain}
 use Rattle.sj_desugar.specs.Spill.{Destination, discard, to_variable, to_result, Code, one, put_first, Operand, all_plain, Spilled, spill, spill_case, then_use}
 use Rattle.sj_desugar.specs.Texts.{operand_of}
-use Rattle.sj_trees.specs.Term.{Term, Terms, no_terms, more_terms, Cases, no_cases, more_cases, var_def, block_of, labeled, assign, return_to, if_then, while_loop, do_while, try_catch, match_on, throw, new_object, load_module, store_module, select, select_static, apply, apply_statically, apply_static, unary_op, binary_op, is_instance_of, as_instance_of, undefined_literal, null_literal, boolean_literal, char_literal, byte_literal, short_literal, int_literal, long_literal, string_literal, var_ref, this_ref, log_line}
+use Rattle.sj_trees.specs.Term.{Term, Terms, no_terms, more_terms, Cases, no_cases, more_cases, var_def, block_of, labeled, assign, return_to, if_then, while_loop, do_while, try_catch, try_finally, match_on, throw, new_object, load_module, store_module, select, select_static, apply, apply_statically, apply_static, unary_op, binary_op, is_instance_of, as_instance_of, undefined_literal, null_literal, boolean_literal, char_literal, byte_literal, short_literal, int_literal, long_literal, string_literal, var_ref, this_ref, log_line}
 use Rattle.sj_trees.specs.TypeOf.{type_of_term, unary_result, binary_result}
 use Rattle.sj_trees.specs.declared.classes.MethodDef.{MethodDef}
 use Rattle.sj_trees.specs.Types.{class_type}
@@ -72,6 +73,20 @@ leaving-keyed (to_result t) p l c h = h
 leaving-keyed discard p l c h = followed-keyed c.statements (core.statement (core.leave_label (Some p) l) core.no_statements) h (tt, tt)
 leaving-keyed (to_variable x t) p l c h = followed-keyed c.statements (core.statement (core.leave_label (Some p) l) core.no_statements) h (tt, tt)
 
+keep-keyed : (xs : List core.Variable) (j : ℕ) → Keyed (keep_all xs j)
+keep-keyed [] j = tt
+keep-keyed (x ∷ xs) j = (tt, keep-keyed xs (suc j))
+
+give-keyed : (xs : List core.Variable) (j next : ℕ) → Keyed (give_all_back xs j next)
+give-keyed [] j next = tt
+give-keyed (x ∷ xs) j next = (tt, give-keyed xs (suc j) next)
+
+finalizer-keyed : (goes_to : List ℕ → Destination) (d : Term) (j : ℕ) (body : ℕ → Code) → ((i : ℕ) → Keyed (body i)) → Keyed (finalizer_code goes_to d j body)
+finalizer-keyed goes_to d j body h =
+    let front : Code = keep_all (kept goes_to d) j in
+    let code : Code = body front.next in
+    followed-keyed (followed front.statements code.statements) (give_all_back (kept goes_to d) j code.next).statements (followed-keyed front.statements code.statements (keep-keyed (kept goes_to d) j) (h front.next)) (give-keyed (kept goes_to d) j code.next)
+
 either-keyed : (plain : Bool) (c d : Code) → Keyed c → Keyed d → Keyed (elim plain as (λ b. Code) [ true ↦ c | false ↦ d ])
 either-keyed true c d h k = h
 either-keyed false c d h k = k
@@ -106,6 +121,7 @@ module _ (is_mutable sure : List ℕ → Bool) where
     keyed (while_loop p c b) = λ ts k j. either-keyed (is_plain c) (wrapped (core.while_of (Some p) (expression_of sure c)) (into is_mutable sure ts discard j b)) (wrapped (core.while_of (Some p) (core.boolean_value true)) (then_use (spill (one_of ts c) j) (λ es j. put_first (break_unless (first_of es)) (into is_mutable sure ts discard j b)))) (keyed b ts discard j, tt) (act_keyed c (keyed c) ts j (λ es j. put_first (break_unless (first_of es)) (into is_mutable sure ts discard j b)) (λ es i. (((tt, tt), tt), keyed b ts discard i)), tt)
     keyed (do_while p b c) = λ ts k j. (followed-keyed (into is_mutable sure ts discard j b).statements (then_use (spill (one_of ts c) (into is_mutable sure ts discard j b).next) (λ es. one (break_unless (first_of es)))).statements (keyed b ts discard j) (act_keyed c (keyed c) ts (into is_mutable sure ts discard j b).next (λ es. one (break_unless (first_of es))) (λ es i. (((tt, tt), tt), tt))), tt)
     keyed (try_catch p e x b t) = λ ts k j. ((keyed e ts k j, keyed b ts k (into is_mutable sure ts k j e).next), tt)
+    keyed (try_finally p e d) = λ ts k j. ((keyed e ts k j, finalizer-keyed (target_of ts) d (into is_mutable sure ts k j e).next (λ i. into is_mutable sure ts discard i d) (λ i. keyed d ts discard i)), tt)
     keyed (match_on p e cs b t) = λ ts k j. act_keyed e (keyed e) ts j (λ es j. switch_code p (first_of es) (cases is_mutable sure ts k j cs) (λ j. into is_mutable sure ts k j b)) (λ es i. ((keyed_cases cs ts k i, keyed b ts k (cases is_mutable sure ts k i cs).next), tt))
     keyed (apply_static p c n m es t) = λ ts k j. use-keyed (operands is_mutable sure ts es) (keyed_operands es ts) j (λ xs. finish k p t false (core.static_call (member c n m) (expressions_of (coerced_arguments m.params (types_of es) xs)))) (λ xs i. finish-keyed k p t false (core.static_call (member c n m) (expressions_of (coerced_arguments m.params (types_of es) xs))) i)
     keyed (apply p e m es t) = λ ts k j. use-keyed (owner_of ts e ∷ operands is_mutable sure ts es) (owner_keyed e (keyed e) ts, keyed_operands es ts) j (λ xs. finish k p t false (core.receiver_call (callee_of (type_of_term e) m) (coerced_receiver (type_of_term e) (first_of xs)) (expressions_of (coerced_arguments m.params (types_of es) (rest_of xs))))) (λ xs i. finish-keyed k p t false (core.receiver_call (callee_of (type_of_term e) m) (coerced_receiver (type_of_term e) (first_of xs)) (expressions_of (coerced_arguments m.params (types_of es) (rest_of xs)))) i)

@@ -11,6 +11,7 @@ use Rattle.sj_core.specs.declared.callees.Callee.{Callee}
 use Rattle.sj_core.specs.declared.callees.Callee.TheVariants as callees
 use Rattle.sj_desugar.specs.Coercions.{coerced, coerced_arguments, coerced_receiver}
 use Rattle.sj_desugar.specs.Desugar.{operand, into, block, operands, cases, finish, has_no_value, target_of, Targets, expression_of, all_expressions, labeled_code, leaving_code, wrapped, branches, break_unless, switch_code, first_of, second_of, rest_of, member, named_by, callee_of, types_of, received_text, received, receiver, desugared, desugared_member, completed, body_code, is_mutable_in, result_destination}
+use Rattle.sj_desugar.specs.Finalizers.{kept, keep_all, give_all_back, finalizer_code}
 use Rattle.sj_desugar.specs.Plain.{is_plain}
 use Rattle.sj_desugar.specs.Spill.{Destination, discard, to_variable, to_result, Code, one, put_first, Operand, all_plain, texts, Spilled, spill, spill_case, then_use}
 use Rattle.sj_desugar.specs.Texts.{text_of, operand_of}
@@ -21,7 +22,7 @@ use Rattle.sj_names.specs.declared.method_names.MethodName.{MethodName}
 use Rattle.sj_names.specs.declared.method_names.Namespace.{Namespace}
 use Rattle.sj_names.specs.declared.method_names.Namespace.TheVariants.{Public, PublicStatic, Private, PrivateStatic, Constructor}
 use Rattle.sj_names.specs.declared.references.TypeRef.{TypeRef}
-use Rattle.sj_trees.specs.Term.{Term, Terms, no_terms, more_terms, Cases, no_cases, more_cases, var_def, block_of, labeled, assign, return_to, if_then, while_loop, do_while, try_catch, match_on, throw, new_object, load_module, store_module, select, select_static, apply, apply_statically, apply_static, unary_op, binary_op, is_instance_of, as_instance_of, undefined_literal, null_literal, boolean_literal, char_literal, byte_literal, short_literal, int_literal, long_literal, string_literal, var_ref, this_ref, log_line}
+use Rattle.sj_trees.specs.Term.{Term, Terms, no_terms, more_terms, Cases, no_cases, more_cases, var_def, block_of, labeled, assign, return_to, if_then, while_loop, do_while, try_catch, try_finally, match_on, throw, new_object, load_module, store_module, select, select_static, apply, apply_statically, apply_static, unary_op, binary_op, is_instance_of, as_instance_of, undefined_literal, null_literal, boolean_literal, char_literal, byte_literal, short_literal, int_literal, long_literal, string_literal, var_ref, this_ref, log_line}
 use Rattle.sj_trees.specs.TypeOf.{type_of_term, unary_result, binary_result}
 use Rattle.sj_trees.specs.Types.{class_type, reference_type}
 use Rattle.sj_trees.specs.declared.classes.MethodDef.{MethodDef}
@@ -267,6 +268,20 @@ receiver-owns : (known : Bool) (o : Operand) → (known ≡ true → MayOwn o.te
 receiver-owns true o h = h refl
 receiver-owns false o h = λ known. refl
 
+keep-owned : (xs : List core.Variable) (j : ℕ) → Owned (keep_all xs j)
+keep-owned [] j = tt
+keep-owned (x ∷ xs) j = (tt, keep-owned xs (suc j))
+
+give-owned : (xs : List core.Variable) (j next : ℕ) → Owned (give_all_back xs j next)
+give-owned [] j next = tt
+give-owned (x ∷ xs) j next = (tt, give-owned xs (suc j) next)
+
+finalizer-owned : (goes_to : List ℕ → Destination) (d : Term) (j : ℕ) (body : ℕ → Code) → ((i : ℕ) → Owned (body i)) → Owned (finalizer_code goes_to d j body)
+finalizer-owned goes_to d j body h =
+    let front : Code = keep_all (kept goes_to d) j in
+    let code : Code = body front.next in
+    followed-owned (followed front.statements code.statements) (give_all_back (kept goes_to d) j code.next).statements (followed-owned front.statements code.statements (keep-owned (kept goes_to d) j) (h front.next)) (give-owned (kept goes_to d) j code.next)
+
 labeled-owned : (k : Destination) (p : Position) (l : List ℕ) (c : Code) → Owned c → Owned (labeled_code k p l c)
 labeled-owned (to_result t) p l c h = h
 labeled-owned discard p l c h = (h, tt)
@@ -317,6 +332,7 @@ module _ (is_mutable sure : List ℕ → Bool) where
     owned (while_loop p c b) h = λ ts k j. either-owned (is_plain c) (wrapped (core.while_of (Some p) (expression_of sure c)) (into is_mutable sure ts discard j b)) (wrapped (core.while_of (Some p) (core.boolean_value true)) (then_use (spill (operand_in ts c ∷ []) j) (λ es j. put_first (break_unless (first_of es)) (into is_mutable sure ts discard j b)))) ((expression-owned sure c h.0, owned b h.1 ts discard j), tt) ((tt, act_owned c h.0 (owned c h.0) ts j (λ es j. put_first (break_unless (first_of es)) (into is_mutable sure ts discard j b)) (λ es i f. ((f, (tt, tt), tt), owned b h.1 ts discard i))), tt)
     owned (do_while p b c) h = λ ts k j. (followed-owned (into is_mutable sure ts discard j b).statements (then_use (spill (operand_in ts c ∷ []) (into is_mutable sure ts discard j b).next) (λ es. one (break_unless (first_of es)))).statements (owned b h.0 ts discard j) (act_owned c h.1 (owned c h.1) ts (into is_mutable sure ts discard j b).next (λ es. one (break_unless (first_of es))) (λ es i f. ((f, (tt, tt), tt), tt))), tt)
     owned (try_catch p e x b t) h = λ ts k j. ((owned e h.0 ts k j, owned b h.1 ts k (into is_mutable sure ts k j e).next), tt)
+    owned (try_finally p e d) h = λ ts k j. ((owned e h.0 ts k j, finalizer-owned (target_of ts) d (into is_mutable sure ts k j e).next (λ i. into is_mutable sure ts discard i d) (λ i. owned d h.1 ts discard i)), tt)
     owned (match_on p e cs b t) h = λ ts k j. act_owned e h.0 (owned e h.0) ts j (λ es j. switch_code p (first_of es) (cases is_mutable sure ts k j cs) (λ j. into is_mutable sure ts k j b)) (λ es i f. ((f, owned_cases cs h.1 ts k i, owned b h.2 ts k (cases is_mutable sure ts k i cs).next), tt))
     owned (apply_static p c n m es t) h = λ ts k j. use-owned (operands is_mutable sure ts es) (owned_operands es h ts) j (λ xs. finish k p t false (core.static_call (member c n m) (expressions_of (coerced_arguments m.params (types_of es) xs)))) (λ xs i f. finish-owned k p t false (core.static_call (member c n m) (expressions_of (coerced_arguments m.params (types_of es) xs))) i (arguments-owned m.params (types_of es) xs f))
     owned (apply p e m es t) h = λ ts k j. use-receiver (owner_in ts e) (operands is_mutable sure ts es) (owner_owned e h.0 (owned e h.0) ts, owned_operands es h.1 ts) j (λ xs. finish k p t false (core.receiver_call (callee_of (type_of_term e) m) (coerced_receiver (type_of_term e) (first_of xs)) (expressions_of (coerced_arguments m.params (types_of es) (rest_of xs))))) (λ xs i g f. finish-owned k p t false (core.receiver_call (callee_of (type_of_term e) m) (coerced_receiver (type_of_term e) (first_of xs)) (expressions_of (coerced_arguments m.params (types_of es) (rest_of xs)))) i (named-may m.result (type_of_term e) m (coerced_receiver (type_of_term e) (first_of xs)) (λ no. boxed-owns _ (first_of xs) (g (owner_owns e no ts))), boxed-owned _ (first_of xs) (first-owned xs f), arguments-owned m.params (types_of es) (rest_of xs) (rest-owned xs f)))

@@ -109,6 +109,7 @@ module _ (known : Lookup) where
     of-named (core.loop_of p ss) h f = of-all-named ss h f
     of-named (core.labeled_of p l ss) h f = of-all-named ss h.1 f
     of-named (core.try_of p ss x ts) h f = let q = two known (calls_of_all ss) (calls_of_all ts) f in after (uses_of_all known ss) (uses_of_all known ts) (of-all-named ss h.0 q.0) (of-all-named ts h.2 q.1)
+    of-named (core.finally_of p ss ts) h f = let q = two known (calls_of_all ss) (calls_of_all ts) f in after (uses_of_all known ss) (uses_of_all known ts) (of-all-named ss h.0 q.0) (of-all-named ts h.1 q.1)
     of-named (core.switch_of p e cs ss) h f = let q = three known (calls_in e) (calls_of_cases cs) (calls_of_all ss) f in after (uses_in known e ++ uses_of_cases known cs) (uses_of_all known ss) (after (uses_in known e) (uses_of_cases known cs) (in-named e h.0 q.0) (cases-named cs h.1 q.1)) (of-all-named ss h.2 q.2)
 
     of-all-named : (ss : core.Statements) → FitStatements ss → RunsFit known (calls_of_all ss) → Named (uses_of_all known ss)

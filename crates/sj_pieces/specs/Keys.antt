@@ -1,7 +1,7 @@
 -- Methods of the core in which each case of a switch has a key.
 use Rattle.std.specs.Prelude.{not, IsTrue}
 use Rattle.js_tree.specs.Names.{is_empty}
-use Rattle.sj_core.specs.Terms.{Statement, if_of, while_of, loop_of, labeled_of, switch_of, try_of, Statements, no_statements, statement, Cases, no_cases, switch_case, Method}
+use Rattle.sj_core.specs.Terms.{Statement, if_of, while_of, loop_of, labeled_of, switch_of, try_of, finally_of, Statements, no_statements, statement, Cases, no_cases, switch_case, Method}
 
 abbrev mutual
   pub IsKeyed : Statement → Type 0
@@ -11,6 +11,7 @@ abbrev mutual
   IsKeyed (labeled_of p l ss) = AreKeyed ss
   IsKeyed (switch_of p e cs ss) = HaveKeys cs × AreKeyed ss
   IsKeyed (try_of p ss x ts) = AreKeyed ss × AreKeyed ts
+  IsKeyed (finally_of p ss ts) = AreKeyed ss × AreKeyed ts
   IsKeyed _ = Unit {0}
 
   pub AreKeyed : Statements → Type 0

@@ -7,7 +7,7 @@ use Rattle.sj_core.specs.declared.callees.Callee.{Callee}
 use Rattle.sj_core.specs.declared.callees.Callee.TheVariants as callees
 use Rattle.sj_emit_expr.specs.Names.{variable_name, label_name}
 use Rattle.sj_emit_expr.specs.Templates.{expression_template}
-use Rattle.sj_trees.specs.Term.{Term, Terms, no_terms, more_terms, Cases, no_cases, more_cases, var_def, block_of, labeled, assign, return_to, if_then, while_loop, do_while, throw, try_catch, match_on, new_object, store_module, select, select_static, apply, apply_statically, apply_static, unary_op, binary_op, is_instance_of, as_instance_of, var_ref, log_line}
+use Rattle.sj_trees.specs.Term.{Term, Terms, no_terms, more_terms, Cases, no_cases, more_cases, var_def, block_of, labeled, assign, return_to, if_then, while_loop, do_while, throw, try_catch, try_finally, match_on, new_object, store_module, select, select_static, apply, apply_statically, apply_static, unary_op, binary_op, is_instance_of, as_instance_of, var_ref, log_line}
 use Rattle.sj_trees.specs.TypeOf.{type_of_term}
 use Rattle.sure_receivers.specs.Sure.{is_sure_type}
 
@@ -65,6 +65,7 @@ abbrev mutual
   IsOwned (core.labeled_of p l ss) = AreOwned ss
   IsOwned (core.switch_of p e cs ss) = HasOwners e × CasesOwned cs × AreOwned ss
   IsOwned (core.try_of p ss x ts) = AreOwned ss × AreOwned ts
+  IsOwned (core.finally_of p ss ts) = AreOwned ss × AreOwned ts
 
   pub AreOwned : core.Statements → Type 0
   AreOwned core.no_statements = Unit {0}
@@ -93,6 +94,7 @@ abbrev mutual
   OnObjects (do_while p b c) = OnObjects b × OnObjects c
   OnObjects (store_module p c e) = OnObjects e
   OnObjects (try_catch p e x d t) = OnObjects e × OnObjects d
+  OnObjects (try_finally p e d) = OnObjects e × OnObjects d
   OnObjects (throw p e) = OnObjects e
   OnObjects (match_on p e cs d t) = OnObjects e × CasesOnObjects cs × OnObjects d
   OnObjects (new_object p c m ts) = AllOnObjects ts

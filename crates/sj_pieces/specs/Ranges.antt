@@ -3,7 +3,7 @@ use Rattle.std.specs.Prelude.{◌<◌, ◌^◌, ℕ, List, All, IfSome}
 use Rattle.js_tree.specs.Rules.{IsNumber, IsBig, IsUnit}
 use Rattle.sj_core.specs.declared.callees.Callee.{Callee}
 use Rattle.sj_core.specs.declared.callees.Callee.TheVariants as callees
-use Rattle.sj_core.specs.Terms.{Variable, named, numbered, receiver, Expression, number_value, long_value, text_value, variable_use, boxed_char, char_text, value_text, choice_of, static_call, field_of, static_of, module_of, checked_value, made_of, receiver_call, test_of, cast_of, unary_of, binary_of, Expressions, no_expressions, expression, Statement, constant_of, define_of, declare_of, assign_to, evaluate_of, return_of, log_of, assign_field, assign_static, store_module_of, throw_of, leave_label, break_nearest, if_of, while_of, loop_of, labeled_of, switch_of, try_of, Statements, no_statements, statement, Cases, no_cases, switch_case, Method}
+use Rattle.sj_core.specs.Terms.{Variable, named, numbered, receiver, Expression, number_value, long_value, text_value, variable_use, boxed_char, char_text, value_text, choice_of, static_call, field_of, static_of, module_of, checked_value, made_of, receiver_call, test_of, cast_of, unary_of, binary_of, Expressions, no_expressions, expression, Statement, constant_of, define_of, declare_of, assign_to, evaluate_of, return_of, log_of, assign_field, assign_static, store_module_of, throw_of, leave_label, break_nearest, if_of, while_of, loop_of, labeled_of, switch_of, try_of, finally_of, Statements, no_statements, statement, Cases, no_cases, switch_case, Method}
 use Rattle.sj_names.specs.declared.method_names.Member.{Member}
 use Rattle.sj_names.specs.declared.method_names.MethodName.{MethodName}
 use Rattle.sj_names.specs.declared.references.BaseRef.{BaseRef}
@@ -95,6 +95,7 @@ abbrev mutual
   FitsStatement (labeled_of p l ss) = AreBytes l × FitStatements ss
   FitsStatement (switch_of p e cs ss) = FitsExpression e × FitCases cs × FitStatements ss
   FitsStatement (try_of p ss x ts) = FitStatements ss × FitsVariable x × FitStatements ts
+  FitsStatement (finally_of p ss ts) = FitStatements ss × FitStatements ts
 
   pub FitStatements : Statements → Type 0
   FitStatements no_statements = Unit {0}

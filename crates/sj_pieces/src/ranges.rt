@@ -223,6 +223,10 @@ fn statement_fits(statement: &CoreStatement)
             variable_fits(name);
             statements_fit(handler);
         }
+        CoreStatement::Finally(_, block, finalizer) => {
+            statements_fit(block);
+            statements_fit(finalizer);
+        }
         CoreStatement::Switch(_, selector, cases, default) => {
             expression_fits(selector);
             cases_fit(cases);

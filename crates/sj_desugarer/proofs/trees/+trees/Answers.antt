@@ -3,17 +3,18 @@ use Rattle.std.proofs.lemmas.Bool.Decides.{nat_tests}
 use Rattle.std.proofs.lemmas.List.{map_push}
 use Rattle.sj_core.specs.Terms as core
 use Rattle.sj_core.specs.Terms.{named, assign_to, followed, statement, no_statements, break_nearest}
-use Rattle.sj_core.specs.Views.{expression_view, case_view}
+use Rattle.sj_core.specs.Views.{expression_view, case_view, variable_view}
 use Rattle.sj_core.specs.Views.{expressions_of}
 use Rattle.sj_core.specs.declared.callees.Callee.TheVariants as callees
 use Rattle.sj_desugar.specs.Coercions.{coerced, coerced_receiver}
-use Rattle.sj_desugar.specs.Desugar.{into, break_unless, callee_of, cases, finish, member, operands, position_of, types_of}
+use Rattle.sj_desugar.specs.Desugar.{into, finished, target_of, break_unless, callee_of, cases, finish, member, operands, position_of, types_of}
+use Rattle.sj_desugar.specs.Finalizers.{kept, keep_all, give_all_back}
 use Rattle.sj_desugar.specs.Plain.{is_among, is_plain, are_plain}
-use Rattle.sj_desugar.specs.Spill.{Code, discard, one, put_first, spill, then_use, to_variable}
+use Rattle.sj_desugar.specs.Spill.{Code, discard, joined, one, put_first, spill, then_use, to_variable}
 use Rattle.sj_desugar.specs.Texts.{operand_of}
 use Rattle.sj_desugaring.specs.Arguments.{coerced_argument, with_arguments}
 use Rattle.sj_desugaring.specs.Forms.{behind, for_last}
-use Rattle.sj_desugarer.proofs.Rows.{assignment-row, if-joins, try-joins, log-joins, test-joins, cast-joins, unary-joins, binary-joins, match-joins, turn-joins, loop-joins, received-sure, received-checked, checked-brought, receive-joins, field-joins, throw-joins, store-joins}
+use Rattle.sj_desugarer.proofs.Rows.{assignment-row, if-joins, try-joins, finally-joins, log-joins, test-joins, cast-joins, unary-joins, binary-joins, match-joins, turn-joins, loop-joins, received-sure, received-checked, checked-brought, receive-joins, field-joins, throw-joins, store-joins}
 use Rattle.sj_desugarer.proofs.Runs.{slice-rest, block-step, arguments-step, cases-take}
 use Rattle.sj_desugarer.proofs.trees.+trees.Goals as goal
 use Rattle.sj_desugarer.specs.Operands.{comes_to, comes_received, owner_place, assigned_code}
@@ -22,14 +23,14 @@ use Rattle.sj_trees.proofs.trees.Tree.TheLaws.{the_size}
 use Rattle.sj_desugaring.specs.Placing.{brought}
 use Rattle.sj_trees.specs.declared.types.IrType.TheVariants.{Any, Boolean}
 use Rattle.sj_trees.specs.Types.{class_type}
-use Rattle.sj_trees.specs.Term.{Term, select, select_static, apply, apply_statically, throw, store_module, var_ref, assign, if_then, while_loop, do_while, try_catch, match_on, unary_op, binary_op, is_instance_of, as_instance_of, log_line}
+use Rattle.sj_trees.specs.Term.{Term, select, select_static, apply, apply_statically, throw, store_module, var_ref, assign, if_then, while_loop, do_while, try_catch, try_finally, match_on, unary_op, binary_op, is_instance_of, as_instance_of, log_line}
 use Rattle.sj_trees.specs.TypeOf.{type_of_term, binary_result}
 use Rattle.sj_trees.specs.View.{view, terms_view, cases_view, view_case, view_step, case_step, Case}
 use Rattle.sj_trees.specs.declared.trees.Tree.{Tree}
 use Rattle.sj_trees.specs.declared.trees.Tree.TheFolds.{fold-roll-Tree, fold_out-MatchCase}
 use Rattle.sj_trees.specs.declared.trees.Tree.TheOpen.{Tree-F}
 use Rattle.sj_trees.specs.declared.trees.Tree.TheViews.{sized-Match}
-use Rattle.sj_trees.specs.declared.trees.Tree.TheVariants.{rolls-Assign, rolls-Select, rolls-SelectStatic, rolls-Apply, rolls-ApplyStatically, rolls-Throw, rolls-StoreModule, rolls-VarRef, rolls-If, rolls-TryCatch, rolls-While, rolls-DoWhile, rolls-Match, rolls-UnaryOp, rolls-BinaryOp, rolls-IsInstanceOf, rolls-AsInstanceOf, rolls-Log}
+use Rattle.sj_trees.specs.declared.trees.Tree.TheVariants.{rolls-Assign, rolls-Select, rolls-SelectStatic, rolls-Apply, rolls-ApplyStatically, rolls-Throw, rolls-StoreModule, rolls-VarRef, rolls-If, rolls-TryCatch, rolls-TryFinally, rolls-While, rolls-DoWhile, rolls-Match, rolls-UnaryOp, rolls-BinaryOp, rolls-IsInstanceOf, rolls-AsInstanceOf, rolls-Log}
 
 pub statements_of-returns-in-If : goal.statements_of-returns-in-If
 statements_of-returns-in-If t c =
@@ -57,6 +58,26 @@ statements_of-returns-in-TryCatch t c =
     let e_first : code_view c.in_ok-first-in-TryCatch.first ≡ into m s ls k a.next (view n.block.value) = subst (λ (x : Tree). code_view c.in_ok-first-in-TryCatch.first ≡ into m s ls k a.next (view x)) c.deref-in-TryCatch.ensures c.in_ok-first-in-TryCatch.ensures in
     let e_second : code_view c.in_ok-second-in-TryCatch.second ≡ into m s ls k c.in_ok-first-in-TryCatch.first.next (view n.handler.value) = subst (λ (x : Tree). code_view c.in_ok-second-in-TryCatch.second ≡ into m s ls k c.in_ok-first-in-TryCatch.first.next (view x)) c.deref-in-TryCatch-2.ensures c.in_ok-second-in-TryCatch.ensures in
     subst (λ x. IfOk c.tried.result (λ w. code_view w ≡ x)) (sym (ap (into m s ls k a.next) v ∙ try-joins m s ls k a.next n.position (code_view c.in_ok-first-in-TryCatch.first) (code_view c.in_ok-second-in-TryCatch.second) (view n.block.value) n.name (view n.handler.value) n.field-4 e_first e_second)) c.tried.ensures
+
+pub statements_of-returns-in-TryFinally : goal.statements_of-returns-in-TryFinally
+statements_of-returns-in-TryFinally t c =
+    let n = c.in-TryFinally in
+    let a = c.args in
+    let m = is_among a.locals.now.mutable.now in
+    let s = is_among a.locals.now.sure.now in
+    let ls = map target_view a.targets.now in
+    let k = destination_view a.destination.now in
+    let f = view n.finalizer.value in
+    let first = c.in_ok-first-in-TryFinally.first in
+    let front = c.in_ok-front-in-TryFinally.front in
+    let code = c.in_ok-code-in-TryFinally.code in
+    let v : view a.tree.now ≡ try_finally n.position (view n.block.value) f = ap view (n.is ∙ sym (rolls-TryFinally n.position n.block n.finalizer)) ∙ fold-roll-Tree Term Case view_step case_step (Tree-F.TryFinally n.position n.block n.finalizer) in
+    let e_first : code_view first ≡ into m s ls k a.next (view n.block.value) = subst (λ (x : Tree). code_view first ≡ into m s ls k a.next (view x)) c.deref-in-TryFinally.ensures c.in_ok-first-in-TryFinally.ensures in
+    let e_kept : map variable_view c.in_ok-kept_variables-in-TryFinally.kept_variables.items ≡ kept (target_of ls) f = subst (λ (x : Tree). map variable_view c.in_ok-kept_variables-in-TryFinally.kept_variables.items ≡ kept (target_of ls) (view x)) c.deref-in-TryFinally-2.ensures c.in_ok-kept_variables-in-TryFinally.ensures in
+    let e_front : code_view front ≡ keep_all (kept (target_of ls) f) first.next = c.in_ok-front-in-TryFinally.ensures ∙ ap (λ xs. keep_all xs first.next) (ap (map variable_view) c.deref-in-TryFinally-3.ensures.value ∙ e_kept) in
+    let e_code : code_view code ≡ into m s ls discard front.next f = subst (λ (x : Tree). code_view code ≡ into m s ls discard front.next (view x)) c.deref-in-TryFinally-4.ensures c.in_ok-code-in-TryFinally.ensures in
+    let e_second : code_view c.in_ok-second-in-TryFinally.second ≡ joined (joined (code_view front) (code_view code)) (give_all_back (kept (target_of ls) f) first.next code.next) = c.in_ok-second-in-TryFinally.ensures ∙ ap (λ xs. joined (joined (code_view front) (code_view code)) (give_all_back xs first.next code.next)) (ap (map variable_view) c.deref-in-TryFinally-5.ensures.value ∙ e_kept) in
+    subst (λ x. IfOk c.finished.result (λ w. code_view w ≡ x)) (ap (finished n.position (code_view first)) e_second ∙ sym (ap (into m s ls k a.next) v ∙ finally-joins m s ls k a.next n.position (code_view first) (code_view front) (code_view code) (view n.block.value) f e_first e_front e_code)) c.finished.ensures
 
 pub statements_of-returns-in-UnaryOp : goal.statements_of-returns-in-UnaryOp
 statements_of-returns-in-UnaryOp t c =

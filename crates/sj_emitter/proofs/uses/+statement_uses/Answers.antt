@@ -1,9 +1,9 @@
 use Rattle.std.proofs.Common.{◌≡◌, ◌∙◌, ◌++◌, ap, sym, refl}
-use Rattle.sj_core.specs.Terms.{Statement, assign_field, if_of, while_of, switch_of, try_of}
+use Rattle.sj_core.specs.Terms.{Statement, assign_field, if_of, while_of, switch_of, try_of, finally_of}
 use Rattle.sj_core.specs.Views.{variable_view, expression_view, statement_view, statements_view, cases_view, statement_step, case_step, Case}
 use Rattle.sj_core.specs.declared.statements.CoreStatement.TheFolds.{fold-roll-CoreStatement}
 use Rattle.sj_core.specs.declared.statements.CoreStatement.TheOpen.{CoreStatement-F}
-use Rattle.sj_core.specs.declared.statements.CoreStatement.TheVariants.{rolls-AssignField, rolls-If, rolls-While, rolls-Switch, rolls-Try}
+use Rattle.sj_core.specs.declared.statements.CoreStatement.TheVariants.{rolls-AssignField, rolls-If, rolls-While, rolls-Switch, rolls-Try, rolls-Finally}
 use Rattle.sj_emit_expr.specs.Uses.{uses_in, uses_of, uses_of_all, uses_of_cases}
 use Rattle.sj_emitter.proofs.Collected.{more-uses, case-step}
 use Rattle.sj_emitter.proofs.uses.+statement_uses.Goals as goal
@@ -58,3 +58,12 @@ add_uses_of-returns-in_ok-add_uses_of_all-in-Try t c =
     let second = uses_of_all (lookup_of c.args.known.now) (statements_view c.deref-in-Try-2.result.now) in
     let parts : first ++ second ≡ uses_of (lookup_of c.args.known.now) (statement_view c.args.statement.now) = rw (v, c.deref-in-Try.ensures.value, c.deref-in-Try-2.ensures.value) refl in
     rw (← more-uses _ _ first second _ c.in_ok-add_uses_of_all-in-Try.ensures parts) c.add_uses_of_all-in-Try-2.ensures
+
+pub add_uses_of-returns-in_ok-add_uses_of_all-in-Finally : goal.add_uses_of-returns-in_ok-add_uses_of_all-in-Finally
+add_uses_of-returns-in_ok-add_uses_of_all-in-Finally t c =
+    let n = c.in-Finally in
+    let v : statement_view c.args.statement.now ≡ finally_of n.field-0 (statements_view n.block.items) (statements_view n.finalizer.items) = ap statement_view (n.is ∙ sym (rolls-Finally n.field-0 n.block n.finalizer)) ∙ fold-roll-CoreStatement Statement Case statement_step case_step (CoreStatement-F.Finally n.field-0 n.block n.finalizer) in
+    let first = uses_of_all (lookup_of c.args.known.now) (statements_view c.deref-in-Finally.result.now) in
+    let second = uses_of_all (lookup_of c.args.known.now) (statements_view c.deref-in-Finally-2.result.now) in
+    let parts : first ++ second ≡ uses_of (lookup_of c.args.known.now) (statement_view c.args.statement.now) = rw (v, c.deref-in-Finally.ensures.value, c.deref-in-Finally-2.ensures.value) refl in
+    rw (← more-uses _ _ first second _ c.in_ok-add_uses_of_all-in-Finally.ensures parts) c.add_uses_of_all-in-Finally-2.ensures

@@ -1,0 +1,3 @@
+mod Once
+mod Rows
+mod Shapes
