@@ -211,9 +211,10 @@ module _ (z : Setting) (lawful : Lawful z) where
   keeping_saves [] j before sc same early = tt
   keeping_saves (x ∷ xs) j before sc same early =
       let v = held (sc.bindings (at x)) in
-      let started = js_meaning.start true (at (core.numbered j)) v sc in
-      (keeping_other xs (suc j) started (core.numbered j) (λ k l e. let i : j ≡ k = numbers-same j k e in absurd (omega arith)) ∙ started-here z lawful true (core.numbered j) v sc ∙ ap (λ (cell : js.Cell). js.holds true (held cell)) (same x (one_in x xs)),
-        keeping_saves xs (suc j) before started (λ y h. started-other z lawful true (core.numbered j) y v sc (early y (further_in x y xs h) j (omega arith)) ∙ same y (further_in x y xs h)) (early_behind x xs j early))
+      let started = js_meaning.start true (at (core.numbered j)) v sc in (
+        keeping_other xs (suc j) started (core.numbered j) (λ k l e. let i : j ≡ k = numbers-same j k e in absurd (omega arith)) ∙ started-here z lawful true (core.numbered j) v sc ∙ ap (λ (cell : js.Cell). js.holds true (held cell)) (same x (one_in x xs)),
+        keeping_saves xs (suc j) before started (λ y h. started-other z lawful true (core.numbered j) y v sc (early y (further_in x y xs h) j (omega arith)) ∙ same y (further_in x y xs h)) (early_behind x xs j early),
+      )
 
   pub saves_still : (xs : List core.Variable) (j : ℕ) (before a b : js.Scope) → ((y : core.Variable) → IsSaved xs j y → b.bindings (at y) ≡ a.bindings (at y)) → Saves xs j before a → Saves xs j before b
   saves_still [] j before a b same s = tt

@@ -234,8 +234,7 @@ pub fn finished(
 ) -> Result<Written, NoMemory>
     ensures { IfOk result (λ w. code_view w ≡ desugar.finished position (code_view block) (code_view finalizer)) }
 {
-    let statement =
-        CoreStatement::Finally(Some(position), block.statements, finalizer.statements);
+    let statement = CoreStatement::Finally(Some(position), block.statements, finalizer.statements);
     one(alloc, statement, finalizer.next)
 }
 

@@ -14,7 +14,8 @@ mod writing;
 pub use destinations::{Destination, Target, copied_variable, target_of, with_label};
 pub use forms::{
     CalledMember, Operation, SwitchCases, assigned, binary_value, branched, call_value, case_of,
-    declared, defined, finished, logged, looped, looped_behind, switched, tested_loop, tried, unary_value,
+    declared, defined, finished, logged, looped, looped_behind, switched, tested_loop, tried,
+    unary_value,
 };
 pub use jumps::{labeled, leaving};
 pub use objects::{
