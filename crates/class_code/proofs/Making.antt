@@ -26,11 +26,11 @@ one_more : (n : ℕ) → 1 + n ≡ suc n
 one_more n = omega arith
 
 -- the last item of a heap
-last_at : (h : List Stored) (y : Stored) → slice_get (h ++ y ∷ []) (length h) ≡ Some y
+pub last_at : (h : List Stored) (y : Stored) → slice_get (h ++ y ∷ []) (length h) ≡ Some y
 last_at [] y = refl
 last_at (z ∷ h) y = last_at h y
 
-last_set : (h : List Stored) (x y : Stored) → set (h ++ y ∷ []) (length h) x ≡ h ++ x ∷ []
+pub last_set : (h : List Stored) (x y : Stored) → set (h ++ y ∷ []) (length h) x ≡ h ++ x ∷ []
 last_set [] x y = refl
 last_set (z ∷ h) x y = ap (λ (k : List Stored). z ∷ k) (last_set h x y)
 
@@ -61,7 +61,7 @@ module _ (p : Program) (target : List ClassLink) (s : State) where
   this_object = object (next_address s)
 
   -- one property of the object that is made
-  sets : (low : Low) (sc : Scope) (m : Making) (y : Name) (e : Expression) (v : Value) (own : Name → Option Value) → is_same_text y (codes "__proto__") ≡ false → sc.this_value ≡ making m (Some this_object) → evaluate p low e sc (at own) ≡ done (gives v (at own)) → execute p low (assign_property this_use y e) sc (at own) ≡ done (ends normally sc (at (with_property y v own)))
+  pub sets : (low : Low) (sc : Scope) (m : Making) (y : Name) (e : Expression) (v : Value) (own : Name → Option Value) → is_same_text y (codes "__proto__") ≡ false → sc.this_value ≡ making m (Some this_object) → evaluate p low e sc (at own) ≡ done (gives v (at own)) → execute p low (assign_property this_use y e) sc (at own) ≡ done (ends normally sc (at (with_property y v own)))
   sets low sc m y e v own free this given =
       ap (λ (t : This). then_do (this_of t (at own)) (in_statement sc (λ u s. unless_missing u (with_expression p low e (λ w sc s. with_state (set_property u y w s) sc s)) sc s))) this
       ∙ ap (λ (o : Out ExpressionEnd). then_do o (in_statement sc (λ w s. with_state (set_property this_object y w s) sc s))) given

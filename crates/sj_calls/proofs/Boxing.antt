@@ -1,9 +1,9 @@
 -- `new $C` of a char: where the class stands in the program, it makes an object that holds the char.
 use Rattle.std.specs.Prelude.{◌≤◌, ◌<◌, ◌^◌, codes, pos}
 use Rattle.std.proofs.Common.{◌≡◌, ℕ, zero, suc, Bool, true, false, List, [], ◌∷◌, Option, Some, refl, sym, ap, ◌∙◌, subst, arith}
-use Rattle.class_casts.specs.Helpers.{helper_name, box_constructor, set_from}
-use Rattle.class_casts.specs.HelperVariants.{BoxedChar, ConstantsOf}
-use Rattle.class_casts.specs.KindVariants as kinds
+use Rattle.array_code.specs.Helpers.{helper_name, box_constructor, set_from}
+use Rattle.array_code.specs.HelperVariants.{BoxedChar, ConstantsOf}
+use Rattle.array_code.specs.KindVariants as kinds
 use Rattle.dispatch_laws.specs.States as ir
 use Rattle.js_mean.specs.Classes.{members_of}
 use Rattle.js_mean.specs.Files.{owner}

@@ -5,17 +5,17 @@ use Rattle.std.specs.Prelude.{pos, codes}
 use Rattle.outcomes.specs.Outcome.{Out, done, then_do}
 use Rattle.outcomes.specs.Agreement.{Direction, backward, Sim}
 use Rattle.outcomes.proofs.Simulation.{sim_done, sim_going, sim_weaken}
-use Rattle.class_casts.proofs.Kinded.{casts_tell}
-use Rattle.class_casts.proofs.Shortly.{short_casts_go}
-use Rattle.class_casts.specs.Kinds as casts
-use Rattle.class_casts.specs.Kinds.{CastStands, passes, unboxed_value}
-use Rattle.class_casts.specs.Helpers.{helper_name, init_name, kind_word, raise}
-use Rattle.class_casts.specs.Words.{class_name}
-use Rattle.class_casts.specs.FailureVariants.{Cast}
-use Rattle.class_casts.specs.HelperVariants.{CastTo, Throws}
-use Rattle.class_casts.specs.Kind.{Kind}
+use Rattle.array_code.proofs.Kinded.{casts_tell}
+use Rattle.array_code.proofs.Shortly.{short_casts_go}
+use Rattle.array_code.specs.Kinds as casts
+use Rattle.array_code.specs.Kinds.{CastStands, passes, unboxed_value}
+use Rattle.array_code.specs.Helpers.{helper_name, init_name, kind_word, raise}
+use Rattle.array_code.specs.Words.{class_name}
+use Rattle.array_code.specs.FailureVariants.{Cast}
+use Rattle.array_code.specs.HelperVariants.{CastTo, Throws}
+use Rattle.array_code.specs.Kind.{Kind}
 use Rattle.sj_bodies.specs.Helper.{Helper}
-use Rattle.class_casts.specs.KindVariants as kinds
+use Rattle.array_code.specs.KindVariants as kinds
 use Rattle.dispatch_laws.specs.Meaning as ir_meaning
 use Rattle.dispatch_laws.specs.Operators.{answers}
 use Rattle.dispatch_laws.specs.States as ir

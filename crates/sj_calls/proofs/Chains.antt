@@ -1,7 +1,7 @@
 -- Where the classes of a chain stand in the program, their constructors make an object that leads to the constants of its class.
 use Rattle.std.proofs.Common.{◌≡◌, true, List, [], ◌∷◌, Option, Some, None, refl, ap, ◌∙◌}
 use Rattle.std.specs.Prelude.{codes}
-use Rattle.class_casts.specs.Words.{constants_name}
+use Rattle.array_code.specs.Words.{constants_name}
 use Rattle.dispatch_laws.specs.States as ir
 use Rattle.js_mean.specs.Meaning.{top_cell}
 use Rattle.js_mean.specs.Objects.{with_property, no_properties}

@@ -3,13 +3,13 @@ use Rattle.std.proofs.Common.{◌≡◌, ℕ, suc, ◌≤◌, Bool, true, false,
 use Rattle.outcomes.specs.Outcome.{Out, done}
 use Rattle.outcomes.specs.Agreement.{Direction, forward, backward, Sim}
 use Rattle.outcomes.proofs.Simulation.{sim_done, sim_going, sim_weaken}
-use Rattle.class_casts.proofs.Classed.{class_casts_tell}
-use Rattle.class_casts.proofs.Shortly.{short_casts_go}
-use Rattle.class_casts.specs.Classes.{class_cast_code, ClassCastStands}
-use Rattle.class_casts.specs.Kinds.{failed}
-use Rattle.class_casts.specs.Words.{units_of}
-use Rattle.class_casts.specs.FailureVariants.{Cast}
-use Rattle.class_casts.specs.HelperVariants.{Throws}
+use Rattle.array_code.proofs.Classed.{class_casts_tell}
+use Rattle.array_code.proofs.Shortly.{short_casts_go}
+use Rattle.array_code.specs.Classes.{class_cast_code, ClassCastStands}
+use Rattle.array_code.specs.Kinds.{failed}
+use Rattle.array_code.specs.Words.{units_of}
+use Rattle.array_code.specs.FailureVariants.{Cast}
+use Rattle.array_code.specs.HelperVariants.{Throws}
 use Rattle.dispatch_laws.specs.Meaning as ir_meaning
 use Rattle.dispatch_laws.specs.Operators.{answers}
 use Rattle.dispatch_laws.specs.States as ir

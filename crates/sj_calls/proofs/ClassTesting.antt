@@ -7,21 +7,21 @@ use Rattle.outcomes.specs.Agreement.{Direction, forward, backward, Sim}
 use Rattle.outcomes.proofs.Simulation.{sim_done, sim_going}
 use Rattle.sj_bodies.proofs.Lists.{at_front, further_on}
 use Rattle.sj_bodies.specs.Standing.{is_bare}
-use Rattle.class_casts.proofs.Classed.{hijacked_asks}
-use Rattle.class_casts.proofs.Hijacking.{alone, itself, kind_hijacked, object_fails, passed_is, is_passed}
-use Rattle.class_casts.proofs.Instanced.{tests_tell_instances, worded_among}
-use Rattle.class_casts.proofs.Kinded.{null_fails, test_passes}
-use Rattle.class_casts.proofs.Marked.{class_tests_tell, null_is_no_instance}
-use Rattle.class_casts.proofs.Shortly.{test_goes}
-use Rattle.class_casts.proofs.Worldly.{test_tells}
-use Rattle.class_casts.specs.ClassTestsKinds.{is_of, is_told}
-use Rattle.class_casts.specs.Hijacked.{number_in}
-use Rattle.class_casts.specs.Instances.{is_worded}
-use Rattle.class_casts.specs.Kinds.{KindTestStands, passes}
-use Rattle.class_casts.specs.Tests.{HasMarker, on_object, on_undefined, on_boolean, on_number, on_big_int, on_text, TestStands, TestsStand, tests_none, tests_more, class_test_code, class_told}
-use Rattle.class_casts.specs.Words.{kind_class, worded_kinds}
-use Rattle.class_casts.specs.Kind.{Kind}
-use Rattle.class_casts.specs.KindVariants as kinds
+use Rattle.array_code.proofs.Classed.{hijacked_asks}
+use Rattle.array_code.proofs.Hijacking.{alone, itself, kind_hijacked, object_fails, passed_is, is_passed}
+use Rattle.array_code.proofs.Instanced.{tests_tell_instances, worded_among}
+use Rattle.array_code.proofs.Kinded.{null_fails, test_passes}
+use Rattle.array_code.proofs.Marked.{class_tests_tell, null_is_no_instance}
+use Rattle.array_code.proofs.Shortly.{test_goes}
+use Rattle.array_code.proofs.Worldly.{test_tells}
+use Rattle.array_code.specs.ClassTestsKinds.{is_of, is_told}
+use Rattle.array_code.specs.Hijacked.{number_in}
+use Rattle.array_code.specs.Instances.{is_worded}
+use Rattle.array_code.specs.Kinds.{KindTestStands, passes}
+use Rattle.array_code.specs.Tests.{HasMarker, on_object, on_undefined, on_boolean, on_number, on_big_int, on_text, TestStands, TestsStand, tests_none, tests_more, class_test_code, class_told}
+use Rattle.array_code.specs.Words.{kind_class, worded_kinds}
+use Rattle.array_code.specs.Kind.{Kind}
+use Rattle.array_code.specs.KindVariants as kinds
 use Rattle.dispatch_laws.proofs.AncestorsFound.{ancestors_are_worked_out}
 use Rattle.dispatch_laws.specs.Dispatch.{is_ancestor, is_ancestor_of_any, is_small}
 use Rattle.dispatch_laws.specs.Meaning as ir_meaning
@@ -31,7 +31,7 @@ use Rattle.js_mean.specs.Meaning as js_meaning
 use Rattle.js_mean.specs.Objects.{stored_property, or_value, value_on, method_on}
 use Rattle.js_mean.specs.States as js
 use Rattle.js_tree.specs.Terms.{Name}
-use Rattle.class_casts.specs.PieceRulesClasses.{AreInstances}
+use Rattle.array_code.specs.PieceRulesClasses.{AreInstances}
 use Rattle.dispatch_laws.specs.Tests.{test_name}
 use Rattle.sj_mangling.specs.Bindings.{class_binding}
 use Rattle.sj_mangling.specs.declared.bindings.ClassBinding.TheVariants.{Marker}
@@ -43,7 +43,7 @@ use Rattle.sj_bodies.specs.Settings.{Place, SameStored, same_object, MarksAncest
 use Rattle.sj_bodies.specs.SjPlainStanding.{suits}
 use Rattle.sj_trees.specs.declared.types.IrType.TheVariants.{Any, Boolean, Class}
 use Rattle.dispatch_laws.specs.Ancestors.{IsAncestor}
-use Rattle.class_casts.specs.Calls.{IsInstance}
+use Rattle.array_code.specs.Calls.{IsInstance}
 use Rattle.dispatch_laws.specs.Known.{Classes, is_hijacked}
 use Rattle.dispatch_laws.specs.SjWorldLaws.{IsPlain}
 use Rattle.sj_calls.specs.Helpers.{ReachesTest, ClassTest, by_marker, by_kind}

@@ -19,10 +19,10 @@ use Rattle.js_tree.specs.Terms as tree
 use Rattle.js_tree.specs.Terms.{Name}
 use Rattle.js_tree.specs.Views.{statements_of}
 use Rattle.js_tree.specs.declared.operators.BinaryOperator.TheVariants as Op
-use Rattle.class_casts.specs.Helpers.{helper_name, does, calls, num, or_zero, operation, wrapped}
+use Rattle.array_code.specs.Helpers.{helper_name, does, calls, num, or_zero, operation, wrapped}
 use Rattle.sj_bodies.specs.Helper.{Helper}
-use Rattle.class_casts.specs.HelperVariants.{Throws}
-use Rattle.class_casts.specs.FailureVariants.{Division}
+use Rattle.array_code.specs.HelperVariants.{Throws}
+use Rattle.array_code.specs.FailureVariants.{Division}
 use Rattle.sj_names.proofs.Same.{impossible}
 use Rattle.sj_trees.specs.TypeOf.{binary_result}
 use Rattle.sj_trees.specs.declared.operators.BinaryOp.{BinaryOp}

@@ -14,8 +14,8 @@ use Rattle.js_mean.specs.Files.{owner}
 use Rattle.js_tree.specs.Terms as tree
 use Rattle.js_tree.specs.Terms.{Name}
 use Rattle.js_tree.specs.Views.{statements_of}
-use Rattle.class_casts.specs.Helpers.{helper_name, does, calls}
-use Rattle.class_casts.specs.Words.{x}
+use Rattle.array_code.specs.Helpers.{helper_name, does, calls}
+use Rattle.array_code.specs.Words.{x}
 use Rattle.sj_core.specs.Terms as core
 use Rattle.sj_core.specs.Views.{expressions_of}
 use Rattle.sj_bodies.specs.Coercions.{is_char}
@@ -25,8 +25,8 @@ use Rattle.sj_trees.specs.Types.{class_type}
 use Rattle.sj_trees.specs.declared.types.IrType.{IrType}
 use Rattle.sj_trees.specs.declared.types.IrType.TheVariants.{Any, String}
 use Rattle.sj_bodies.specs.Helper.{Helper}
-use Rattle.class_casts.specs.HelperVariants.{NotNull, Throws}
-use Rattle.class_casts.specs.FailureVariants.{NullReceiver}
+use Rattle.array_code.specs.HelperVariants.{NotNull, Throws}
+use Rattle.array_code.specs.FailureVariants.{NullReceiver}
 use Rattle.sj_bodies.specs.Settings.{Place, Code, Setting, usable, shown, SameState, Valued, valued, thrown, Based, a_helper, top_function, top_call}
 use Rattle.sj_bodies.specs.SjPlainStanding.{suits}
 use Rattle.sj_bodies.specs.Standing.{Fits}

@@ -21,13 +21,13 @@ pub mod Setters
 pub mod Shapes
 pub mod Whole
 pub mod Zeros
-pub use Rattle.class_casts.proofs.Owners
-pub use Rattle.class_casts.proofs.Marked
+pub use Rattle.array_code.proofs.Owners
+pub use Rattle.array_code.proofs.Marked
 pub use Rattle.sj_bodies.proofs.Equal
 pub use Rattle.sj_bodies.proofs.Lists
 pub use Rattle.sj_bodies.proofs.Names as SjProperNames
-pub use Rattle.class_casts.proofs.Markers
-pub use Rattle.class_casts.proofs.Reflective
+pub use Rattle.array_code.proofs.Markers
+pub use Rattle.array_code.proofs.Reflective
 pub mod Looking
 pub mod Reflecting
 pub mod ReflectedCases

@@ -4,16 +4,16 @@ use Rattle.std.proofs.lemmas.List.{length-append}
 use Rattle.outcomes.specs.Outcome.{Out, going}
 use Rattle.outcomes.specs.Agreement.{Direction, backward, Sim}
 use Rattle.outcomes.proofs.Simulation.{sim_going}
-use Rattle.class_casts.proofs.Bridge.{bridges_hand_on}
-use Rattle.class_casts.proofs.Parameters.{no_parameter}
-use Rattle.class_casts.proofs.ClassTestsShortly.{short_calls_go}
-use Rattle.class_casts.proofs.Telling.{dispatch_tells, others_call_methods}
-use Rattle.class_casts.specs.ClassTestsKinds.{is_of, is_told, CaseStands, CasesStand, cases_none, cases_more, dispatch_code, told_outcome}
-use Rattle.class_casts.specs.Dispatch.{Told}
-use Rattle.class_casts.specs.Kind.{Kind}
-use Rattle.class_casts.specs.KindVariants as kinds
-use Rattle.class_casts.specs.Objects.{call_found}
-use Rattle.class_casts.specs.Words.{first_parameters, parameter, parameters_of, kind_class, public_function}
+use Rattle.array_code.proofs.Bridge.{bridges_hand_on}
+use Rattle.array_code.proofs.Parameters.{no_parameter}
+use Rattle.array_code.proofs.ClassTestsShortly.{short_calls_go}
+use Rattle.array_code.proofs.Telling.{dispatch_tells, others_call_methods}
+use Rattle.array_code.specs.ClassTestsKinds.{is_of, is_told, CaseStands, CasesStand, cases_none, cases_more, dispatch_code, told_outcome}
+use Rattle.array_code.specs.Dispatch.{Told}
+use Rattle.array_code.specs.Kind.{Kind}
+use Rattle.array_code.specs.KindVariants as kinds
+use Rattle.array_code.specs.Objects.{call_found}
+use Rattle.array_code.specs.Words.{first_parameters, parameter, parameters_of, kind_class, public_function}
 use Rattle.dispatch_laws.specs.Dispatch.{is_ancestor}
 use Rattle.dispatch_laws.specs.Known.{is_hijacked}
 use Rattle.dispatch_laws.specs.Meaning as ir_meaning

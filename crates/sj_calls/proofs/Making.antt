@@ -14,8 +14,8 @@ use Rattle.js_mean.specs.Files.{owner}
 use Rattle.js_mean.specs.Objects.{no_properties, with_property, allocated, next_address, set_stored, set_property, with_heap}
 use Rattle.js_mean.specs.States.{Value, object, class, ClassLink, Making, This, making, Cell, absent, holds, Stored, plain, Scope, State, ExpressionEnd, gives, StatementEnd, ends, normally, in_statement, next_statement, Program}
 use Rattle.js_mean.specs.Meaning.{Low, below, binding, bind_declared, class_bindings, member_scope, or_outer, cell_value, top_cell, name_value, evaluate, execute, execute_all, unless_missing, with_expression, with_state, this_of, with_this, construct, construct_by, made}
-use Rattle.class_casts.specs.Pieces.{constructor_body, field_start, zero_of}
-use Rattle.class_casts.specs.Words.{class_name, constants_name}
+use Rattle.array_code.specs.Pieces.{constructor_body, field_start, zero_of}
+use Rattle.array_code.specs.Words.{class_name, constants_name}
 use Rattle.sj_bodies.proofs.Heaps.{get-end, set-end}
 use Rattle.sj_calls.specs.Made.{zero_value, with_fields, started, MakerStands, Makers, makes_top, makes_more, ChainsMake, ShortBoundsGo}
 

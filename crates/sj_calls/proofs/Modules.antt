@@ -7,8 +7,8 @@ use Rattle.sj_bodies.proofs.Orders.{no_operands}
 use Rattle.outcomes.specs.Outcome.{Out, done}
 use Rattle.outcomes.specs.Agreement.{Direction, Sim}
 use Rattle.outcomes.proofs.Simulation.{sim_done, sim_then}
-use Rattle.class_casts.proofs.Loading.{instance_made, stores_tell, loads_tell}
-use Rattle.class_casts.specs.Modules.{with_top, given_in_top, set_top, MakesModule, constructed, loader_code, storer_code}
+use Rattle.array_code.proofs.Loading.{instance_made, stores_tell, loads_tell}
+use Rattle.array_code.specs.Modules.{with_top, given_in_top, set_top, MakesModule, constructed, loader_code, storer_code}
 use Rattle.dispatch_laws.specs.Meaning as ir_meaning
 use Rattle.dispatch_laws.specs.Meaning.{without_parameters}
 use Rattle.dispatch_laws.specs.States as ir

@@ -1,10 +1,10 @@
 -- The names of the emitted code differ.
 use Rattle.std.proofs.Common.{◌≡◌, ◌≤◌, ℕ, Bool, true, false, List, ◌∷◌, refl, ap, sym, ◌∙◌, arith}
 use Rattle.std.specs.Prelude.{codes}
-use Rattle.class_casts.specs.Helpers.{helper_name}
+use Rattle.array_code.specs.Helpers.{helper_name}
 use Rattle.sj_bodies.specs.Helper.{Helper}
-use Rattle.class_casts.specs.HelperVariants as helpers
-use Rattle.class_casts.specs.FailureVariants as failures
+use Rattle.array_code.specs.HelperVariants as helpers
+use Rattle.array_code.specs.FailureVariants as failures
 use Rattle.outcomes.specs.Agreement.{Room}
 use Rattle.dispatch_laws.specs.World as ir_world
 use Rattle.js_mean.specs.States as js

@@ -9,11 +9,11 @@ use Rattle.sj_calls.proofs.Reflecting.{reflected_value, reflected_short, reflect
 use Rattle.sj_calls.specs.Reflected.{ReflectionStands}
 use Rattle.sj_names.specs.MethodNames.{spelled_method}
 use Rattle.dispatch_laws.specs.Meaning.{no_such_method}
-use Rattle.class_casts.specs.FailureVariants.{NullReceiver, Division, Cast, Method}
-use Rattle.class_casts.specs.Helpers.{kind_word}
-use Rattle.class_casts.specs.Words.{units_of}
+use Rattle.array_code.specs.FailureVariants.{NullReceiver, Division, Cast, Method}
+use Rattle.array_code.specs.Helpers.{kind_word}
+use Rattle.array_code.specs.Words.{units_of}
 use Rattle.sj_bodies.specs.Helper.{Helper}
-use Rattle.class_casts.specs.HelperVariants.{Equal, NotNull, Throws}
+use Rattle.array_code.specs.HelperVariants.{Equal, NotNull, Throws}
 use Rattle.dispatch_laws.proofs.OwnTargets.{called_target}
 use Rattle.dispatch_laws.specs.Targets.{IsTargetOf}
 use Rattle.dispatch_laws.specs.Dispatch.{chain_of, is_ancestor}

@@ -3,13 +3,13 @@ use Rattle.std.proofs.Common.{arith, ◌≡◌, ◌⊎◌, inl, inr, true, List,
 use Rattle.std.specs.List.{list_all}
 use Rattle.std.proofs.lemmas.Bool.{and_parts}
 use Rattle.std.proofs.lemmas.List.Elements.{Contains-append_left, Contains-append_right, Contains-push_cases}
-use Rattle.class_casts.specs.Calls.{IsProxyTarget}
-use Rattle.class_casts.specs.ClassTestsKinds.{is_told}
-use Rattle.class_casts.specs.Dispatch.{Reflected, IsReachedTarget, IsReflectedTarget, AreReflected, reflected_none, reflected, unreflected}
-use Rattle.class_casts.specs.Fact.{Fact}
-use Rattle.class_casts.specs.Kind.{Kind}
-use Rattle.class_casts.specs.KindVariants as kinds
-use Rattle.class_casts.specs.Words.{kind_class, told_kinds}
+use Rattle.array_code.specs.Calls.{IsProxyTarget}
+use Rattle.array_code.specs.ClassTestsKinds.{is_told}
+use Rattle.array_code.specs.Dispatch.{Reflected, IsReachedTarget, IsReflectedTarget, AreReflected, reflected_none, reflected, unreflected}
+use Rattle.array_code.specs.Fact.{Fact}
+use Rattle.array_code.specs.Kind.{Kind}
+use Rattle.array_code.specs.KindVariants as kinds
+use Rattle.array_code.specs.Words.{kind_class, told_kinds}
 use Rattle.dispatch_laws.proofs.Proxies.{proxy_params, proxy_right, proxy_found}
 use Rattle.dispatch_laws.specs.Dispatch.{proxy_target}
 use Rattle.dispatch_laws.specs.Known.{Name, Classes}

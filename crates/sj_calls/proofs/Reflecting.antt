@@ -6,21 +6,21 @@ use Rattle.outcomes.specs.Outcome.{Out, done, going, then_do}
 use Rattle.outcomes.specs.Agreement.{Direction, forward, backward, Sim}
 use Rattle.outcomes.proofs.Sequence.{then_do-right}
 use Rattle.outcomes.proofs.Simulation.{sim_done, sim_wrong, sim_going, sim_then, sim_weaken}
-use Rattle.class_casts.proofs.Parameters.{no_parameter}
-use Rattle.class_casts.proofs.Reflecting.{reflection_tells, own_lines_run, proxies_hand_on, short_reflections_go}
-use Rattle.class_casts.proofs.Telling.{object_is_none}
-use Rattle.class_casts.specs.ClassTestsKinds.{is_of, is_told}
-use Rattle.class_casts.specs.Dispatch.{Reflected}
-use Rattle.class_casts.specs.FailureVariants.{Method}
-use Rattle.class_casts.specs.Helpers.{helper_name}
-use Rattle.class_casts.specs.HelperVariants.{BoxedChar, Throws}
-use Rattle.class_casts.specs.Kind.{Kind}
-use Rattle.class_casts.specs.KindVariants as kinds
-use Rattle.class_casts.specs.Objects.{call_found}
-use Rattle.class_casts.specs.Pieces.{is_char as is_char_result}
-use Rattle.class_casts.specs.Reflecting.{reflective_code, proxy_code, boxed_outcome, ReflectedStands, AllReflected, reflected_none, reflected_more, reflected_outcome, own_lines, HasEntry, on_object, on_undefined, on_boolean, on_number, on_big_int, on_text, given_up, own_outcome}
-use Rattle.class_casts.specs.Tests.{TestStands}
-use Rattle.class_casts.specs.Words.{kind_class, parameters_of, public_function, units_of}
+use Rattle.array_code.proofs.Parameters.{no_parameter}
+use Rattle.array_code.proofs.Reflecting.{reflection_tells, own_lines_run, proxies_hand_on, short_reflections_go}
+use Rattle.array_code.proofs.Telling.{object_is_none}
+use Rattle.array_code.specs.ClassTestsKinds.{is_of, is_told}
+use Rattle.array_code.specs.Dispatch.{Reflected}
+use Rattle.array_code.specs.FailureVariants.{Method}
+use Rattle.array_code.specs.Helpers.{helper_name}
+use Rattle.array_code.specs.HelperVariants.{BoxedChar, Throws}
+use Rattle.array_code.specs.Kind.{Kind}
+use Rattle.array_code.specs.KindVariants as kinds
+use Rattle.array_code.specs.Objects.{call_found}
+use Rattle.array_code.specs.Pieces.{is_char as is_char_result}
+use Rattle.array_code.specs.Reflecting.{reflective_code, proxy_code, boxed_outcome, ReflectedStands, AllReflected, reflected_none, reflected_more, reflected_outcome, own_lines, HasEntry, on_object, on_undefined, on_boolean, on_number, on_big_int, on_text, given_up, own_outcome}
+use Rattle.array_code.specs.Tests.{TestStands}
+use Rattle.array_code.specs.Words.{kind_class, parameters_of, public_function, units_of}
 use Rattle.dispatch_laws.specs.Dispatch.{proxy_target}
 use Rattle.dispatch_laws.specs.Meaning as ir_meaning
 use Rattle.dispatch_laws.specs.Meaning.{no_such_method}

@@ -7,9 +7,9 @@ use Rattle.std.proofs.lemmas.Bool.Decides.{Decides-int_eq}
 use Rattle.outcomes.specs.Outcome.{Out, done, then_do}
 use Rattle.outcomes.specs.Agreement.{Direction, Sim}
 use Rattle.outcomes.proofs.Simulation.{sim_done}
-use Rattle.class_casts.proofs.Bridge.{return_hands_on}
-use Rattle.class_casts.specs.Helpers.{helper_name, equality, both_boxed, is_boxed, same_units, same_values}
-use Rattle.class_casts.specs.HelperVariants.{BoxedChar, Equal}
+use Rattle.array_code.proofs.Bridge.{return_hands_on}
+use Rattle.array_code.specs.Helpers.{helper_name, equality, both_boxed, is_boxed, same_units, same_values}
+use Rattle.array_code.specs.HelperVariants.{BoxedChar, Equal}
 use Rattle.dispatch_laws.specs.Meaning as ir_meaning
 use Rattle.dispatch_laws.specs.Operators.{binary_value, is_same_value}
 use Rattle.dispatch_laws.specs.States as ir

@@ -18,7 +18,7 @@ use Rattle.sj_bodies.specs.Settings.{Place, Top, a_static, a_setter, a_cell, cel
 use Rattle.sj_bodies.proofs.Worlds.{World, grows-refl, SameValue, same_undefined}
 use Rattle.sj_trees.specs.declared.types.IrType.{IrType}
 use Rattle.sj_trees.specs.declared.types.IrType.TheVariants.{NoType}
-use Rattle.class_casts.specs.Modules.{with_top}
+use Rattle.array_code.specs.Modules.{with_top}
 use Rattle.sj_trees.specs.Types.{class_type}
 use Rattle.sj_calls.specs.Worlds.{StaticStands, setter_code}
 use Rattle.sj_calls.proofs.Names.{is_static_variable, static_apart}

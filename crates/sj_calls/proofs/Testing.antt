@@ -8,14 +8,14 @@ use Rattle.int_arithmetic.specs.Signed.{wrapped_to_byte, wrapped_to_short}
 use Rattle.outcomes.specs.Outcome.{done}
 use Rattle.outcomes.specs.Agreement.{Direction, Sim}
 use Rattle.outcomes.proofs.Simulation.{sim_done}
-use Rattle.class_casts.proofs.Kinded.{test_passes}
-use Rattle.class_casts.specs.Kinds.{KindTestStands, passes}
-use Rattle.class_casts.proofs.Smallest.{small_tests_tell}
-use Rattle.class_casts.specs.ClassTestsKinds.{BoxesStand}
-use Rattle.class_casts.specs.Helpers.{helper_name}
-use Rattle.class_casts.specs.HelperVariants.{BoxedChar, TestOf}
-use Rattle.class_casts.specs.Kind.{Kind}
-use Rattle.class_casts.specs.KindVariants as kinds
+use Rattle.array_code.proofs.Kinded.{test_passes}
+use Rattle.array_code.specs.Kinds.{KindTestStands, passes}
+use Rattle.array_code.proofs.Smallest.{small_tests_tell}
+use Rattle.array_code.specs.ClassTestsKinds.{BoxesStand}
+use Rattle.array_code.specs.Helpers.{helper_name}
+use Rattle.array_code.specs.HelperVariants.{BoxedChar, TestOf}
+use Rattle.array_code.specs.Kind.{Kind}
+use Rattle.array_code.specs.KindVariants as kinds
 use Rattle.dispatch_laws.specs.Dispatch.{is_small}
 use Rattle.dispatch_laws.specs.Meaning as ir_meaning
 use Rattle.dispatch_laws.specs.States as ir

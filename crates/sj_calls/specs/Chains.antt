@@ -1,13 +1,13 @@
 -- The classes of a chain, as they stand in the program.
 use Rattle.std.specs.Prelude.{◌≡◌, true, List, [], ◌∷◌, Option, Some, None, ◌⊎◌}
-use Rattle.class_casts.specs.Words.{constants_name}
+use Rattle.array_code.specs.Words.{constants_name}
 use Rattle.dispatch_laws.specs.World as ir_world
 use Rattle.js_mean.specs.Classes.{members_of}
 use Rattle.js_mean.specs.Files.{owner}
 use Rattle.js_mean.specs.States as js
 use Rattle.js_tree.specs.Terms.{Name, Member, constructor_of}
 use Rattle.js_tree.specs.Views.{statements_of}
-use Rattle.class_casts.specs.Pieces.{constructor_body}
+use Rattle.array_code.specs.Pieces.{constructor_body}
 use Rattle.sj_bodies.specs.Settings.{Place, IsField, TellsClass, link_of, some_constants, a_class}
 use Rattle.sj_bodies.specs.Worlds.{World}
 use Rattle.sj_trees.specs.declared.classes.FieldDef.{FieldDef}

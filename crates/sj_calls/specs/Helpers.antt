@@ -1,23 +1,24 @@
 -- Helpers that fail: what each does, and its function; the class of objects that hold chars; helpers that tell values apart; and tests.
 use Rattle.std.specs.Prelude.{◌≡◌, ℕ, true, false, List, [], ◌∷◌, Option, Some, None, codes}
 use Rattle.std.specs.List.{Contains}
-use Rattle.class_casts.specs.Classes.{hijacked_test_code}
-use Rattle.class_casts.specs.Tests.{class_test_code}
+pub use Rattle.array_code.specs.Codes.{code_of_item, helper_code}
+use Rattle.array_code.specs.Classes.{hijacked_test_code}
+use Rattle.array_code.specs.Tests.{class_test_code}
 use Rattle.dispatch_laws.specs.States as ir
 use Rattle.js_mean.specs.Classes.{members_of}
 use Rattle.js_mean.specs.Files.{owner}
 use Rattle.js_mean.specs.Meaning as js_meaning
 use Rattle.js_mean.specs.Objects.{no_properties, with_property}
 use Rattle.js_mean.specs.States as js
-use Rattle.js_tree.specs.Terms.{Name, Expression, Item, function_item, throw_of, return_of, text_literal}
+use Rattle.js_tree.specs.Terms.{Name, Expression, throw_of, return_of, text_literal}
 use Rattle.js_tree.specs.Views.{statements_of}
-use Rattle.class_casts.specs.Helpers.{raise, zero_check, helper_name, helper_item, box_constructor}
-use Rattle.class_casts.specs.Words.{kind_class, worded_kinds}
+use Rattle.array_code.specs.Helpers.{raise, zero_check, helper_name, box_constructor}
+use Rattle.array_code.specs.Words.{kind_class, worded_kinds}
 use Rattle.sj_bodies.specs.Helper.{Helper}
-use Rattle.class_casts.specs.HelperVariants.{BoxedChar, ConstantsOf, Equal, NotNull, TestOf}
-use Rattle.class_casts.specs.Kind.{Kind}
-use Rattle.class_casts.specs.KindVariants as kinds
-use Rattle.class_casts.specs.PieceRulesClasses.{AreInstances}
+use Rattle.array_code.specs.HelperVariants.{BoxedChar, ConstantsOf, Equal, NotNull, TestOf}
+use Rattle.array_code.specs.Kind.{Kind}
+use Rattle.array_code.specs.KindVariants as kinds
+use Rattle.array_code.specs.PieceRulesClasses.{AreInstances}
 use Rattle.dispatch_laws.specs.Tests.{test_name}
 use Rattle.sj_bodies.specs.Settings.{Place, a_test, a_helper, box_link, division_helper, SameState}
 use Rattle.sj_bodies.specs.Worlds.{World, Grows, SameValue}
@@ -25,15 +26,6 @@ use Rattle.sj_trees.specs.declared.operators.BinaryOp.{BinaryOp}
 use Rattle.sj_trees.specs.declared.types.IrType.{IrType}
 use Rattle.sj_trees.specs.declared.types.IrType.TheVariants.{Any, Undefined, Boolean, Char, Byte, Short, Int, Long, String, Class}
 use Rattle.dispatch_laws.specs.Known.{is_hijacked}
-
--- the code of an item that declares a function
-abbrev pub code_of_item : Item → js_meaning.Code
-code_of_item (function_item f xs ss) = record { parameters = xs; body = ss }
-code_of_item _ = record { parameters = []; body = statements_of [] }
-
--- the code of a helper that is a function, by its item
-abbrev pub helper_code : Helper → js_meaning.Code
-helper_code h = code_of_item (helper_item (λ k. []) h)
 
 -- the function that throws an exception of this class with this message, and the one that hands on what isn't null
 abbrev pub failing_code : List ℕ → List ℕ → js_meaning.Code

@@ -1,10 +1,10 @@
 -- Methods that are looked up: where an object of a class finds the method, and the function that tells primitive receivers apart.
 use Rattle.std.specs.Prelude.{◌≡◌, ℕ, Bool, true, false, List, ◌∷◌, Contains, Some, codes}
-use Rattle.class_casts.specs.Bridges.{bridge}
-use Rattle.class_casts.specs.ClassTestsKinds.{dispatch_code, is_told}
-use Rattle.class_casts.specs.Dispatch.{Told}
-use Rattle.class_casts.specs.Kind.{Kind}
-use Rattle.class_casts.specs.Words.{kind_class, parameters_of}
+use Rattle.array_code.specs.Bridges.{bridge}
+use Rattle.array_code.specs.ClassTestsKinds.{dispatch_code, is_told}
+use Rattle.array_code.specs.Dispatch.{Told}
+use Rattle.array_code.specs.Kind.{Kind}
+use Rattle.array_code.specs.Words.{kind_class, parameters_of}
 use Rattle.dispatch_laws.specs.Dispatch.{is_ancestor}
 use Rattle.dispatch_laws.specs.Known.{is_hijacked}
 use Rattle.dispatch_laws.specs.Targets.{IsTargetOf}

@@ -8,8 +8,8 @@ use Rattle.js_mean.specs.Files.{owner}
 use Rattle.js_mean.specs.Meaning.{below, top_cell, construct}
 use Rattle.js_mean.specs.Objects.{no_properties, with_property, allocated, next_address}
 use Rattle.js_mean.specs.States.{Value, undefined, null, boolean, number, big_int, text, object, ClassLink, holds, State, gives, Program}
-use Rattle.class_casts.specs.Pieces.{constructor_body}
-use Rattle.class_casts.specs.Words.{class_name, constants_name}
+use Rattle.array_code.specs.Pieces.{constructor_body}
+use Rattle.array_code.specs.Words.{class_name, constants_name}
 use Rattle.sj_mangling.specs.Bindings.{field_binding}
 use Rattle.sj_mangling.specs.declared.bindings.FieldBinding.TheVariants.{Property}
 use Rattle.sj_trees.specs.declared.classes.FieldDef.{FieldDef}

@@ -1,14 +1,14 @@
 -- Receivers that are called by a reflective name: what each class has under it, the entries of objects, and the function of the name.
 use Rattle.std.specs.Prelude.{◌≡◌, ℕ, true, List, [], ◌∷◌, Contains, Some, None, codes}
-use Rattle.class_casts.specs.ClassTestsKinds.{is_told}
-use Rattle.class_casts.specs.Dispatch.{Reflected}
-use Rattle.class_casts.specs.FailureVariants.{Method}
-use Rattle.class_casts.specs.Helpers.{helper_name}
-use Rattle.class_casts.specs.HelperVariants.{Throws}
-use Rattle.class_casts.specs.Kind.{Kind}
-use Rattle.class_casts.specs.Pieces.{is_char}
-use Rattle.class_casts.specs.Reflecting.{reflective_code, proxy_code}
-use Rattle.class_casts.specs.Words.{kind_class, parameters_of, units_of}
+use Rattle.array_code.specs.ClassTestsKinds.{is_told}
+use Rattle.array_code.specs.Dispatch.{Reflected}
+use Rattle.array_code.specs.FailureVariants.{Method}
+use Rattle.array_code.specs.Helpers.{helper_name}
+use Rattle.array_code.specs.HelperVariants.{Throws}
+use Rattle.array_code.specs.Kind.{Kind}
+use Rattle.array_code.specs.Pieces.{is_char}
+use Rattle.array_code.specs.Reflecting.{reflective_code, proxy_code}
+use Rattle.array_code.specs.Words.{kind_class, parameters_of, units_of}
 use Rattle.dispatch_laws.specs.Dispatch.{proxy_target}
 use Rattle.dispatch_laws.specs.Meaning.{with_message, no_such_method}
 use Rattle.js_mean.specs.Classes.{method_code}

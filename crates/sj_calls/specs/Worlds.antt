@@ -2,14 +2,14 @@
 -- casts and identity, each where code can use it.
 use Rattle.std.specs.Prelude.{◌≡◌, ℕ, ◌≤◌, true, false, List, length, codes, Option, Some}
 use Rattle.sj_bodies.specs.Built.{has_static, has_cell, can_box, can_look_up, divides, compares}
-use Rattle.class_casts.specs.Classes.{class_cast_code}
-use Rattle.class_casts.specs.Modules.{loader_code, storer_code}
+use Rattle.array_code.specs.Classes.{class_cast_code}
+use Rattle.array_code.specs.Modules.{loader_code, storer_code}
 use Rattle.dispatch_laws.specs.Targets.{IsTargetOf}
-use Rattle.class_casts.specs.Helpers.{helper_name}
-use Rattle.class_casts.specs.Words.{units_of}
-use Rattle.class_casts.specs.FailureVariants.{NullReceiver, Division, Cast}
-use Rattle.class_casts.specs.HelperVariants.{NotNull, CastTo, Throws}
-use Rattle.class_casts.specs.Kind.{Kind}
+use Rattle.array_code.specs.Helpers.{helper_name}
+use Rattle.array_code.specs.Words.{units_of}
+use Rattle.array_code.specs.FailureVariants.{NullReceiver, Division, Cast}
+use Rattle.array_code.specs.HelperVariants.{NotNull, CastTo, Throws}
+use Rattle.array_code.specs.Kind.{Kind}
 use Rattle.dispatch_laws.specs.Dispatch.{chain_of}
 use Rattle.dispatch_laws.specs.Meaning.{with_message, without_parameters}
 use Rattle.dispatch_laws.specs.States as ir
@@ -19,7 +19,7 @@ use Rattle.js_mean.specs.Meaning as js_meaning
 use Rattle.js_mean.specs.States as js
 use Rattle.js_tree.specs.Terms.{Name}
 use Rattle.sj_bodies.specs.Desugar.{member}
-use Rattle.class_casts.specs.Pieces.{setter}
+use Rattle.array_code.specs.Pieces.{setter}
 use Rattle.dispatch_laws.specs.Templates.{check_name, static_name, setter_name, load_name, store_name}
 use Rattle.dispatch_laws.specs.Tests.{test_name, cast_name}
 use Rattle.sj_names.specs.declared.method_names.Member.{Member}
