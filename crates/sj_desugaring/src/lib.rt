@@ -1,6 +1,8 @@
 //! The parts of desugaring: what is written for each form once its operands are known.
 //!
 //! `sj_desugar` defines them.
+//!
+//! Where a function here can fail, want of memory is the only error.
 #![tactic(auto)]
 
 mod destinations;

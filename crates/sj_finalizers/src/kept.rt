@@ -18,7 +18,7 @@ use sj_trees::Tree;
 use std::alloc::Global;
 
 /// The variables that a finalizer keeps: none where it holds no try with a finalizer, and else each to which a value goes that a jump out of it
-/// brings.
+/// brings. Want of memory is the only error.
 pub fn kept_in(
     alloc: Global,
     targets: &[Target],
@@ -87,7 +87,7 @@ fn keep(alloc: Global, variable: &CoreVariable, number: u64) -> Result<Written, 
     one(alloc, statement, next)
 }
 
-/// `const $k = x;` for each of these variables, from this number on.
+/// `const $k = x;` for each of these variables, from this number on. Want of memory is the only error.
 #[tactic(auto, using(std::proofs::lemmas::Grind::common_steps, sj_desugaring::proofs::Lists::pushes))]
 pub fn keep_all(alloc: Global, variables: &[CoreVariable], number: u64) -> Result<Written, NoMemory>
     ensures { IfOk result (λ w. code_view w ≡ specs.keep_all (map variable_view variables.now) number) }
@@ -134,7 +134,8 @@ fn give_all_back(
     Ok(written)
 }
 
-/// The code of a finalizer behind what keeps these variables, from this number on, and in front of what gives them back.
+/// The code of a finalizer behind what keeps these variables, from this number on, and in front of what gives them back. Want of memory is the only
+/// error.
 pub fn given_back(
     alloc: Global,
     variables: &[CoreVariable],

@@ -118,7 +118,7 @@ fn with_inner<'t>(
     Ok(labels)
 }
 
-/// The labels outside of a tree to which it jumps.
+/// The labels outside of a tree to which it jumps. Want of memory is the only error.
 pub fn labels_left(alloc: Global, tree: &Tree) -> Result<Vec<&LabelName>, NoMemory>
     ensures { IfOk result (λ found. map (λ l. l.now) found.items ≡ specs.left_labels [] (view tree.now)) }
 {
