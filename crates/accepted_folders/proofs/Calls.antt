@@ -23,8 +23,9 @@ use Rattle.sj_judged.specs.Linked.{has_function, have_functions, functions_of}
 use Rattle.sj_trees.specs.Term.{Term, Terms, no_terms, more_terms, Cases, no_cases, more_cases, var_def, skip, block_of, labeled, assign, return_to, if_then, while_loop, do_while, try_finally, match_on, apply_statically, apply_static, unary_op, binary_op, as_instance_of, undefined_literal, null_literal, boolean_literal, char_literal, byte_literal, short_literal, int_literal, long_literal, string_literal, var_ref, log_line, apply}
 use Rattle.sj_trees.specs.TypeOf.{type_of_term}
 use Rattle.sj_trees.specs.declared.types.IrType.{IrType}
-use Rattle.sj_judged.specs.Built.{can_call, is_operation, can_cast, is_built, are_built, are_built_cases, anything, body_boxes, is_built_body}
-use Rattle.sj_judged.proofs.RulesGive.{operation_kept, cast_kept}
+use Rattle.sj_trees.specs.declared.types.IrType.TheVariants.{Any}
+use Rattle.sj_judged.specs.Built.{can_call, is_operation, is_based, can_cast, is_built, are_built, are_built_cases, anything, body_boxes, is_built_body}
+use Rattle.sj_judged.proofs.RulesGive.{operation_kept}
 use Rattle.sj_judged.specs.Typing.{may_check, is_built_with}
 use Rattle.sure_receivers.specs.Sure.{sure_locals}
 use Rattle.sj_names.specs.declared.method_names.MethodName.{MethodName}
@@ -65,20 +66,25 @@ module _ (has : Usable) (checked : Term → Bool) where
   two a b h = (front (trees a) (trees b) h, back (trees a) (trees b) h)
 
   -- no member runs on an object
-  no_call : {A : Type 0} (p : Position) (e : Term) (c : List ℕ) (n : Namespace) (m : MethodName) (ts : Terms) (t : IrType) → is_built anything (λ e. true) (apply_statically p e c n m ts t) ≡ true → A
+  no_call : {A : Type 0} (p : Position) (e : Term) (c : List ℕ) (n : Namespace) (m : MethodName) (ts : Terms) (t : IrType) → is_built anything (λ e. false) (apply_statically p e c n m ts t) ≡ true → A
   no_call p e c Public m ts t k = impossible k
   no_call p e c Private m ts t k = impossible k
   no_call p e c Constructor m ts t k = impossible k
   no_call p e c n m ts t k = impossible k
 
-  no_callee : {A : Type 0} (k : Callee) (a b : Bool) → ((can_call anything k && true) && (b && a)) ≡ true → A
+  no_callee : {A : Type 0} (k : Callee) (a b : Bool) → ((can_call anything k && false) && (b && a)) ≡ true → A
   no_callee (callees.Member m) a b k = impossible k
   no_callee (callees.LookedUp c m) a b k = impossible k
   no_callee (callees.OfArray m) a b k = impossible k
   no_callee (callees.Reflective m) a b k = impossible k
 
+  -- a cast goes to any alone
+  cast_based : (t : IrType) → (can_cast anything t && is_based anything t) ≡ true → (can_cast has t && is_based has t) ≡ true
+  cast_based Any k = refl
+  cast_based _ k = impossible k
+
   mutual
-    built : (t : Term) → is_built anything (λ e. true) t ≡ true → Each (trees t) → is_built has checked t ≡ true
+    built : (t : Term) → is_built anything (λ e. false) t ≡ true → Each (trees t) → is_built has checked t ≡ true
     built (var_def p x t b e) k h = built e k (inner (var_def p x t b e) h)
     built (skip p) k h = refl
     built (block_of p ts) k h = all_built ts k (inner (block_of p ts) h)
@@ -86,29 +92,31 @@ module _ (has : Usable) (checked : Term → Bool) where
     built (assign p (var_ref q x t) e) k h = built e k (two (var_ref q x t) e (inner (assign p (var_ref q x t) e) h)).1
     built (return_to p e l) k h = built e k (inner (return_to p e l) h)
     built (if_then p c a b t) k h =
-        let r = and_parts (is_built anything (λ e. true) c) (is_built anything (λ e. true) a && is_built anything (λ e. true) b) k in
-        let s = and_parts (is_built anything (λ e. true) a) (is_built anything (λ e. true) b) r.1 in
+        let r = and_parts (is_built anything (λ e. false) c) (is_built anything (λ e. false) a && is_built anything (λ e. false) b) k in
+        let s = and_parts (is_built anything (λ e. false) a) (is_built anything (λ e. false) b) r.1 in
         let inside : Each (trees c ++ trees a ++ trees b) = inner (if_then p c a b t) h in
         let head = two c a (front (trees c ++ trees a) (trees b) inside) in
         let last = back (trees c ++ trees a) (trees b) inside in
         and_from (is_built has checked c) (is_built has checked a && is_built has checked b) (built c r.0 head.0) (and_from (is_built has checked a) (is_built has checked b) (built a s.0 head.1) (built b s.1 last))
-    built (while_loop p c b) k h = let q = and_parts (is_built anything (λ e. true) c) (is_built anything (λ e. true) b) k in let parts = two c b (inner (while_loop p c b) h) in and_from (is_built has checked c) (is_built has checked b) (built c q.0 parts.0) (built b q.1 parts.1)
-    built (do_while p b c) k h = let q = and_parts (is_built anything (λ e. true) b) (is_built anything (λ e. true) c) k in let parts = two b c (inner (do_while p b c) h) in and_from (is_built has checked b) (is_built has checked c) (built b q.0 parts.0) (built c q.1 parts.1)
-    built (try_finally p e d) k h = let q = and_parts (is_built anything (λ e. true) e) (is_built anything (λ e. true) d) k in let parts = two e d (inner (try_finally p e d) h) in and_from (is_built has checked e) (is_built has checked d) (built e q.0 parts.0) (built d q.1 parts.1)
+    built (while_loop p c b) k h = let q = and_parts (is_built anything (λ e. false) c) (is_built anything (λ e. false) b) k in let parts = two c b (inner (while_loop p c b) h) in and_from (is_built has checked c) (is_built has checked b) (built c q.0 parts.0) (built b q.1 parts.1)
+    built (do_while p b c) k h = let q = and_parts (is_built anything (λ e. false) b) (is_built anything (λ e. false) c) k in let parts = two b c (inner (do_while p b c) h) in and_from (is_built has checked b) (is_built has checked c) (built b q.0 parts.0) (built c q.1 parts.1)
+    built (try_finally p e d) k h = let q = and_parts (is_built anything (λ e. false) e) (is_built anything (λ e. false) d) k in let parts = two e d (inner (try_finally p e d) h) in and_from (is_built has checked e) (is_built has checked d) (built e q.0 parts.0) (built d q.1 parts.1)
     built (match_on p e cs d t) k h =
-        let r = and_parts (is_built anything (λ e. true) e) (are_built_cases anything (λ e. true) cs && is_built anything (λ e. true) d) k in
-        let s = and_parts (are_built_cases anything (λ e. true) cs) (is_built anything (λ e. true) d) r.1 in
+        let r = and_parts (is_built anything (λ e. false) e) (are_built_cases anything (λ e. false) cs && is_built anything (λ e. false) d) k in
+        let s = and_parts (are_built_cases anything (λ e. false) cs) (is_built anything (λ e. false) d) r.1 in
         let inside : Each (trees e ++ cases_below cs ++ trees d) = inner (match_on p e cs d t) h in
         let head : Each (trees e ++ cases_below cs) = front (trees e ++ cases_below cs) (trees d) inside in
         and_from (is_built has checked e) (are_built_cases has checked cs && is_built has checked d) (built e r.0 (front (trees e) (cases_below cs) head)) (and_from (are_built_cases has checked cs) (is_built has checked d) (cases_built cs s.0 (back (trees e) (cases_below cs) head)) (built d s.1 (back (trees e ++ cases_below cs) (trees d) inside)))
     built (apply_static p c n m ts t) k h = and_from (has.linked (member c n m)) (are_built has checked ts) (All-head Calls (apply_static p c n m ts t) (all_below ts) h) (all_built ts k (inner (apply_static p c n m ts t) h))
     built (unary_op p o e) k h = built e k (inner (unary_op p o e) h)
     built (binary_op p o e d) k h =
-        let q = and_parts (is_operation anything o d) (is_built anything (λ e. true) e && is_built anything (λ e. true) d) k in
-        let r = and_parts (is_built anything (λ e. true) e) (is_built anything (λ e. true) d) q.1 in
+        let q = and_parts (is_operation anything o d) (is_built anything (λ e. false) e && is_built anything (λ e. false) d) k in
+        let r = and_parts (is_built anything (λ e. false) e) (is_built anything (λ e. false) d) q.1 in
         let parts = two e d (inner (binary_op p o e d) h) in
         and_from (is_operation has o d) (is_built has checked e && is_built has checked d) (operation_kept (λ m. true) has o d q.0) (and_from (is_built has checked e) (is_built has checked d) (built e r.0 parts.0) (built d r.1 parts.1))
-    built (as_instance_of p e t) k h = let q = and_parts (can_cast anything t) (is_built anything (λ e. true) e) k in and_from (can_cast has t) (is_built has checked e) (cast_kept (λ m. true) has t q.0) (built e q.1 (inner (as_instance_of p e t) h))
+    built (as_instance_of p e t) k h =
+        let q = and_parts (can_cast anything t && is_based anything t) (is_built anything (λ e. false) e) k in
+        and_from (can_cast has t && is_based has t) (is_built has checked e) (cast_based t q.0) (built e q.1 (inner (as_instance_of p e t) h))
     built (undefined_literal p) k h = refl
     built (null_literal p) k h = refl
     built (boolean_literal p b) k h = refl
@@ -120,18 +128,18 @@ module _ (has : Usable) (checked : Term → Bool) where
     built (string_literal p us) k h = refl
     built (var_ref p x t) k h = refl
     built (log_line p e) k h = built e k (inner (log_line p e) h)
-    built (apply p e m ts t) k h = no_callee (callee_of (type_of_term e) m) (are_built anything (λ e. true) ts) (is_built anything (λ e. true) e) k
+    built (apply p e m ts t) k h = no_callee (callee_of (type_of_term e) m) (are_built anything (λ e. false) ts) (is_built anything (λ e. false) e) k
     built (apply_statically p e c n m ts t) k h = no_call p e c n m ts t k
     built t k h = impossible k
 
-    all_built : (ts : Terms) → are_built anything (λ e. true) ts ≡ true → Each (all_below ts) → are_built has checked ts ≡ true
+    all_built : (ts : Terms) → are_built anything (λ e. false) ts ≡ true → Each (all_below ts) → are_built has checked ts ≡ true
     all_built no_terms k h = refl
-    all_built (more_terms t ts) k h = let q = and_parts (is_built anything (λ e. true) t) (are_built anything (λ e. true) ts) k in and_from (is_built has checked t) (are_built has checked ts) (built t q.0 (front (trees t) (all_below ts) h)) (all_built ts q.1 (back (trees t) (all_below ts) h))
+    all_built (more_terms t ts) k h = let q = and_parts (is_built anything (λ e. false) t) (are_built anything (λ e. false) ts) k in and_from (is_built has checked t) (are_built has checked ts) (built t q.0 (front (trees t) (all_below ts) h)) (all_built ts q.1 (back (trees t) (all_below ts) h))
 
-    cases_built : (cs : Cases) → are_built_cases anything (λ e. true) cs ≡ true → Each (cases_below cs) → are_built_cases has checked cs ≡ true
+    cases_built : (cs : Cases) → are_built_cases anything (λ e. false) cs ≡ true → Each (cases_below cs) → are_built_cases has checked cs ≡ true
     cases_built no_cases k h = refl
     cases_built (more_cases [] e cs) k h = cases_built cs k (back (trees e) (cases_below cs) h)
-    cases_built (more_cases (key ∷ keys) e cs) k h = let r = and_parts (is_built anything (λ e. true) e) (are_built_cases anything (λ e. true) cs) k in and_from (is_built has checked e) (are_built_cases has checked cs) (built e r.0 (front (trees e) (cases_below cs) h)) (cases_built cs r.1 (back (trees e) (cases_below cs) h))
+    cases_built (more_cases (key ∷ keys) e cs) k h = let r = and_parts (is_built anything (λ e. false) e) (are_built_cases anything (λ e. false) cs) k in and_from (is_built has checked e) (are_built_cases has checked cs) (built e r.0 (front (trees e) (cases_below cs) h)) (cases_built cs r.1 (back (trees e) (cases_below cs) h))
 
 all-from : {X : Type 0} (P : X → Type 0) (xs : List X) → ((x : X) → Contains xs x → P x) → All P xs
 all-from P [] h = All-nil P
@@ -157,7 +165,7 @@ module _ (w : Classes) (entries : List EntryPoint) (fs : List EmittedMethod) (bo
     each x among = tt
 
     among_bodies : is_built_body e.definition e.its_body ≡ true → is_built_with (functions_of fs) e.definition e.its_body ≡ true
-    among_bodies k = let q = and_parts (not (body_boxes e.definition e.its_body)) (is_built anything (λ e. true) e.its_body) k in and_from (not (body_boxes e.definition e.its_body)) (is_built (functions_of fs) checks e.its_body) q.0 (built (functions_of fs) checks e.its_body q.1 (all-from (Calls (functions_of fs) checks) (trees e.its_body) each))
+    among_bodies k = let q = and_parts (not (body_boxes e.definition e.its_body)) (is_built anything (λ e. false) e.its_body) k in and_from (not (body_boxes e.definition e.its_body)) (is_built (functions_of fs) checks e.its_body) q.0 (built (functions_of fs) checks e.its_body q.1 (all-from (Calls (functions_of fs) checks) (trees e.its_body) each))
 
   pub entry : (e : EntryPoint) → Contains entries e → has_function fs (initializer_member e) ≡ true
   entry e i = has-body (entry_member e) (closed w entries (Body (entry_member e)) (asked_body (entry_member e) (of_entry e i)))

@@ -16,7 +16,7 @@ use Rattle.sj_trees.specs.declared.types.IrType.{IrType}
 use Rattle.sj_trees.specs.declared.types.IrType.TheVariants.{Any, Nothing, Undefined, Boolean, Char, Byte, Short, Int, Long, String, Class, Null, Array, NoType}
 use Rattle.body_rules.specs.Operators.{is_simple, a_quotient, a_remainder, a_long_quotient, a_long_remainder, DividesBy, by_int, by_long, IsIdentity, a_sameness, a_difference, Operates, of_its_types, joins, divided, compared}
 use Rattle.built_forms.specs.Rules.{unary_operand, left_operand, right_operand, IsText, IsCastType}
-use Rattle.body_rules.specs.Standing.{is_bare, Fits, MayStand, NoBox}
+use Rattle.body_rules.specs.Standing.{is_bare, is_array_type, is_joined, Fits, MayStand, NoBox}
 use Rattle.body_rules.proofs.Standing.{fits-same}
 use Rattle.body_rules.specs.Typing.{IsTrueLiteral, true_literal}
 use Rattle.sj_names.proofs.Same.{impossible, text-refl}
@@ -93,32 +93,33 @@ implied true b h = h refl
 implied false b h = refl
 
 -- a type of which more than itself and nothing are subtypes
-open_fits : (t own : IrType) → is_lowest t ≡ false → NoBox t own → (is_bare t ≡ true → is_bare own ≡ true) → ((r : ArrayRef) → t ≡ Array r → Fits t own) → Fits t own
-open_fits Nothing own h n b a = impossible (sym h)
-open_fits Undefined own h n b a = impossible (sym h)
-open_fits Boolean own h n b a = impossible (sym h)
-open_fits Char own h n b a = impossible (sym h)
-open_fits Byte own h n b a = impossible (sym h)
-open_fits Short own h n b a = impossible (sym h)
-open_fits Int own h n b a = impossible (sym h)
-open_fits Long own h n b a = impossible (sym h)
-open_fits String own h n b a = impossible (sym h)
-open_fits Null own h n b a = impossible (sym h)
-open_fits NoType own h n b a = impossible (sym h)
-open_fits t Nothing h n b a = nothing-fits t
-open_fits Any Char h n b a = impossible (sym n)
-open_fits Any own h n b a = refl
-open_fits (Class c) Char h n b a = impossible (sym n)
-open_fits (Class c) own h n b a = implied (is_bare (Class c)) (is_bare own) b
-open_fits (Array r) own h n b a = a r refl
+open_fits : (t own : IrType) → is_lowest t ≡ false → NoBox t own → (is_bare t ≡ true → is_bare own ≡ true) → ((r : ArrayRef) → t ≡ Array r → Fits t own) → ((q : ArrayRef) → own ≡ Array q → Fits t own) → Fits t own
+open_fits Nothing own h n b a k = impossible (sym h)
+open_fits Undefined own h n b a k = impossible (sym h)
+open_fits Boolean own h n b a k = impossible (sym h)
+open_fits Char own h n b a k = impossible (sym h)
+open_fits Byte own h n b a k = impossible (sym h)
+open_fits Short own h n b a k = impossible (sym h)
+open_fits Int own h n b a k = impossible (sym h)
+open_fits Long own h n b a k = impossible (sym h)
+open_fits String own h n b a k = impossible (sym h)
+open_fits Null own h n b a k = impossible (sym h)
+open_fits NoType own h n b a k = impossible (sym h)
+open_fits t Nothing h n b a k = nothing-fits t
+open_fits (Array r) own h n b a k = a r refl
+open_fits t (Array q) h n b a k = k q refl
+open_fits Any Char h n b a k = impossible (sym n)
+open_fits Any own h n b a k = refl
+open_fits (Class c) Char h n b a k = impossible (sym n)
+open_fits (Class c) own h n b a k = implied (is_bare (Class c)) (is_bare own) b
 
--- what joins to a text is bare
-pub text_bare : (t : IrType) → IsText t → is_bare t ≡ true
-text_bare Any h = absurd h
-text_bare NoType h = absurd h
-text_bare (Array r) h = absurd h
-text_bare (Class c) h = subst (λ (n : List ℕ). is_same_text n (codes "java.lang.String") ≡ true) (sym h) (text-refl (codes "java.lang.String"))
-text_bare _ h = refl
+-- what joins to a text is of such a type
+pub text_joined : (t : IrType) → IsText t → is_joined t ≡ true
+text_joined Any h = absurd h
+text_joined NoType h = absurd h
+text_joined (Array r) h = absurd h
+text_joined (Class c) h = subst (λ (n : List ℕ). is_same_text n (codes "java.lang.String") ≡ true) (sym h) (text-refl (codes "java.lang.String"))
+text_joined _ h = refl
 
 not-false : (b : Bool) → not b ≡ true → b ≡ false
 not-false true h = impossible h
@@ -129,6 +130,12 @@ true-or-none (boolean_literal p true) = inr (true_literal p)
 true-or-none (boolean_literal p false) = inl refl
 true-or-none _ = inl refl
 
+-- arrays stand at any, and at types of arrays as these tell
+array-fits : (t : IrType) (q : ArrayRef) → ((r : ArrayRef) → t ≡ Array r → Fits t (Array q)) → (t ≡ Any) ⊎ (is_array_type t ≡ true) → Fits t (Array q)
+array-fits t q at (inl e) = subst (λ (u : IrType). Fits u (Array q)) (sym e) refl
+array-fits (Array r) q at (inr h) = at r refl
+array-fits _ q at (inr h) = impossible h
+
 module _ (w : Classes) (law : IsSubtyping (IsSub w)) where
   -- a tree of the one type stands where the other is expected
   pub fits-sub : (t own : IrType) → IsSub w own t → NoBox t own → Fits t own
@@ -136,11 +143,17 @@ module _ (w : Classes) (law : IsSubtyping (IsSub w)) where
     where
       go : (b : Bool) → is_lowest t ≡ b → Fits t own
       go true e = ⊎_elim (λ i. subst (Fits t) (sym i) (fits-same t)) (λ i. subst (Fits t) (sym i) (nothing-fits t)) (law.lowest own t e f)
-      go false e = open_fits t own e n (λ b. law.bare own t b f) (λ r i. subst (λ (u : IrType). Fits u own) (sym i) (law.arrays own r (subst (IsSub w own) i f)))
+      go false e = open_fits t own e n (λ b. law.bare own t b f) at (λ q i. subst (Fits t) (sym i) (array-fits t q (λ r j. subst (Fits t) i (at r j)) (law.above_arrays q t (subst (λ (u : IrType). IsSub w u t) i f))))
+        where
+          at : (r : ArrayRef) → t ≡ Array r → Fits t own
+          at r i = subst (λ (u : IrType). Fits u own) (sym i) (law.arrays own r (subst (IsSub w own) i f))
 
   -- of the types that are lowest no char is one but char
   lowest-box : (t own : IrType) → is_lowest t ≡ true → IsSub w own t → NoBox t own
   lowest-box t own h f = ⊎_elim (λ i. subst (NoBox t) (sym i) (box-same (is_char t))) (λ i. subst (NoBox t) (sym i) refl) (law.lowest own t h f)
+
+  pub fits-lowest : (t own : IrType) → is_lowest t ≡ true → IsSub w own t → Fits t own
+  fits-lowest t own h f = fits-sub t own f (lowest-box t own h f)
 
   unary_lowest : (o : UnaryOp) → is_lowest (unary_operand o) ≡ true
   unary_lowest BooleanNot = refl
@@ -185,4 +198,4 @@ module _ (w : Classes) (law : IsSubtyping (IsSub w)) where
   operates has o e d boxed (its_types h f g) = of_its_types o (type_of_term e) (type_of_term d) h (fits-sub (left_operand o) (type_of_term e) f (lowest-box (left_operand o) (type_of_term e) (left_lowest o h) f)) (fits-sub (right_operand o) (type_of_term d) g (lowest-box (right_operand o) (type_of_term d) (right_lowest o h) g))
   operates has o e d boxed (of_identity i h f g) = let own = identity_stands has o e d i boxed in compared o (type_of_term e) (type_of_term d) i h own.0 own.1
   operates has o e d boxed (of_division h f g) = let own = divided_lowest has o h in divided o (type_of_term e) (type_of_term d) h (fits-sub (left_operand o) (type_of_term e) f (lowest-box (left_operand o) (type_of_term e) own.0 f)) (fits-sub (right_operand o) (type_of_term d) g (lowest-box (right_operand o) (type_of_term d) own.1 g))
-  operates has o e d boxed (texts is f g) = subst (λ p. Operates has p (type_of_term e) (type_of_term d)) (sym is) (joins (type_of_term e) (type_of_term d) (text_bare (type_of_term e) f) (text_bare (type_of_term d) g))
+  operates has o e d boxed (texts is f g) = subst (λ p. Operates has p (type_of_term e) (type_of_term d)) (sym is) (joins (type_of_term e) (type_of_term d) (text_joined (type_of_term e) f) (text_joined (type_of_term d) g))

@@ -1,3 +1,4 @@
+pub mod Arrays
 pub mod Direct
 pub mod Equal
 pub mod Fitting

@@ -1,6 +1,7 @@
 -- What stands for its type isn't coerced.
 use Rattle.std.proofs.Common.{◌≡◌, Bool, true, false, List, [], ◌∷◌, refl, ap}
 use Rattle.std.specs.Prelude.{if◌then◌else◌, not, ◌||◌, codes}
+use Rattle.body_rules.proofs.Arrays.{arrays-same}
 use Rattle.body_rules.specs.Standing.{is_bare, Fits, FitAll, types_referred, NoBox}
 use Rattle.sj_emit_expr.specs.Terms as core
 use Rattle.sj_emit_expr.specs.Coercions.{coerced, coerced_arguments}
@@ -42,7 +43,7 @@ fits-same Long = refl
 fits-same String = refl
 fits-same (Class c) = excluded (is_bare (Class c))
 fits-same Null = refl
-fits-same (Array r) = refl
+fits-same (Array r) = arrays-same r.dimensions r.base
 fits-same NoType = refl
 
 -- what stands at any type that isn't primitive stands at a class

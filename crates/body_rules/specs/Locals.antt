@@ -5,7 +5,7 @@ use Rattle.sj_emit_expr.specs.Desugar.{has_no_value}
 use Rattle.sj_emit_expr.specs.Plain.{is_among}
 use Rattle.sj_trees.specs.declared.types.IrType.{IrType}
 use Rattle.sj_trees.specs.declared.classes.ParamDef.{ParamDef}
-use Rattle.sj_trees.specs.Term.{Term, Terms, no_terms, more_terms, Cases, no_cases, more_cases, var_def, block_of, labeled, assign, return_to, if_then, while_loop, do_while, try_catch, try_finally, match_on, throw, new_object, select, apply, apply_statically, apply_static, unary_op, binary_op, is_instance_of, as_instance_of, log_line, store_module}
+use Rattle.sj_trees.specs.Term.{Term, Terms, no_terms, more_terms, Cases, no_cases, more_cases, var_def, block_of, labeled, assign, return_to, if_then, while_loop, do_while, try_catch, try_finally, match_on, throw, new_object, new_array, array_value, array_length, array_select, select, apply, apply_statically, apply_static, unary_op, binary_op, is_instance_of, as_instance_of, log_line, store_module}
 
 abbrev mutual
   -- the locals that a tree of the forms that are built defines
@@ -14,6 +14,7 @@ abbrev mutual
   Own (block_of p ts) y = OwnAll ts y
   Own (labeled p l t e) y = Own e y
   Own (assign p (select q d c f t) e) y = Own d y ⊎ Own e y
+  Own (assign p (array_select q d i t) e) y = Own d y ⊎ (Own i y ⊎ Own e y)
   Own (assign p d e) y = Own e y
   Own (throw p e) y = Own e y
   Own (return_to p e l) y = Own e y
@@ -30,6 +31,10 @@ abbrev mutual
   Own (apply_statically p e c n m ts t) y = Own e y ⊎ OwnAll ts y
   Own (apply_static p c n m ts t) y = OwnAll ts y
   Own (unary_op p o e) y = Own e y
+  Own (new_array p r e) y = Own e y
+  Own (array_value p r ts) y = OwnAll ts y
+  Own (array_length p e) y = Own e y
+  Own (array_select p e i t) y = Own e y ⊎ Own i y
   Own (is_instance_of p e t) y = Own e y
   Own (as_instance_of p e t) y = Own e y
   Own (binary_op p o e d) y = Own e y ⊎ Own d y

@@ -2,7 +2,7 @@
 pub use Rattle.built_forms.specs.Rules.{unary_operand, left_operand, right_operand}
 use Rattle.std.specs.Prelude.{◌≡◌, Bool, true, false, ℤ, pos, ◌≢◌, FitsSigned}
 use Rattle.std.specs.Int.{w32, w64}
-use Rattle.body_rules.specs.Standing.{is_bare, Fits, MayStand}
+use Rattle.body_rules.specs.Standing.{is_joined, Fits, MayStand}
 use Rattle.built_forms.specs.Built.{Usable, divides, compares}
 use Rattle.sj_trees.specs.Term.{Term, int_literal, long_literal}
 use Rattle.sj_trees.specs.declared.operators.BinaryOp.{BinaryOp}
@@ -38,7 +38,7 @@ pub data IsIdentity : BinaryOp → Type 0 where
 -- can be used, between values of any type
 pub data Operates (has : Usable) : BinaryOp → IrType → IrType → Type 0 where
   of_its_types : (o : BinaryOp) (s t : IrType) → is_simple o ≡ true → Fits (left_operand o) s → Fits (right_operand o) t → Operates has o s t
-  joins : (s t : IrType) → is_bare s ≡ true → is_bare t ≡ true → Operates has StringConcatenate s t
+  joins : (s t : IrType) → is_joined s ≡ true → is_joined t ≡ true → Operates has StringConcatenate s t
   divided : (o : BinaryOp) (s t : IrType) → divides has o ≡ true → Fits (left_operand o) s → Fits (right_operand o) t → Operates has o s t
   compared : (o : BinaryOp) (s t : IrType) → IsIdentity o → compares has ≡ true → MayStand has Any s → MayStand has Any t → Operates has o s t
 

@@ -1,20 +1,22 @@
 -- The rules of bodies, in one statement: each tree meets the rule of its form, is of the forms that are built, and finds what it uses around it.
-use Rattle.std.specs.Prelude.{◌≡◌, ℕ, ◌^◌, ◌<◌, true, List, [], ◌∷◌, ◌⊎◌, FitsSigned, Some, Bool, ◌||◌, false}
+use Rattle.std.specs.Prelude.{◌≡◌, ℕ, ◌^◌, ◌<◌, ◌≤◌, true, List, [], ◌∷◌, ◌⊎◌, FitsSigned, Some, Bool, ◌||◌, false}
 use Rattle.std.specs.Int.{w32, w64}
 use Rattle.built_forms.specs.Built.{Usable, stands, is_built_method}
 use Rattle.sj_emit_expr.specs.Templates.{check_name}
 use Rattle.sj_names.specs.declared.method_names.Namespace.{Namespace}
 use Rattle.sj_names.specs.declared.method_names.Namespace.TheVariants.{PublicStatic, PrivateStatic}
 use Rattle.sj_emit_expr.specs.Sure.{is_sure, sure_locals}
+use Rattle.sj_names.specs.declared.references.ArrayRef.{ArrayRef}
 use Rattle.sj_names.specs.declared.references.TypeRef.{TypeRef}
 use Rattle.body_rules.specs.Locals.{Own, OwnAll, local_of, HasValue}
-use Rattle.sj_trees.specs.Term.{Term, Terms, no_terms, more_terms, Cases, no_cases, more_cases, var_def, block_of, labeled, assign, return_to, if_then, while_loop, do_while, try_catch, try_finally, match_on, throw, new_object, select, select_static, apply, apply_statically, this_ref, apply_static, unary_op, binary_op, is_instance_of, as_instance_of, boolean_literal, char_literal, byte_literal, short_literal, int_literal, long_literal, var_ref, log_line, store_module}
+use Rattle.sj_trees.specs.TypeOf.{type_of_term}
+use Rattle.sj_trees.specs.Term.{Term, Terms, no_terms, more_terms, Cases, no_cases, more_cases, var_def, block_of, labeled, assign, return_to, if_then, while_loop, do_while, try_catch, try_finally, match_on, throw, new_object, new_array, array_value, array_length, array_select, select, select_static, apply, apply_statically, this_ref, apply_static, unary_op, binary_op, is_instance_of, as_instance_of, boolean_literal, char_literal, byte_literal, short_literal, int_literal, long_literal, var_ref, log_line, store_module}
 use Rattle.sj_trees.specs.Types.{class_type, reference_type}
 use Rattle.sj_trees.specs.declared.classes.MethodDef.{MethodDef}
 use Rattle.sj_trees.specs.declared.classes.ParamDef.{ParamDef}
 use Rattle.sj_trees.specs.declared.positions.Position.{Position}
 use Rattle.sj_trees.specs.declared.types.IrType.{IrType}
-use Rattle.sj_trees.specs.declared.types.IrType.TheVariants.{NoType, Any}
+use Rattle.sj_trees.specs.declared.types.IrType.TheVariants.{Array, NoType, Any}
 use Rattle.sj_emit_expr.specs.Known.{Classes}
 use Rattle.built_forms.specs.Label.{Label}
 use Rattle.built_forms.specs.Nodes.{inside}
@@ -83,13 +85,27 @@ may_check has sure e = is_sure sure e || has.helper check_name
 abbrev pub is_built_with : Usable → MethodDef → Term → Bool
 is_built_with has d e = is_built_method has (may_check has (sure_locals e)) d e
 
+-- from 1 to 255 dimensions
+abbrev pub HasDimensions : ArrayRef → Type 0
+HasDimensions r = (1 ≤ r.dimensions) × (r.dimensions ≤ 255)
+
+abbrev pub AreDimensions : IrType → Type 0
+AreDimensions (Array r) = HasDimensions r
+AreDimensions t = Unit {0}
+
 -- what a tree asks of its surroundings: that a local which it uses is in scope, and one which it defines isn't defined in it again, nor one that holds what is caught in its handler; that there are values where
--- they are handed over; and that numbers are those of their types
+-- they are handed over; and that numbers are those of their types, those of dimensions among them
 abbrev pub Finds : Scene → Term → Type 0
 Finds s (var_def p x t b e) = HasValue t × (Own e x → ⊥)
 Finds s (assign p (var_ref q x t) e) = IsVariable s x t
+Finds s (assign p (array_select q d i t) e) = AreDimensions (type_of_term d)
 Finds s (try_catch p e x d t) = Own d x → ⊥
 Finds s (new_object p c m ts) = AllHaveValues m.params
+Finds s (new_array p r e) = HasDimensions r
+Finds s (array_value p r ts) = HasDimensions r
+Finds s (array_select p e i t) = AreDimensions (type_of_term e)
+Finds s (is_instance_of p e t) = AreDimensions t
+Finds s (as_instance_of p e t) = AreDimensions t
 Finds s (apply p e m ts t) = AllHaveValues m.params
 Finds s (apply_statically p e c n m ts t) = AllHaveValues m.params
 Finds s (apply_static p c n m ts t) = AllHaveValues m.params
@@ -117,6 +133,7 @@ module _ (w : Classes) (has : Usable) where
     Typed s (assign p (var_ref q x t) e) = Here s (assign p (var_ref q x t) e) × Typed s e
     Typed s (assign p (select q d c f t) e) = Here s (assign p (select q d c f t) e) × Typed s (select q d c f t) × Typed s e
     Typed s (assign p (select_static q c f t) e) = Here s (assign p (select_static q c f t) e) × Meets w s.space s.labels (select_static q c f t) × Typed s e
+    Typed s (assign p (array_select q d i t) e) = Here s (assign p (array_select q d i t) e) × Meets w s.space s.labels (array_select q d i t) × Typed s d × Typed s i × Typed s e
     Typed s (return_to p e l) = Here s (return_to p e l) × Typed s e
     Typed s (if_then p c a b t) = Here s (if_then p c a b t) × Typed s c × Typed s a × Typed s b
     Typed s (while_loop p c b) = Here s (while_loop p c b) × Typed s c × Typed s b
@@ -133,6 +150,10 @@ module _ (w : Classes) (has : Usable) where
     Typed s (apply_static p c n m ts t) = Here s (apply_static p c n m ts t) × TypedAll s ts
     Typed s (unary_op p o e) = Here s (unary_op p o e) × Typed s e
     Typed s (binary_op p o e d) = Here s (binary_op p o e d) × Typed s e × Typed s d
+    Typed s (new_array p r e) = Here s (new_array p r e) × Typed s e
+    Typed s (array_value p r ts) = Here s (array_value p r ts) × TypedAll s ts
+    Typed s (array_length p e) = Here s (array_length p e) × Typed s e
+    Typed s (array_select p e i t) = Here s (array_select p e i t) × Typed s e × Typed s i
     Typed s (is_instance_of p e t) = Here s (is_instance_of p e t) × Typed s e
     Typed s (as_instance_of p e t) = Here s (as_instance_of p e t) × Typed s e
     Typed s (log_line p e) = Here s (log_line p e) × Typed s e

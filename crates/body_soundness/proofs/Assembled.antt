@@ -1,5 +1,5 @@
 -- A world that has what its classes give has the laws on objects.
-use Rattle.body_soundness.proofs.Chains.{on_chain, no_primitive, class_hijacked}
+use Rattle.body_soundness.proofs.Chains.{on_chain, no_primitive, no_top, class_hijacked}
 use Rattle.body_soundness.proofs.Lengths.{chain_of_has}
 use Rattle.body_soundness.specs.Laws.{ObjectLaws}
 use Rattle.body_soundness.specs.Worlds.{ObjectWorld}
@@ -10,10 +10,10 @@ pub laws_of : (w : Classes) (has : Usable) → ObjectWorld w has → ObjectLaws 
 laws_of w has h = record {
   received = h.received;
   looked = h.looked;
+  on_arrays = h.on_arrays;
   reflected = h.reflected;
   targets = h.targets;
   built = h.built;
-  once = h.once;
   made = λ c m. (h.made c m).0;
   fields = λ c f t i. ((h.fields c f t i).1, (h.fields c f t i).2);
   one_type = h.one_type;
@@ -24,5 +24,11 @@ laws_of w has h = record {
   modules = h.modules;
   exceptions = h.exceptions;
   divisions = h.divisions;
+  tops = λ c f t i sub. no_top w h.kept c (h.fields c f t i).0 sub;
   casts = h.casts;
+  arrays = h.arrays;
+  sizes = h.sizes;
+  reads = h.reads;
+  writes = h.writes;
+  stores = h.stores;
 }

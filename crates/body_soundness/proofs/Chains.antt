@@ -6,7 +6,7 @@ use Rattle.std.proofs.lemmas.Bool.{and_parts}
 use Rattle.std.proofs.lemmas.List.Elements.{Contains-append_cases}
 use Rattle.sj_proper.proofs.Lists.{nothing_in, in_front_or_behind, from_filter}
 use Rattle.sj_proper.proofs.Plain.{class_found, plain_world}
-use Rattle.sj_proper.proofs.Topped.{absent_above}
+use Rattle.sj_proper.proofs.Topped.{absent_above, topped}
 use Rattle.body_soundness.specs.Worlds.{AreClassesKept, HasFields, WritesInterfaces}
 use Rattle.sj_local.specs.ClassRules.{is_empty, is_class, is_interface, is_hijacked_kind, is_rightly_hijacked, is_right_number, keeps_superclass, keeps_hijacked}
 use Rattle.sj_local.specs.MemberRules.{has_no_fields, breaks_field}
@@ -18,8 +18,8 @@ use Rattle.sj_trees.specs.declared.classes.ClassDef.{ClassDef}
 use Rattle.sj_trees.specs.declared.classes.FieldDef.{FieldDef}
 use Rattle.sj_trees.specs.declared.types.IrType.{IrType}
 use Rattle.sj_trees.specs.declared.types.IrType.TheVariants.{Any, Nothing, Null, Array, Class}
-use Rattle.dispatch_laws.specs.Ancestors.{listed, superclass_in, above_in, written_in, directly_above, IsParent, Way, by_path, is_object as is_top, IsOnChain}
-use Rattle.dispatch_laws.specs.Known.{Name, Classes, is_same, class_of, is_known, is_hijacked, stands_as, integer}
+use Rattle.dispatch_laws.specs.Ancestors.{listed, superclass_in, above_in, written_in, directly_above, IsParent, IsAncestor, Way, by_path, is_object as is_top, IsOnChain}
+use Rattle.dispatch_laws.specs.Known.{Name, Classes, is_same, class_of, is_known, is_hijacked, stands_as, integer, object}
 use Rattle.dispatch_laws.specs.SjWorldLaws.{IsPlain}
 use Rattle.dispatch_laws.specs.Paths.{Path, stay, on}
 use Rattle.dispatch_laws.specs.Subtypes.{hijacked_class, IsSub, equal, from_nothing, to_any, null_to_class, null_to_array, class_to_class, primitive_to_class, arrays_alike, arrays_of_arrays}
@@ -185,6 +185,24 @@ module _ (w : Classes) (kept : AreClassesKept w) where
 
       go : ((k : ClassDef) → class_of w b ≡ Some k → is_interface k.kind ≡ false → is_object b ≡ false → is_number b ≡ false → is_hijacked b ≡ false → ⊥) → (q : Bool) → is_hijacked b ≡ q → (class : ClassDef) × (class_of w (stands_as b) ≡ Some class) × ((class.superclass ≡ Some c) ⊎ Contains class.interfaces c) → ⊥
       go rise q e found = elim found.2 [ inl super ↦ further rise q e found.0 found.1 super | inr face ↦ interface_not h b c faces path found.0 found.1 face k there other ]
+
+  -- nothing above the class of all objects has fields
+  pub no_top : (c : Name) → HasFields w c → IsSub w (Class object) (class_type c) → ⊥
+  no_top c fields sub = go (subst (λ (t : IrType). IsSub w (Class object) t) (ap (λ (b : Bool). if b then Any else Class c) fields.no_object) sub)
+    where
+      other : c ≡ object → ⊥
+      other e = impossible (sym fields.no_object ∙ ap is_object e)
+
+      go : IsSub w (Class object) (Class c) → ⊥
+      go (equal e) = let same : c ≡ object = cc in other same
+      go (from_nothing e) = absurd (cc)
+      go (to_any e n) = absurd (cc)
+      go (null_to_class b e f) = absurd (cc)
+      go (null_to_array b e f) = absurd (cc)
+      go (class_to_class a b e f k) = let one : a ≡ object = cc in let two : b ≡ c = cc in other ((topped w plain).top c (subst (λ (n : Name). IsAncestor w n c) one (subst (λ (n : Name). IsAncestor w a n) two k)))
+      go (primitive_to_class a b e f k) = absurd (cc)
+      go (arrays_alike a b e f g k) = absurd (cc)
+      go (arrays_of_arrays a b e f g k) = absurd (cc)
 
   none_there : {A : Type 0} (o t : IrType) (h : Name) → o ≡ t → hijacked_class t ≡ None → hijacked_class o ≡ Some h → A
   none_there o t h e n k = let both : ◌≡◌ {A = Option Name} None (Some h) = sym n ∙ sym (ap hijacked_class e) ∙ k in absurd (cc)

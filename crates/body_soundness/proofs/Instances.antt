@@ -3,19 +3,22 @@ use Rattle.std.proofs.Common.{◌≡◌, Bool, true, false, ◌&&◌, ◌||◌, 
 use Rattle.std.specs.Prelude.{ℤ, pos, negsuc, int_le, is_some, slice_get}
 use Rattle.std.proofs.lemmas.Bool.{and_parts, or_cases, or_right}
 use Rattle.sj_proper.specs.Subtyping.{IsSubtyping}
-use Rattle.body_soundness.proofs.Values.{Classes, IsOf, HasType, has_type, of_undefined, of_null, of_boolean, of_char, of_long, of_byte, of_short, of_int, of_text, of_object}
+use Rattle.body_soundness.proofs.Values.{Classes, IsOf, HasType, has_type, of_undefined, of_null, of_boolean, of_char, of_long, of_byte, of_short, of_int, of_text, of_object, of_array, of_any_array}
 use Rattle.dispatch_laws.proofs.AncestorsFound.{ancestors_are_worked_out}
-use Rattle.dispatch_laws.specs.Dispatch.{is_ancestor, is_ancestor_of_any, is_small}
+use Rattle.dispatch_laws.proofs.SubtypesFound.{subtypes_are_worked_out}
+use Rattle.dispatch_laws.specs.Dispatch.{is_ancestor, is_ancestor_of_any, is_array_below, is_small}
 use Rattle.dispatch_laws.specs.Meaning.{is_instance_value}
 use Rattle.dispatch_laws.specs.States as ir
 use Rattle.dispatch_laws.specs.World.{World, is_instance, is_array, is_array_value, stored_class, is_of_type}
 use Rattle.sj_names.proofs.Same.{impossible, text-same}
 use Rattle.sj_names.specs.Same.{is_same_text}
 use Rattle.sj_names.specs.declared.references.ArrayRef.{ArrayRef}
+use Rattle.sj_trees.specs.SameTypes.{is_same_type}
 use Rattle.sj_trees.specs.declared.types.IrType.{IrType}
-use Rattle.sj_trees.specs.declared.types.IrType.TheVariants.{Any, Undefined, Boolean, Char, Byte, Short, Int, Long, String, Class, Array}
+use Rattle.sj_trees.specs.declared.types.IrType.TheVariants.{Any, Undefined, Boolean, Char, Byte, Short, Int, Long, String, Class, Array, Nothing}
 use Rattle.dispatch_laws.specs.Ancestors.{IsAncestor, by_path}
 use Rattle.dispatch_laws.specs.Known as known
+use Rattle.dispatch_laws.specs.Known.{object}
 use Rattle.dispatch_laws.specs.Paths.{stay}
 use Rattle.dispatch_laws.specs.Subtypes.{hijacked_class, IsSub, class_to_class, primitive_to_class}
 
@@ -23,12 +26,16 @@ use Rattle.dispatch_laws.specs.Subtypes.{hijacked_class, IsSub, class_to_class, 
 pub data IsObject (c : List ℕ) : Option ir.Stored → Type 0 where
   an_object : (fields : ir.Fields) → IsObject c (Some (ir.object c fields))
 
+-- an array of the type stands there
+pub data IsArrayAt (r : ArrayRef) : Option ir.Stored → Type 0 where
+  array_at : (items : List ir.Value) → IsArrayAt r (Some (ir.array r items))
+
 -- nothing else is told of what isn't a number
 either_false : (b : Bool) → (b || false) ≡ true → b ≡ true
 either_false true h = refl
 either_false false h = h
 
-module _ (w : World) (law : IsSubtyping (IsSub w)) (at : Classes) (st : ir.State) (objects : (i : ℕ) (c : List ℕ) → at i ≡ Some c → IsObject c (slice_get st.heap i)) where
+module _ (w : World) (law : IsSubtyping (IsSub w)) (at : Classes) (st : ir.State) (objects : (i : ℕ) (c : List ℕ) → at i ≡ Some (Class c) → IsObject c (slice_get st.heap i)) (arrays : (i : ℕ) (r : ArrayRef) → at i ≡ Some (Array r) → IsArrayAt r (slice_get st.heap i)) where
   abbrev Of : ir.Value → IrType → Type 0
   Of v o = IsOf (IsSub w) law at v o
 
@@ -66,6 +73,9 @@ module _ (w : World) (law : IsSubtyping (IsSub w)) (at : Classes) (st : ir.State
   object_class : (i : ℕ) (c d : List ℕ) → Of (ir.reference i) (Class c) → (o : Option ir.Stored) → IsObject c o → (is_ancestor_of_any w (stored_class o) d || false) ≡ true → Has (ir.reference i) (Class d)
   object_class i c d of _ (an_object fields) h = has_type (Class c) of (class_to_class c d refl refl (found c d (either_false (is_ancestor w c d) h)))
 
+  array_class : (i : ℕ) (r : ArrayRef) (d : List ℕ) → Of (ir.reference i) (Class object) → (o : Option ir.Stored) → IsArrayAt r o → (is_ancestor_of_any w (stored_class o) d || false) ≡ true → Has (ir.reference i) (Class d)
+  array_class i r d of _ (array_at items) h = has_type (Class object) of (class_to_class object d refl refl (found object d (either_false (is_ancestor w object d) h)))
+
   instance_type : (v : ir.Value) (o : IrType) (d : List ℕ) → Of v o → is_instance w st v d ≡ true → Has v (Class d)
   instance_type _ _ d of_undefined h = by_class ir.undefined Undefined (codes "java.lang.Void") d of_undefined refl h
   instance_type _ _ d of_null h = impossible h
@@ -77,13 +87,20 @@ module _ (w : World) (law : IsSubtyping (IsSub w)) (at : Classes) (st : ir.State
   instance_type _ _ d (of_int z) h = number_class z d h
   instance_type _ _ d (of_text us) h = by_class (ir.text us) String (codes "java.lang.String") d (of_text us) refl h
   instance_type _ _ d (of_object i c e n) h = object_class i c d (of_object i c e n) (slice_get st.heap i) (objects i c e) h
+  instance_type _ _ d (of_array i r e) h = array_class i r d (of_any_array i r e) (slice_get st.heap i) (arrays i r e) h
+  instance_type _ _ d (of_any_array i r e) h = array_class i r d (of_any_array i r e) (slice_get st.heap i) (arrays i r e) h
 
   -- an object isn't an array
   no_array : {A : Type 0} (c : List ℕ) (o : Option ir.Stored) (r : ArrayRef) → IsObject c o → is_array w o r ≡ true → A
   no_array c _ r (an_object fields) h = impossible h
 
+  below_array : (i : ℕ) (q r : ArrayRef) → at i ≡ Some (Array q) → (o : Option ir.Stored) → IsArrayAt q o → is_array w o r ≡ true → Has (ir.reference i) (Array r)
+  below_array i q r e _ (array_at items) h = has_type (Array q) (of_array i q e) ((subtypes_are_worked_out w (Array q) (Array r)).0 (or_right (is_same_type (Array q) (Array r) || is_same_type (Array q) Nothing) (is_array_below w q r) h))
+
   array_type : (v : ir.Value) (o : IrType) (r : ArrayRef) → Of v o → is_array_value w st v r ≡ true → Has v (Array r)
   array_type _ _ r (of_object i c e n) h = no_array c (slice_get st.heap i) r (objects i c e) h
+  array_type _ _ r (of_array i q e) h = below_array i q r e (slice_get st.heap i) (arrays i q e) h
+  array_type _ _ r (of_any_array i q e) h = below_array i q r e (slice_get st.heap i) (arrays i q e) h
   array_type _ _ r of_undefined h = impossible h
   array_type _ _ r of_null h = impossible h
   array_type _ _ r (of_boolean b) h = impossible h

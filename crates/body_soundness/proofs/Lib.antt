@@ -1,3 +1,4 @@
+pub mod Arrays
 pub mod Assembled
 pub mod Chains
 pub mod Heaps

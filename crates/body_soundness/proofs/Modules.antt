@@ -3,9 +3,9 @@ use Rattle.std.proofs.Common.{◌≡◌, ℕ, Bool, true, false, List, [], ◌�
 use Rattle.sj_proper.proofs.InWorld.{in_world}
 use Rattle.sj_proper.proofs.Lists.{at_front, further_on}
 use Rattle.sj_proper.proofs.RulesGive.{no_division}
-use Rattle.body_soundness.proofs.Right.{Comes, comes_then, CameRight, gave, left, threw, ObjectTyped, typed_object, HoldsType, holds_type, zero_type, null_type, HeapTyped, call_right, bodies_right, none_left, nothing_there, no_label, no_object, Ready}
-use Rattle.body_soundness.proofs.Values.{Classes, HasType, has_type, of_undefined, of_null, of_boolean, of_char, of_long, of_byte, of_short, of_int, of_text, of_object}
-use Rattle.body_soundness.specs.Laws.{ObjectLaws, HasReceivers, reads, calls, looks, arrays, reflects}
+use Rattle.body_soundness.proofs.Right.{Comes, comes_then, CameRight, gave, left, threw, ObjectTyped, typed_object, ArrayTyped, typed_array, HoldsType, holds_type, zero_type, null_type, HeapTyped, call_right, bodies_right, none_left, nothing_there, no_label, no_object, Ready}
+use Rattle.body_soundness.proofs.Values.{Classes, HasType, has_type, of_undefined, of_null, of_boolean, of_char, of_long, of_byte, of_short, of_int, of_text, of_object, of_array, of_any_array}
+use Rattle.body_soundness.specs.Laws.{ObjectLaws}
 use Rattle.body_soundness.specs.Rules.{RightMember}
 use Rattle.sj_proper.specs.Typing.{Scene}
 use Rattle.sj_proper.specs.Built.{Usable, members_alone}
@@ -20,7 +20,9 @@ use Rattle.sj_names.specs.declared.entry_points.EntryPoint.{EntryPoint}
 use Rattle.sj_names.specs.declared.method_names.Member.{Member}
 use Rattle.sj_names.specs.declared.method_names.Namespace.TheVariants.{PublicStatic}
 use Rattle.sj_proper.specs.Emitted.{initializer_member}
-use Rattle.sj_trees.specs.declared.types.IrType.TheVariants.{Any, NoType}
+use Rattle.sj_names.specs.declared.references.ArrayRef.{ArrayRef}
+use Rattle.sj_trees.specs.declared.types.IrType.{IrType}
+use Rattle.sj_trees.specs.declared.types.IrType.TheVariants.{Any, Class, Array, NoType}
 use Rattle.dispatch_laws.specs.SjWorldLaws.{IsPlain}
 use Rattle.dispatch_laws.specs.Subtypes.{IsSub}
 
@@ -40,14 +42,17 @@ nowhere = record { owner = []; space = PublicStatic; sure = λ x. false; locals 
 abbrev no_classes : Classes
 no_classes i = None
 
-no_class : (c : List ℕ) → ◌≡◌ {A = Option (List ℕ)} None (Some c) → ⊥
-no_class c e = cc
+no_class : (t : IrType) → ◌≡◌ {A = Option IrType} None (Some t) → ⊥
+no_class t e = cc
 
 module _ (w : World) (plain : IsPlain w) (has : Usable) (laws : ObjectLaws w has) (members : (m : Member) → has.linked m ≡ true → RightMember w has m) where
   abbrev Typed : Classes → ir.State → Type 0
   Typed = HeapTyped w (in_world w plain) has
 
   -- a value that is thrown and nothing catches is shown
+  array_fine : (at : Classes) (r : ArrayRef) (o : Option ir.Stored) → ArrayTyped w (in_world w plain) has at r o → Fine (ir_showing.uncaught_or_wrong (ir_showing.thrown_stored o)).end
+  array_fine at r _ (typed_array items h) = tt
+
   stored_fine : (at : Classes) (c : List ℕ) (o : Option ir.Stored) → ObjectTyped w (in_world w plain) has at c o → Fine (ir_showing.uncaught_or_wrong (ir_showing.thrown_stored o)).end
   stored_fine at c _ (typed_object fields h) = tt
 
@@ -61,10 +66,12 @@ module _ (w : World) (plain : IsPlain w) (has : Usable) (laws : ObjectLaws w has
   uncaught_fine at _ st (has_type _ (of_short z) f) h = tt
   uncaught_fine at _ st (has_type _ (of_int z) f) h = tt
   uncaught_fine at _ st (has_type _ (of_text us) f) h = tt
-  uncaught_fine at _ st (has_type _ (of_object i c e n) f) h = stored_fine at c (slice_get st.heap i) (h.objects i c e)
+  uncaught_fine at _ st (has_type _ (of_object i c e n) f) h = stored_fine at c (slice_get st.heap i) (h.stored i (Class c) e)
+  uncaught_fine at _ st (has_type _ (of_array i r e) f) h = array_fine at r (slice_get st.heap i) (h.stored i (Array r) e)
+  uncaught_fine at _ st (has_type _ (of_any_array i r e) f) h = array_fine at r (slice_get st.heap i) (h.stored i (Array r) e)
 
   ready : (at : Classes) (st : ir.State) → Typed at st → Ready w (in_world w plain) has at (record { owner = []; space = PublicStatic; sure = λ x. false }) [] ir_showing.outside st
-  ready at st typed = record { locals = record { holds = nothing_there w (in_world w plain) has at; full = λ r x d e k. absurd (cc); this = λ r. absurd r; sure = refl }; heap = typed }
+  ready at st typed = record { locals = record { holds = nothing_there w (in_world w plain) has at; full = λ x d e k. absurd (cc); this = λ r. absurd r; sure = refl }; heap = typed }
 
   one_comes : (n : ℕ) (e : EntryPoint) → has.linked (initializer_member e) ≡ true → (at : Classes) (st : ir.State) → Typed at st → Comes (CameRight w (in_world w plain) has at nowhere [] NoType) (ir_meaning.meaning w n (ir_showing.initializer_call e) ir_showing.outside st).end
   one_comes n e l at st typed = call_right w (in_world w plain) has laws (ir_meaning.below w n) (bodies_right w (in_world w plain) has laws members n) (initializer_member e) (members (initializer_member e) l) nowhere NoType refl at [] none_left None (λ r. absurd (no_object PublicStatic tt r)) ir_showing.outside st (ready at st typed)
@@ -79,14 +86,7 @@ module _ (w : World) (plain : IsPlain w) (has : Usable) (laws : ObjectLaws w has
       next at others _ (threw k v env st a i j) = uncaught_fine k v st i j.heap
 
   pub never_wrong : (entries : List EntryPoint) (id : List ℕ) → ((e : EntryPoint) → Contains (ir_showing.initializers entries id) e → has.linked (initializer_member e) ≡ true) → (n : ℕ) → IsNotWrong (ir_showing.ir_shows w entries id n).end
-  never_wrong entries id l n = fine-not_wrong (ir_showing.ir_shows w entries id n).end (all_fine n (ir_showing.initializers entries id) l no_classes (opening w) (record { objects = λ i c e. absurd (no_class c e); made = λ i c e. absurd (no_class c e); statics = λ c f t h. let its = laws.statics c f t h in subst (λ o. HoldsType w (in_world w plain) has no_classes o t) (sym its.1) (holds_type (zero_of t) t (zero_type w (in_world w plain) has no_classes t its.0)); cells = λ c h. null_type w (in_world w plain) has no_classes c }))
-
-no_receivers : {A : Type 0} (linked : Member → Bool) → HasReceivers (members_alone linked) → A
-no_receivers linked (reads c f t h) = impossible h
-no_receivers linked (calls m h) = impossible h
-no_receivers linked (looks c m h) = impossible h
-no_receivers linked (arrays h) = impossible h
-no_receivers linked (reflects p h) = impossible h
+  never_wrong entries id l n = fine-not_wrong (ir_showing.ir_shows w entries id n).end (all_fine n (ir_showing.initializers entries id) l no_classes (opening w) (record { stored = λ i t e. absurd (no_class t e); made = λ i t e. absurd (no_class t e); statics = λ c f t h. let its = laws.statics c f t h in subst (λ o. HoldsType w (in_world w plain) has no_classes o t) (sym its.1) (holds_type (zero_of t) t (zero_type w (in_world w plain) has no_classes t its.0)); cells = λ c h. null_type w (in_world w plain) has no_classes c }))
 
 -- where nothing but static members is used, nothing is asked of the world
 pub nothing_asked : (w : World) (linked : Member → Bool) → ObjectLaws w (members_alone linked)
@@ -94,9 +94,9 @@ nothing_asked w linked = record {
   received = λ m h. impossible h;
   targets = λ m h. impossible h;
   looked = λ c m h d b. impossible h;
+  on_arrays = λ m h made. impossible h;
   reflected = λ p h d b. impossible h;
   built = λ m h. impossible h;
-  once = λ r m d e f b. no_receivers linked r;
   made = λ c h. impossible h;
   fields = λ c f t h. impossible h;
   one_type = λ c f s t h k. impossible h;
@@ -108,4 +108,10 @@ nothing_asked w linked = record {
   exceptions = λ h. impossible h;
   divisions = λ o h. no_division (members_alone linked) (λ x. refl) o h;
   casts = λ t h. impossible h;
+  tops = λ c f t h s. impossible h;
+  arrays = λ h. impossible h;
+  sizes = λ h. impossible h;
+  reads = λ h. impossible h;
+  writes = λ t h. impossible h;
+  stores = λ h. impossible h;
 }

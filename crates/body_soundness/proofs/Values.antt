@@ -16,19 +16,20 @@ use Rattle.sj_proper.specs.Built.{Usable, divides}
 use Rattle.sj_proper.specs.Operators.{is_simple, IsDivision, a_quotient, a_remainder, IsLongDivision, a_long_quotient, a_long_remainder, IsIdentity, a_sameness, a_difference}
 use Rattle.sj_proper.specs.Rules.{unary_operand, left_operand, right_operand, IsText as IsJoined}
 use Rattle.sj_names.proofs.Same.{impossible}
-use Rattle.sj_proper.specs.Standing.{is_bare}
+use Rattle.sj_proper.specs.Standing.{is_bare, is_array_type, is_joined}
 use Rattle.sj_proper.specs.Subtyping.{is_lowest, IsSubtyping}
-use Rattle.sj_proper.proofs.Fitting.{text_bare}
+use Rattle.sj_proper.proofs.Fitting.{text_joined}
+use Rattle.dispatch_laws.specs.Known.{object}
 use Rattle.dispatch_laws.specs.Subtypes.{hijacked_class}
 use Rattle.sure_receivers.specs.Sure.{is_sure_type}
 
--- the class of the object at each address
+-- the type of what stands at each address: an object of a class, or an array
 abbrev pub Classes : Type 0
-Classes = ℕ → Option (List ℕ)
+Classes = ℕ → Option IrType
 
--- an address that has a class keeps it
+-- an address that has a type keeps it
 pub record Adds (old new : Classes) : Type 0 where
-  pub keeps : (i : ℕ) (c : List ℕ) → old i ≡ Some c → new i ≡ Some c
+  pub keeps : (i : ℕ) (t : IrType) → old i ≡ Some t → new i ≡ Some t
 
 pub adds-refl : (h : Classes) → Adds h h
 adds-refl h = record { keeps = λ i c e. e }
@@ -100,7 +101,7 @@ sure_lowest String h = refl
 sure_lowest _ h = impossible h
 
 module _ (sub : IrType → IrType → Type 0) (law : IsSubtyping sub) (at : Classes) where
-  -- the types that a value is of by itself; an object is of the class that its address has, which isn't bare
+  -- the types that a value is of by itself; an object is of the class that its address has, which isn't bare, and an array of its type and of the class of all objects
   pub data IsOf : ir.Value → IrType → Type 0 where
     of_undefined : IsOf ir.undefined Undefined
     of_null : IsOf ir.null Null
@@ -111,7 +112,9 @@ module _ (sub : IrType → IrType → Type 0) (law : IsSubtyping sub) (at : Clas
     of_short : (z : ℤ) → IsOf (ir.number z) Short
     of_int : (z : ℤ) → IsOf (ir.number z) Int
     of_text : (us : List ℕ) → IsOf (ir.text us) String
-    of_object : (i : ℕ) (c : List ℕ) → at i ≡ Some c → is_bare (Class c) ≡ false → IsOf (ir.reference i) (Class c)
+    of_object : (i : ℕ) (c : List ℕ) → at i ≡ Some (Class c) → is_bare (Class c) ≡ false → IsOf (ir.reference i) (Class c)
+    of_array : (i : ℕ) (r : ArrayRef) → at i ≡ Some (Array r) → IsOf (ir.reference i) (Array r)
+    of_any_array : (i : ℕ) (r : ArrayRef) → at i ≡ Some (Array r) → IsOf (ir.reference i) (Class object)
 
   pub data HasType (v : ir.Value) (t : IrType) : Type 0 where
     has_type : (o : IrType) → IsOf v o → sub o t → HasType v t
@@ -131,19 +134,26 @@ module _ (sub : IrType → IrType → Type 0) (law : IsSubtyping sub) (at : Clas
   of_any wide _ t (has_type _ (of_int z) f) = has_type Int (of_int z) (wide Int (λ e. cc))
   of_any wide _ t (has_type _ (of_text us) f) = has_type String (of_text us) (wide String (λ e. cc))
   of_any wide _ t (has_type _ (of_object i c e bare) f) = has_type (Class c) (of_object i c e bare) (wide (Class c) (λ e. cc))
+  of_any wide _ t (has_type _ (of_array i r e) f) = has_type (Array r) (of_array i r e) (wide (Array r) (λ e. cc))
+  of_any wide _ t (has_type _ (of_any_array i r e) f) = has_type (Class object) (of_any_array i r e) (wide (Class object) (λ e. cc))
 
-  -- a value of a type of arrays is null
-  pub no_array : {A : Type 0} (r : ArrayRef) (v : ir.Value) → HasType v (Array r) → (v ≡ ir.null → ⊥) → A
-  no_array r _ (has_type _ of_undefined f) n = impossible (law.arrays Undefined r f)
-  no_array r _ (has_type _ of_null f) n = absurd (n refl)
-  no_array r _ (has_type _ (of_boolean b) f) n = impossible (law.arrays Boolean r f)
-  no_array r _ (has_type _ (of_char u) f) n = impossible (law.arrays Char r f)
-  no_array r _ (has_type _ (of_long z) f) n = impossible (law.arrays Long r f)
-  no_array r _ (has_type _ (of_byte z) f) n = impossible (law.arrays Byte r f)
-  no_array r _ (has_type _ (of_short z) f) n = impossible (law.arrays Short r f)
-  no_array r _ (has_type _ (of_int z) f) n = impossible (law.arrays Int r f)
-  no_array r _ (has_type _ (of_text us) f) n = impossible (law.arrays String r f)
-  no_array r _ (has_type _ (of_object i c e bare) f) n = impossible (law.arrays (Class c) r f)
+  -- a value of a type of arrays that isn't null is an array of a type below
+  pub data IsArrayOf (q : ArrayRef) : ir.Value → Type 0 where
+    an_array : (i : ℕ) (r : ArrayRef) → at i ≡ Some (Array r) → sub (Array r) (Array q) → IsArrayOf q (ir.reference i)
+
+  pub as_array : (q : ArrayRef) (v : ir.Value) → HasType v (Array q) → (v ≡ ir.null → ⊥) → IsArrayOf q v
+  as_array q _ (has_type _ (of_array i r e) f) n = an_array i r e f
+  as_array q _ (has_type _ (of_any_array i r e) f) n = impossible (law.arrays (Class object) q f)
+  as_array q _ (has_type _ of_undefined f) n = impossible (law.arrays Undefined q f)
+  as_array q _ (has_type _ of_null f) n = absurd (n refl)
+  as_array q _ (has_type _ (of_boolean b) f) n = impossible (law.arrays Boolean q f)
+  as_array q _ (has_type _ (of_char u) f) n = impossible (law.arrays Char q f)
+  as_array q _ (has_type _ (of_long z) f) n = impossible (law.arrays Long q f)
+  as_array q _ (has_type _ (of_byte z) f) n = impossible (law.arrays Byte q f)
+  as_array q _ (has_type _ (of_short z) f) n = impossible (law.arrays Short q f)
+  as_array q _ (has_type _ (of_int z) f) n = impossible (law.arrays Int q f)
+  as_array q _ (has_type _ (of_text us) f) n = impossible (law.arrays String q f)
+  as_array q _ (has_type _ (of_object i c e bare) f) n = impossible (law.arrays (Class c) q f)
 
   -- what isn't of the kind of a lowest type is none of its values
   other_kind : {A : Type 0} (kind : IrType → Bool) (o t : IrType) → kind o ≡ false → kind t ≡ true → kind Nothing ≡ false → (o ≡ Nothing → ⊥) → (o ≡ t) ⊎ (o ≡ Nothing) → A
@@ -161,6 +171,8 @@ module _ (sub : IrType → IrType → Type 0) (law : IsSubtyping sub) (at : Clas
   as_boolean _ (has_type _ (of_long z) f) = other_kind is_boolean_type Long Boolean refl refl refl (λ e. cc) (law.lowest Long Boolean refl f)
   as_boolean _ (has_type _ (of_text us) f) = other_kind is_boolean_type String Boolean refl refl refl (λ e. cc) (law.lowest String Boolean refl f)
   as_boolean _ (has_type _ (of_object i c e n) f) = other_kind is_boolean_type (Class c) Boolean refl refl refl (λ e. cc) (law.lowest (Class c) Boolean refl f)
+  as_boolean _ (has_type _ (of_array i r e) f) = other_kind is_boolean_type (Array r) Boolean refl refl refl (λ e. cc) (law.lowest (Array r) Boolean refl f)
+  as_boolean _ (has_type _ (of_any_array i r e) f) = other_kind is_boolean_type (Class object) Boolean refl refl refl (λ e. cc) (law.lowest (Class object) Boolean refl f)
 
   as_number_of : (v : ir.Value) (t : IrType) → is_number_type t ≡ true → ((s : IrType) → sub s t → (s ≡ t) ⊎ (s ≡ Nothing)) → HasType v t → IsNumber v
   as_number_of _ t k low (has_type _ (of_byte z) f) = a_number z
@@ -173,6 +185,8 @@ module _ (sub : IrType → IrType → Type 0) (law : IsSubtyping sub) (at : Clas
   as_number_of _ t k low (has_type _ (of_long z) f) = other_kind is_number_type Long t refl k refl (λ e. cc) (low Long f)
   as_number_of _ t k low (has_type _ (of_text us) f) = other_kind is_number_type String t refl k refl (λ e. cc) (low String f)
   as_number_of _ t k low (has_type _ (of_object i c e n) f) = other_kind is_number_type (Class c) t refl k refl (λ e. cc) (low (Class c) f)
+  as_number_of _ t k low (has_type _ (of_array i r e) f) = other_kind is_number_type (Array r) t refl k refl (λ e. cc) (low (Array r) f)
+  as_number_of _ t k low (has_type _ (of_any_array i r e) f) = other_kind is_number_type (Class object) t refl k refl (λ e. cc) (low (Class object) f)
 
   pub as_int : (v : ir.Value) → HasType v Int → IsNumber v
   as_int v = as_number_of v Int refl (λ s. law.lowest s Int refl)
@@ -188,6 +202,8 @@ module _ (sub : IrType → IrType → Type 0) (law : IsSubtyping sub) (at : Clas
   as_char _ (has_type _ (of_long z) f) = other_kind is_char_type Long Char refl refl refl (λ e. cc) (law.lowest Long Char refl f)
   as_char _ (has_type _ (of_text us) f) = other_kind is_char_type String Char refl refl refl (λ e. cc) (law.lowest String Char refl f)
   as_char _ (has_type _ (of_object i c e n) f) = other_kind is_char_type (Class c) Char refl refl refl (λ e. cc) (law.lowest (Class c) Char refl f)
+  as_char _ (has_type _ (of_array i r e) f) = other_kind is_char_type (Array r) Char refl refl refl (λ e. cc) (law.lowest (Array r) Char refl f)
+  as_char _ (has_type _ (of_any_array i r e) f) = other_kind is_char_type (Class object) Char refl refl refl (λ e. cc) (law.lowest (Class object) Char refl f)
 
   pub as_long : (v : ir.Value) → HasType v Long → IsLong v
   as_long _ (has_type _ (of_long z) f) = a_long z
@@ -200,6 +216,8 @@ module _ (sub : IrType → IrType → Type 0) (law : IsSubtyping sub) (at : Clas
   as_long _ (has_type _ (of_int z) f) = other_kind is_long_type Int Long refl refl refl (λ e. cc) (law.lowest Int Long refl f)
   as_long _ (has_type _ (of_text us) f) = other_kind is_long_type String Long refl refl refl (λ e. cc) (law.lowest String Long refl f)
   as_long _ (has_type _ (of_object i c e n) f) = other_kind is_long_type (Class c) Long refl refl refl (λ e. cc) (law.lowest (Class c) Long refl f)
+  as_long _ (has_type _ (of_array i r e) f) = other_kind is_long_type (Array r) Long refl refl refl (λ e. cc) (law.lowest (Array r) Long refl f)
+  as_long _ (has_type _ (of_any_array i r e) f) = other_kind is_long_type (Class object) Long refl refl refl (λ e. cc) (law.lowest (Class object) Long refl f)
 
   pub as_text : (v : ir.Value) → HasType v String → IsText v
   as_text _ (has_type _ (of_text us) f) = a_text us
@@ -212,6 +230,8 @@ module _ (sub : IrType → IrType → Type 0) (law : IsSubtyping sub) (at : Clas
   as_text _ (has_type _ (of_long z) f) = other_kind is_text_type Long String refl refl refl (λ e. cc) (law.lowest Long String refl f)
   as_text _ (has_type _ (of_int z) f) = other_kind is_text_type Int String refl refl refl (λ e. cc) (law.lowest Int String refl f)
   as_text _ (has_type _ (of_object i c e n) f) = other_kind is_text_type (Class c) String refl refl refl (λ e. cc) (law.lowest (Class c) String refl f)
+  as_text _ (has_type _ (of_array i r e) f) = other_kind is_text_type (Array r) String refl refl refl (λ e. cc) (law.lowest (Array r) String refl f)
+  as_text _ (has_type _ (of_any_array i r e) f) = other_kind is_text_type (Class object) String refl refl refl (λ e. cc) (law.lowest (Class object) String refl f)
 
   -- a value of the type is there
   pub data Gives (t : IrType) : Answer → Type 0 where
@@ -308,6 +328,18 @@ module _ (sub : IrType → IrType → Type 0) (law : IsSubtyping sub) (at : Clas
   data HasText : ir.Value → Type 0 where
     a_text_of : (v : ir.Value) (us : List ℕ) → text_of v ≡ Some us → HasText v
 
+  joined_bare : (s : IrType) → IsJoined s → is_bare s ≡ true
+  joined_bare s h = go s (text_joined s h)
+    where
+      go : (s : IrType) → is_joined s ≡ true → is_bare s ≡ true
+      go (Array r) h = impossible h
+      go _ h = h
+
+  no_text : {A : Type 0} (s : IrType) → IsJoined s → (s ≡ Any) ⊎ (is_array_type s ≡ true) → A
+  no_text s h (inl e) = absurd (subst IsJoined e h)
+  no_text (Array r) h (inr e) = absurd h
+  no_text _ h (inr e) = impossible e
+
   text_there : (v : ir.Value) (o s : IrType) → IsJoined s → sub o s → IsOf v o → HasText v
   text_there _ _ s h f of_undefined = a_text_of ir.undefined _ refl
   text_there _ _ s h f of_null = a_text_of ir.null _ refl
@@ -319,7 +351,9 @@ module _ (sub : IrType → IrType → Type 0) (law : IsSubtyping sub) (at : Clas
   text_there _ _ s h f (of_int z) = a_text_of (ir.number z) _ refl
   text_there _ _ s h f (of_long z) = a_text_of (ir.long z) _ refl
   text_there _ _ s h f (of_text us) = a_text_of (ir.text us) us refl
-  text_there _ _ s h f (of_object i c e n) = impossible (sym n ∙ law.bare (Class c) s (text_bare s h) f)
+  text_there _ _ s h f (of_object i c e n) = impossible (sym n ∙ law.bare (Class c) s (joined_bare s h) f)
+  text_there _ _ s h f (of_array i r e) = no_text s h (law.above_arrays r s f)
+  text_there _ _ s h f (of_any_array i r e) = impossible (law.bare (Class object) s (joined_bare s h) f)
 
   joined_gives : (v w : ir.Value) → HasText v → HasText w → Gives String (any_value StringConcatenate v w)
   joined_gives _ _ (a_text_of v us e) (a_text_of w vs f) = subst (Gives String) (λ i. joined (sym e i) (sym f i)) (some_of (ir.text (us ++ vs)) (has_type String (of_text (us ++ vs)) (law.same String)))
@@ -385,6 +419,23 @@ module _ (sub : IrType → IrType → Type 0) (law : IsSubtyping sub) (at : Clas
   null_is _ _ (of_int z) e = absurd (cc)
   null_is _ _ (of_text us) e = absurd (cc)
   null_is _ _ (of_object i c e n) k = absurd (cc)
+  null_is _ _ (of_array i r e) k = absurd (cc)
+  null_is _ _ (of_any_array i r e) k = absurd (cc)
+
+  -- no value is of nothing
+  pub no_nothing : (v : ir.Value) (o : IrType) → IsOf v o → o ≡ Nothing → ⊥
+  no_nothing _ _ of_null e = absurd (cc)
+  no_nothing _ _ of_undefined e = absurd (cc)
+  no_nothing _ _ (of_boolean b) e = absurd (cc)
+  no_nothing _ _ (of_char u) e = absurd (cc)
+  no_nothing _ _ (of_long z) e = absurd (cc)
+  no_nothing _ _ (of_byte z) e = absurd (cc)
+  no_nothing _ _ (of_short z) e = absurd (cc)
+  no_nothing _ _ (of_int z) e = absurd (cc)
+  no_nothing _ _ (of_text us) e = absurd (cc)
+  no_nothing _ _ (of_object i c e n) k = absurd (cc)
+  no_nothing _ _ (of_array i r e) k = absurd (cc)
+  no_nothing _ _ (of_any_array i r e) k = absurd (cc)
 
   -- a value of a primitive type isn't null
   pub primitive_full : (v : ir.Value) (t : IrType) → is_sure_type t ≡ true → HasType v t → v ≡ ir.null → ⊥
@@ -394,10 +445,11 @@ module _ (sub : IrType → IrType → Type 0) (law : IsSubtyping sub) (at : Clas
       go (inl k) = impossible (ap is_sure_type k ∙ h)
       go (inr k) = cc
 
-  -- a value is null, an object, or of a primitive type
+  -- a value is null, an object, an array, or of a primitive type
   pub data Sort (v : ir.Value) (o : IrType) : Type 0 where
     is_null : v ≡ ir.null → Sort v o
-    is_object : (i : ℕ) (c : List ℕ) → v ≡ ir.reference i → o ≡ Class c → at i ≡ Some c → Sort v o
+    is_object : (i : ℕ) (c : List ℕ) → v ≡ ir.reference i → o ≡ Class c → at i ≡ Some (Class c) → Sort v o
+    is_array : (i : ℕ) (r : ArrayRef) → v ≡ ir.reference i → at i ≡ Some (Array r) → (o ≡ Array r) ⊎ (o ≡ Class object) → Sort v o
     is_primitive : (c : List ℕ) → hijacked_class o ≡ Some c → Sort v o
 
   pub sort_of : (v : ir.Value) (o : IrType) → IsOf v o → Sort v o
@@ -411,6 +463,8 @@ module _ (sub : IrType → IrType → Type 0) (law : IsSubtyping sub) (at : Clas
   sort_of _ _ (of_int z) = is_primitive _ refl
   sort_of _ _ (of_text us) = is_primitive _ refl
   sort_of _ _ (of_object i c e n) = is_object i c refl refl e
+  sort_of _ _ (of_array i r e) = is_array i r refl e (inl refl)
+  sort_of _ _ (of_any_array i r e) = is_array i r refl e (inr refl)
 
 module _ (sub : IrType → IrType → Type 0) (law : IsSubtyping sub) (h k : Classes) (adds : Adds h k) where
   of-lift : (v : ir.Value) (t : IrType) → IsOf sub law h v t → IsOf sub law k v t
@@ -423,7 +477,9 @@ module _ (sub : IrType → IrType → Type 0) (law : IsSubtyping sub) (h k : Cla
   of-lift _ _ (of_short z) = of_short z
   of-lift _ _ (of_int z) = of_int z
   of-lift _ _ (of_text us) = of_text us
-  of-lift _ _ (of_object i c e n) = of_object i c (adds.keeps i c e) n
+  of-lift _ _ (of_object i c e n) = of_object i c (adds.keeps i (Class c) e) n
+  of-lift _ _ (of_array i r e) = of_array i r (adds.keeps i (Array r) e)
+  of-lift _ _ (of_any_array i r e) = of_any_array i r (adds.keeps i (Array r) e)
 
   -- what has a type goes on to have it
   pub type-lift : (v : ir.Value) (t : IrType) → HasType sub law h v t → HasType sub law k v t

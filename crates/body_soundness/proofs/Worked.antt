@@ -1,8 +1,10 @@
--- The worked world with objects has what soundness asks.
-use Rattle.std.proofs.Common.{◌≡◌, codes, ◌<◌, ℕ, Bool, true, false, ◌&&◌, List, [], ◌∷◌, Some, None, Option, Contains, refl, sym, ◌∙◌, ◌||◌, subst, ◌⊎◌, inl, inr, ⊎_elim, arith, if◌then◌else◌}
+-- The worked worlds have what soundness asks.
+use Rattle.std.proofs.Common.{◌≡◌, codes, ◌<◌, ℕ, Bool, true, false, ◌&&◌, List, [], ◌∷◌, Some, None, Option, Contains, refl, sym, ◌∙◌, ◌||◌, subst, ◌⊎◌, inl, inr, ⊎_elim, arith}
+use Rattle.std.specs.Int.{w32}
 use Rattle.std.specs.List.{list_any}
+use Rattle.std.specs.Prelude.{FitsSigned, pos}
 use Rattle.std.proofs.lemmas.Bool.{and_parts}
-use Rattle.sj_proper.proofs.Lists.{nothing_in, in_front_or_behind, at_front, further_on}
+use Rattle.sj_proper.proofs.Lists.{nothing_in, in_front_or_behind}
 use Rattle.sj_proper.proofs.Plain.{class_found, plain_world}
 use Rattle.sj_proper.specs.Locals.{HasValue}
 use Rattle.sj_proper.proofs.RulesGive.{no_division}
@@ -11,34 +13,33 @@ use Rattle.body_soundness.proofs.Modules.{never_wrong}
 use Rattle.body_soundness.proofs.Chains.{no_primitive, on_chain as below_on_chain}
 use Rattle.body_soundness.specs.Laws.{ObjectLaws}
 use Rattle.body_soundness.specs.Rules.{RightMember}
-use Rattle.body_soundness.specs.Worked.{class_name, field_name, init_name, get_name, gets_field, gets, init_method, get_method, main_method, its_field, its_class, object_world, main_member, is_member, object_use}
+use Rattle.body_soundness.specs.Worked.{class_name, field_name, init_name, get_name, gets_field, gets, init_method, get_method, main_method, its_field, its_class, object_world, main_member, is_member, object_use, counts, counting_method, array_world, array_use}
 use Rattle.body_soundness.specs.Worlds.{AreClassesKept, HasFields, WritesInterfaces}
 use Rattle.dispatch_laws.specs.Dispatch.{chain_of}
 use Rattle.dispatch_laws.specs.Rows.{nowhere, object_name, object_with, main_entry, once}
 use Rattle.dispatch_laws.specs.Shows.{initializers, ir_shows}
-use Rattle.dispatch_laws.specs.World.{World, member_of, method_among, method_in, zeros_in, zero_of}
+use Rattle.dispatch_laws.specs.World.{zeros_in, zero_of}
 use Rattle.dispatch_laws.specs.World as ir_world
 use Rattle.outcomes.specs.Agreement.{IsNotWrong}
 use Rattle.sj_proper.specs.Desugar.{member}
+use Rattle.sj_proper.specs.Built.{can_put, divides}
 use Rattle.sj_local.specs.ClassRules.{keeps_superclass, keeps_hijacked}
 use Rattle.sj_names.proofs.Same.{impossible, text-same, method-same, namespace-same}
 use Rattle.sj_names.specs.Same.{is_same_text, is_same_namespace, is_same_method}
 use Rattle.sj_names.specs.declared.method_names.Member.{Member}
-use Rattle.sj_names.specs.declared.method_names.MethodName.{MethodName}
-use Rattle.sj_names.specs.declared.method_names.Namespace.{Namespace}
 use Rattle.sj_names.specs.declared.method_names.Namespace.TheVariants.{Private, Constructor}
 use Rattle.sj_names.specs.declared.entry_points.EntryPoint.{EntryPoint}
 use Rattle.sj_proper.specs.Emitted.{initializer_member}
 use Rattle.sj_proper.specs.Methods.{KeepsRules}
-use Rattle.sj_proper.specs.Once.{NamesOnce}
 use Rattle.sj_trees.proofs.SameTypes.{type-same}
 use Rattle.sj_trees.specs.SameTypes.{is_same_type}
-use Rattle.sj_trees.specs.Term.{Term, skip}
+use Rattle.sj_trees.specs.Term.{skip}
 use Rattle.sj_trees.specs.Types.{class_type}
 use Rattle.sj_trees.specs.declared.classes.ClassDef.{ClassDef}
-use Rattle.sj_trees.specs.declared.classes.MethodDef.{MethodDef}
 use Rattle.sj_trees.specs.declared.types.IrType.{IrType}
-use Rattle.sj_trees.specs.declared.types.IrType.TheVariants.{Class, Int}
+use Rattle.sj_trees.specs.declared.types.IrType.TheVariants.{Class, Undefined, Boolean, Char, Byte, Short, Int, Long, String, Null}
+use Rattle.sj_trees.specs.declared.operators.BinaryOp.{BinaryOp}
+use Rattle.sj_trees.specs.declared.operators.BinaryOp.TheVariants.{IntDivide, IntRemainder, LongDivide, LongRemainder}
 use Rattle.dispatch_laws.specs.Ancestors.{next_on_chain, IsOnChain}
 use Rattle.dispatch_laws.specs.Known.{Name, stands_as, is_hijacked}
 use Rattle.dispatch_laws.specs.SjWorldLaws.{IsPlain}
@@ -71,19 +72,19 @@ pub main_rules : KeepsRules object_world object_use object_name main_method gets
 main_rules = record { typed = (record { meets = (tt, refl, equal refl, tt); built = refl; finds = tt }, (record { meets = (refl, tt); built = refl; finds = tt }, tt), tt); yields = nothing_wanted refl; boxed = refl; result = inl refl; values = λ x p e. impossible (cc); once = record { once = (tt, tt, λ x o i. i); parameters = tt; fresh = λ x o i. i } }
 
 abbrev pub main_right : RightMember object_world object_use main_member
-main_right = record { definition = main_method; its_body = gets; found = refl; has_body = refl; rules = main_rules; parameters = tt; result_is = refl }
+main_right = record { definition = main_method; its_body = gets; found = refl; has_body = refl; rules = main_rules; names = record { once = tt; fresh = λ x n i. n }; parameters = tt; result_is = refl }
 
 linked_right : (m : Member) → object_use.linked m ≡ true → RightMember object_world object_use m
 linked_right m h = subst (RightMember object_world object_use) (sym (member-same m main_member h)) main_right
 
 abbrev pub get_right : RightMember object_world object_use (member class_name Private get_name)
-get_right = record { definition = get_method; its_body = gets_field; found = refl; has_body = refl; rules = get_rules; parameters = tt; result_is = refl }
+get_right = record { definition = get_method; its_body = gets_field; found = refl; has_body = refl; rules = get_rules; names = record { once = tt; fresh = λ x n i. n }; parameters = tt; result_is = refl }
 
 received_right : (m : Member) → object_use.received m ≡ true → RightMember object_world object_use m
 received_right m h = subst (RightMember object_world object_use) (sym (member-same m (member class_name Private get_name) h)) get_right
 
 abbrev pub init_right : RightMember object_world object_use (member class_name Constructor init_name)
-init_right = record { definition = init_method; its_body = skip nowhere; found = refl; has_body = refl; rules = init_rules; parameters = tt; result_is = refl }
+init_right = record { definition = init_method; its_body = skip nowhere; found = refl; has_body = refl; rules = init_rules; names = record { once = tt; fresh = λ x n i. n }; parameters = tt; result_is = refl }
 
 built_right : (m : Member) → object_use.built m ≡ true → RightMember object_world object_use m
 built_right m h = subst (RightMember object_world object_use) (sym (member-same m (member class_name Constructor init_name) h)) init_right
@@ -143,49 +144,8 @@ on_chain c f t d (the_field e g h) (inr k) sub = top_not_below (subst (λ (n : N
 none_below : (c f : List ℕ) (t : IrType) (o : IrType) (h : List ℕ) → OneField c f t → hijacked_class o ≡ Some h → IsSub object_world o (class_type c) → ⊥
 none_below c f t o h (the_field e g i) its sub = no_primitive object_world kept class_name o h has_fields its (no_faces h) (subst (λ (n : List ℕ). IsSub object_world o (class_type n)) e sub)
 
-method_listed : (ds : List MethodDef) (n : Namespace) (m : MethodName) (d : MethodDef) → method_among ds n m ≡ Some d → Contains ds d
-method_listed [] n m d e = impossible (cc)
-method_listed (x ∷ xs) n m d e = go (is_same_namespace n x.namespace && is_same_method m x.name) e (method_listed xs n m d)
-  where
-    go : (b : Bool) → (if b then Some x else method_among xs n m) ≡ Some d → (method_among xs n m ≡ Some d → Contains xs d) → Contains (x ∷ xs) d
-    go true k later = let same : x ≡ d = cc in subst (Contains (x ∷ xs)) same (at_front x xs)
-    go false k later = further_on x xs d (later k)
-
-class_listed : (w : World) (n : List ℕ) (c : ClassDef) → ir_world.class_of w n ≡ Some c → Contains w c
-class_listed [] n c e = impossible (cc)
-class_listed (x ∷ xs) n c e = go (is_same_text n x.name) e (class_listed xs n c)
-  where
-    go : (b : Bool) → (if b then Some x else ir_world.class_of xs n) ≡ Some c → (ir_world.class_of xs n ≡ Some c → Contains xs c) → Contains (x ∷ xs) c
-    go true k later = let same : x ≡ c = cc in subst (Contains (x ∷ xs)) same (at_front x xs)
-    go false k later = further_on x xs c (later k)
-
-abbrev HasNames : MethodDef → Type 0
-HasNames d = (e : Term) → d.body ≡ Some e → NamesOnce d e
-
-one_body : (a b : Term) → ◌≡◌ {A = Option Term} (Some a) (Some b) → a ≡ b
-one_body a b e = cc
-
-main_names : HasNames main_method
-main_names e is = subst (NamesOnce main_method) (one_body gets e is) (record { once = tt; fresh = λ x n i. n })
-
-init_names : HasNames init_method
-init_names e is = subst (NamesOnce init_method) (one_body (skip nowhere) e is) (record { once = tt; fresh = λ x n i. n })
-
-get_names : HasNames get_method
-get_names e is = subst (NamesOnce get_method) (one_body gets_field e is) (record { once = tt; fresh = λ x n i. n })
-
-main_listed : (d : MethodDef) → Contains (main_method ∷ []) d → HasNames d
-main_listed d i = ⊎_elim (λ same. subst HasNames same main_names) (λ none. nothing_in d none) (in_front_or_behind main_method [] d i)
-
-its_listed : (d : MethodDef) → Contains (init_method ∷ get_method ∷ []) d → HasNames d
-its_listed d i = ⊎_elim (λ same. subst HasNames same init_names) (λ later. ⊎_elim (λ same. subst HasNames same get_names) (λ none. nothing_in d none) (in_front_or_behind get_method [] d later)) (in_front_or_behind init_method (get_method ∷ []) d i)
-
-names : (m : Member) (d : MethodDef) (e : Term) → member_of object_world m.class m.namespace m.method ≡ Some d → d.body ≡ Some e → NamesOnce d e
-names m d e found body = go (ir_world.class_of object_world m.class) refl found
-  where
-    go : (o : Option ClassDef) → ir_world.class_of object_world m.class ≡ o → method_in o m.namespace m.method ≡ Some d → NamesOnce d e
-    go None k f = impossible (cc)
-    go (Some c) k f = each_class (λ (c : ClassDef). (d : MethodDef) → Contains c.methods d → HasNames d) main_listed its_listed c (class_listed object_world m.class c k) d (method_listed c.methods m.namespace m.method d f) e body
+no_top : (c f : List ℕ) (t : IrType) → OneField c f t → IsSub object_world (Class object_name) (class_type c) → ⊥
+no_top c f t (the_field e g h) sub = top_not_below (subst (λ (n : Name). IsSub object_world (Class object_name) (class_type n)) e sub)
 
 pub object_laws : ObjectLaws object_world object_use
 object_laws = record {
@@ -194,7 +154,6 @@ object_laws = record {
   reflected = λ p h d b. impossible h;
   targets = λ m h. own_target object_world m;
   built = built_right;
-  once = λ r m d e found body. names m d e found body;
   made = λ c h. none_hijacked c (made_is c h);
   fields = λ c f t h. zeros c f t (field_is c f t h);
   one_type = λ c f s t h k. same_types c f s t (field_is c f s h) (field_is c f t k);
@@ -206,6 +165,13 @@ object_laws = record {
   exceptions = λ h. impossible h;
   divisions = λ o h. no_division object_use (λ x. refl) o h;
   casts = λ t h. impossible h;
+  on_arrays = λ m h made. impossible h;
+  tops = λ c f t h sub. no_top c f t (field_is c f t h) sub;
+  arrays = λ h. impossible h;
+  sizes = λ h. impossible h;
+  reads = λ h. impossible h;
+  writes = λ t h. impossible h;
+  stores = λ h. impossible h;
 }
 
 pub initializer_linked : (e : EntryPoint) → Contains (initializers once (codes "main")) e → object_use.linked (initializer_member e) ≡ true
@@ -213,3 +179,71 @@ initializer_linked e i = ⊎_elim (λ same. subst (λ (x : EntryPoint). object_u
 
 pub gets_right : (n : ℕ) → IsNotWrong (ir_shows object_world once (codes "main") n).end
 gets_right = never_wrong object_world plain object_use object_laws linked_right once (codes "main") initializer_linked
+
+three : FitsSigned w32 (pos 3)
+three = record { sfits = omega arith }
+
+counting_rules : KeepsRules array_world array_use object_name counting_method counts
+counting_rules = record { typed = (record { meets = tt; built = refl; finds = tt }, (record { meets = (equal refl, tt); built = refl; finds = (omega arith, omega arith) }, (record { meets = tt; built = refl; finds = three }, tt))); yields = nothing_wanted refl; boxed = refl; result = inl refl; values = λ x p e. impossible (cc); once = record { once = (tt, tt, λ x o i. i); parameters = tt; fresh = λ x o i. i } }
+
+abbrev counting_right : RightMember array_world array_use main_member
+counting_right = record { definition = counting_method; its_body = counts; found = refl; has_body = refl; rules = counting_rules; names = record { once = tt; fresh = λ x n i. n }; parameters = tt; result_is = refl }
+
+main_linked : (m : Member) → array_use.linked m ≡ true → RightMember array_world array_use m
+main_linked m h = subst (RightMember array_world array_use) (sym (member-same m main_member h)) counting_right
+
+one_class : (P : ClassDef → Type 0) → P (object_with (counting_method ∷ [])) → (c : ClassDef) → Contains array_world c → P c
+one_class P here c i = ⊎_elim (λ same. subst P same here) (λ none. nothing_in c none) (in_front_or_behind (object_with (counting_method ∷ [])) [] c i)
+
+-- no item is written, and no operator divides
+no_items_set : (t : IrType) → can_put array_use t ≡ true → ⊥
+no_items_set Undefined h = impossible h
+no_items_set Boolean h = impossible h
+no_items_set Char h = impossible h
+no_items_set Byte h = impossible h
+no_items_set Short h = impossible h
+no_items_set Int h = impossible h
+no_items_set Long h = impossible h
+no_items_set String h = impossible h
+no_items_set Null h = impossible h
+no_items_set _ h = impossible h
+
+divides_nothing : (o : BinaryOp) → divides array_use o ≡ true → ⊥
+divides_nothing IntDivide h = impossible h
+divides_nothing IntRemainder h = impossible h
+divides_nothing LongDivide h = impossible h
+divides_nothing LongRemainder h = impossible h
+divides_nothing _ h = impossible h
+
+pub array_laws : ObjectLaws array_world array_use
+array_laws = record {
+  received = λ m h. impossible h;
+  looked = λ c m h d b. impossible h;
+  on_arrays = λ m h made. impossible h;
+  reflected = λ p h d b. impossible h;
+  targets = λ m h. own_target array_world m;
+  built = λ m h. impossible h;
+  made = λ c h. subst (λ (n : List ℕ). is_hijacked n ≡ false) (text-same object_name c h) refl;
+  fields = λ c f t h. impossible h;
+  one_type = λ c f s t h k. impossible h;
+  holders = λ c f t h d m sub. impossible h;
+  strangers = λ c f t h o n its sub. impossible h;
+  tops = λ c f t h sub. impossible h;
+  statics = λ c f t h. impossible h;
+  one_static = λ c f s t h k. impossible h;
+  modules = λ c h. impossible h;
+  exceptions = λ h. impossible h;
+  divisions = λ o h. absurd (divides_nothing o h);
+  casts = λ t h. impossible h;
+  arrays = λ h. refl;
+  sizes = λ h. impossible h;
+  reads = λ h. impossible h;
+  writes = λ t h. absurd (no_items_set t h);
+  stores = λ h. impossible h;
+}
+
+counting_linked : (e : EntryPoint) → Contains (initializers once (codes "main")) e → array_use.linked (initializer_member e) ≡ true
+counting_linked e i = ⊎_elim (λ same. subst (λ (x : EntryPoint). array_use.linked (initializer_member x) ≡ true) same refl) (λ none. nothing_in e none) (in_front_or_behind main_entry [] e i)
+
+pub length_never_wrong : (n : ℕ) → IsNotWrong (ir_shows array_world once (codes "main") n).end
+length_never_wrong = never_wrong array_world (plain_world array_world (one_class (λ c. keeps_superclass c ≡ true) refl) (one_class (λ c. keeps_hijacked c ≡ true) refl)) array_use array_laws main_linked once (codes "main") counting_linked

@@ -1,16 +1,14 @@
 -- What a world has of the members, classes and fields that bodies use on objects.
-use Rattle.std.specs.Prelude.{◌≡◌, ℕ, true, false, List, Option, Some, None, codes}
+use Rattle.std.specs.Prelude.{◌≡◌, ℕ, Bool, true, false, ◌||◌, List, Option, Some, None, codes}
 use Rattle.std.specs.List.{list_any}
 use Rattle.sj_proper.specs.Locals.{HasValue}
 use Rattle.body_soundness.specs.Rules.{RightMember}
-use Rattle.sj_proper.specs.Built.{Usable, has_static, divides}
+use Rattle.sj_proper.specs.Built.{Usable, has_static, divides, can_put}
 use Rattle.dispatch_laws.specs.Targets.{IsTargetOf}
 use Rattle.dispatch_laws.specs.Dispatch.{chain_of, is_ancestor, proxy_target}
 use Rattle.dispatch_laws.specs.Meaning.{with_message, without_parameters, no_such_method}
-use Rattle.dispatch_laws.specs.World.{World, class_of, member_of, zeros_in, statics_in, zero_of}
-use Rattle.sj_trees.specs.Term.{Term}
+use Rattle.dispatch_laws.specs.World.{World, class_of, zeros_in, statics_in, zero_of}
 use Rattle.sj_trees.specs.declared.classes.MethodDef.{MethodDef}
-use Rattle.sj_proper.specs.Once.{NamesOnce}
 use Rattle.sj_proper.specs.Desugar.{member}
 use Rattle.dispatch_laws.specs.Templates.{check_name}
 use Rattle.sj_names.specs.Same.{is_same_text}
@@ -23,14 +21,6 @@ use Rattle.sj_trees.specs.declared.types.IrType.{IrType}
 use Rattle.sj_trees.specs.declared.types.IrType.TheVariants.{Byte, Short, Int, Class}
 use Rattle.dispatch_laws.specs.Known.{is_hijacked, object}
 use Rattle.dispatch_laws.specs.Subtypes.{hijacked_class, IsSub}
-
--- there are receivers that have to be known or checked: those of fields that are read, and of calls, those on arrays among them
-pub data HasReceivers (has : Usable) : Type 0 where
-  reads : (c f : List ℕ) (t : IrType) → has.field c f t ≡ true → HasReceivers has
-  calls : (m : Member) → has.received m ≡ true → HasReceivers has
-  looks : (c : List ℕ) (m : MethodName) → has.looked_up c m ≡ true → HasReceivers has
-  arrays : has.objects ≡ true → HasReceivers has
-  reflects : (p : MethodName) → has.reflected p ≡ true → HasReceivers has
 
 -- the class by which a call on a value of this primitive type is looked up: numbers are of one class
 abbrev pub class_of_kind : IrType → Option (List ℕ)
@@ -65,27 +55,51 @@ arithmetic = codes "java.lang.ArithmeticException"
 abbrev pub class_cast : List ℕ
 class_cast = codes "java.lang.ClassCastException"
 
+abbrev pub out_of_bounds : List ℕ
+out_of_bounds = codes "java.lang.ArrayIndexOutOfBoundsException"
+
+abbrev pub array_store : List ℕ
+array_store = codes "java.lang.ArrayStoreException"
+
+abbrev pub negative_size : List ℕ
+negative_size = codes "java.lang.NegativeArraySizeException"
+
+-- the exception of this class can be made: the class is, and its constructor with a message is built
+abbrev pub CanRaise : Usable → List ℕ → Type 0
+CanRaise has c = (has.made c ≡ true) × (has.built (member c Constructor with_message) ≡ true)
+
+-- arrays can be made
+abbrev pub makes_arrays : Usable → Bool
+makes_arrays has = has.helper (codes "$mk") || has.helper (codes "$A")
+
 -- Members that run on an object and constructors keep the rules, and what a call of a member runs is its target; a method that can be looked up on the objects of a class has a
--- target in each class below it, and a reflective name by which receivers can be called an answer in each class; where there are receivers, bodies define no local twice; no class
+-- target in each class below it, one that can be called on arrays in the class of all objects, where that is made, and a reflective name by which receivers can be called an answer in each class; no class
 -- that is made is hijacked. A field that can be read has one type, with values, and is an instance field of its class, which stands on the chain of
--- superclasses of each class that is made below it; no primitive type is below it. A static field that can be used has one type, with values, and is one of its class. A class whose one object can be loaded is made,
+-- superclasses of each class that is made below it; no primitive type is below it, nor that of all objects. A static field that can be used has one type, with values, and is one of its class. A class whose one object can be loaded is made,
 -- and so is its constructor. Where the null check can be used, its exception is
--- made, and so are that of a division whose helper can be used and that of a cast that can be used.
+-- made, and so are that of a division whose helper can be used, that of a cast that can be used, and those of the helpers of arrays that can be used. Where arrays can be made,
+-- so is their class by the IR, that of all objects.
 pub record ObjectLaws (w : World) (has : Usable) : Type 0 where
   pub received : (m : Member) → has.received m ≡ true → RightMember w has m
   pub targets : (m : Member) → has.received (has.lookup.target m) ≡ true → IsTargetOf w m (has.lookup.target m)
   pub looked : (c : List ℕ) (m : MethodName) → has.looked_up c m ≡ true → (d : List ℕ) → IsClassBelow w has c d → Answers w has c d m
+  pub on_arrays : (m : MethodName) → has.on_arrays m ≡ true → has.made object ≡ true → Answers w has object object m
   pub reflected : (p : MethodName) → has.reflected p ≡ true → (d : List ℕ) → IsClassBelow w has object d → AnswersByName w has d p
   pub built : (m : Member) → has.built m ≡ true → RightMember w has m
-  pub once : HasReceivers has → (m : Member) (d : MethodDef) (e : Term) → member_of w m.class m.namespace m.method ≡ Some d → d.body ≡ Some e → NamesOnce d e
   pub made : (c : List ℕ) → has.made c ≡ true → is_hijacked c ≡ false
   pub fields : (c f : List ℕ) (t : IrType) → has.field c f t ≡ true → HasValue t × (zeros_in (class_of w c) f ≡ Some (zero_of t))
   pub one_type : (c f : List ℕ) (s t : IrType) → has.field c f s ≡ true → has.field c f t ≡ true → s ≡ t
   pub holders : (c f : List ℕ) (t : IrType) → has.field c f t ≡ true → (d : List ℕ) → has.made d ≡ true → IsSub w (Class d) (class_type c) → list_any (is_same_text c) (chain_of w d) ≡ true
   pub strangers : (c f : List ℕ) (t : IrType) → has.field c f t ≡ true → (o : IrType) (h : List ℕ) → hijacked_class o ≡ Some h → IsSub w o (class_type c) → ⊥
+  pub tops : (c f : List ℕ) (t : IrType) → has.field c f t ≡ true → IsSub w (Class object) (class_type c) → ⊥
   pub statics : (c f : List ℕ) (t : IrType) → has_static has c f t ≡ true → HasValue t × (statics_in (class_of w c) f ≡ Some (zero_of t))
   pub one_static : (c f : List ℕ) (s t : IrType) → has_static has c f s ≡ true → has_static has c f t ≡ true → s ≡ t
   pub modules : (c : List ℕ) → has.modules c ≡ true → (has.made c ≡ true) × (has.built (member c Constructor without_parameters) ≡ true)
-  pub exceptions : has.helper check_name ≡ true → (has.made null_pointer ≡ true) × (has.built (member null_pointer Constructor with_message) ≡ true)
-  pub divisions : (o : BinaryOp) → divides has o ≡ true → (has.made arithmetic ≡ true) × (has.built (member arithmetic Constructor with_message) ≡ true)
-  pub casts : (t : IrType) → has.casts t ≡ true → (has.made class_cast ≡ true) × (has.built (member class_cast Constructor with_message) ≡ true)
+  pub exceptions : has.helper check_name ≡ true → CanRaise has null_pointer
+  pub divisions : (o : BinaryOp) → divides has o ≡ true → CanRaise has arithmetic
+  pub casts : (t : IrType) → has.casts t ≡ true → CanRaise has class_cast
+  pub arrays : makes_arrays has ≡ true → has.made object ≡ true
+  pub sizes : has.helper (codes "$mk") ≡ true → CanRaise has negative_size
+  pub reads : has.helper (codes "$get") ≡ true → CanRaise has out_of_bounds
+  pub writes : (t : IrType) → can_put has t ≡ true → CanRaise has out_of_bounds
+  pub stores : has.helper (codes "$put") ≡ true → CanRaise has array_store

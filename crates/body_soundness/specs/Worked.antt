@@ -1,5 +1,5 @@
--- A worked world with objects: `new A().get()`, where `get` gives a field of its object.
-use Rattle.std.specs.Prelude.{ℕ, Bool, true, false, ◌&&◌, ◌||◌, List, [], ◌∷◌, Some, None, codes}
+-- Worked worlds: one with objects, `new A().get()`, where `get` gives a field of its object, and one with arrays, `new int[]{3}.length`.
+use Rattle.std.specs.Prelude.{ℕ, pos, Bool, true, false, ◌&&◌, ◌||◌, List, [], ◌∷◌, Some, None, codes}
 use Rattle.sj_core.specs.Lookup.{own_targets}
 use Rattle.sj_proper.specs.Built.{Usable}
 use Rattle.dispatch_laws.specs.Rows.{nowhere, object_name, object_with, static_method}
@@ -10,9 +10,10 @@ use Rattle.sj_names.specs.declared.method_names.Member.{Member}
 use Rattle.sj_names.specs.declared.method_names.MethodName.{MethodName}
 use Rattle.sj_names.specs.declared.method_names.Namespace.{Namespace}
 use Rattle.sj_names.specs.declared.method_names.Namespace.TheVariants.{PublicStatic, Private, Constructor}
+use Rattle.sj_names.specs.declared.references.BaseRef.{BaseRef}
 use Rattle.sj_names.specs.declared.references.TypeRef.{TypeRef}
 use Rattle.sj_trees.specs.SameTypes.{is_same_type}
-use Rattle.sj_trees.specs.Term.{Term, no_terms, skip, new_object, select, apply_statically, this_ref}
+use Rattle.sj_trees.specs.Term.{Term, no_terms, more_terms, array_value, array_length, int_literal, skip, new_object, select, apply_statically, this_ref}
 use Rattle.sj_trees.specs.declared.classes.ClassDef.{ClassDef}
 use Rattle.sj_trees.specs.declared.classes.ClassKind.{ClassKind}
 use Rattle.sj_trees.specs.declared.classes.FieldDef.{FieldDef}
@@ -87,6 +88,46 @@ object_use = record {
   stored = λ c. false;
   tests = λ t. false;
   casts = λ t. false;
+  bases = λ c. false;
+  on_arrays = λ m. false;
   helper = λ x. false;
+  objects = true;
+}
+
+-- an array that is given with its one item, and its length
+abbrev pub items : Term
+items = array_value nowhere (record { base = BaseRef.Int; dimensions = 1 }) (more_terms (int_literal nowhere (pos 3)) no_terms)
+
+abbrev pub counts : Term
+counts = array_length nowhere items
+
+abbrev pub counting_method : MethodDef
+counting_method = static_method (codes "main") counts
+
+abbrev pub array_world : World
+array_world = object_with (counting_method ∷ []) ∷ []
+
+-- what its body can use: the helper that gives items, and so objects of the class of all
+abbrev pub array_use : Usable
+array_use = record {
+  linked = is_member main_member;
+  lookup = own_targets;
+  received = λ m. false;
+  looked_up = λ c m. false;
+  dispatched = λ m. false;
+  reflected = λ m. false;
+  built = λ m. false;
+  made = is_same_text object_name;
+  live = is_same_text object_name;
+  field = λ c f t. false;
+  static_field = λ c f t. false;
+  static_setter = λ c f t. false;
+  modules = λ c. false;
+  stored = λ c. false;
+  tests = λ t. false;
+  casts = λ t. false;
+  bases = λ c. false;
+  on_arrays = λ m. false;
+  helper = is_same_text (codes "$A");
   objects = true;
 }

@@ -1,5 +1,5 @@
-//! Type soundness with a heap: bodies that keep the rules are never wrong, and what they give or throw is of its type, also where they make objects, read
-//! their fields, call what runs on them, and throw.
+//! Type soundness with a heap: bodies that keep the rules are never wrong, and what they give or throw is of its type, also where they make objects and arrays,
+//! read their fields and items, call what runs on them, and throw.
 //!
 //! `specs/` has what is asked of members, and what a world has where objects are used. The functions here are laws: they do nothing when they run, and their
 //! clauses are theorems.
@@ -9,7 +9,7 @@ ghost use Rattle.std.specs.Prelude.{◌≡◌, ℕ, Bool, true, false, List, Som
 ghost use Rattle.std.specs.List.{Contains, list_any};
 ghost use Rattle.body_soundness.specs.Laws.{ObjectLaws};
 ghost use Rattle.body_soundness.specs.Rules.{RightMember};
-ghost use Rattle.body_soundness.specs.Worked.{object_world, object_use};
+ghost use Rattle.body_soundness.specs.Worked.{object_world, object_use, array_world, array_use};
 ghost use Rattle.body_soundness.specs.Worlds.{AreClassesKept, HasFields, WritesInterfaces, ObjectWorld};
 ghost use Rattle.sj_proper.specs.Built.{Usable, members_alone};
 ghost use Rattle.dispatch_laws.specs.Dispatch.{chain_of};
@@ -69,4 +69,10 @@ pub fn object_worlds_have_the_laws()
 pub fn worked_objects()
     ensures laws { ObjectLaws object_world object_use }
     ensures never_wrong { (n : ℕ) → IsNotWrong (ir_shows object_world once (codes "main") n).end }
+{}
+
+/// And where arrays are used: by a world whose `main` asks for the length of one that it makes.
+pub fn worked_arrays()
+    ensures laws { ObjectLaws array_world array_use }
+    ensures never_wrong { (n : ℕ) → IsNotWrong (ir_shows array_world once (codes "main") n).end }
 {}

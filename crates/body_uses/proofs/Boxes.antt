@@ -1,39 +1,39 @@
 -- Code that makes an object for a char uses the class of such objects.
 use Rattle.sj_core.specs.Lookup.{Lookup}
 use Rattle.sj_core.specs.declared.callees.Callee.TheVariants as callees
-use Rattle.sj_names.specs.declared.method_names.Member.{Member}
 use Rattle.std.proofs.Common.{◌≡◌, ℕ, Bool, true, false, List, [], ◌∷◌, ◌++◌, ◌||◌, inl, inr, Some, None, refl, sym, subst, length, arith, codes}
 use Rattle.std.specs.Prelude.{if◌then◌else◌, not, ◌&&◌, pos}
 use Rattle.std.specs.List.{All}
 use Rattle.std.proofs.lemmas.Bool.{and_parts}
 use Rattle.std.proofs.lemmas.List.Elements.{All-head, All-tail}
 use Rattle.object_folders.proofs.Targets.{target_goal}
-use Rattle.object_folders.specs.Boxes.{Goal, goal_of, goals_of, is_boxed, any_is_boxed, operands_are_boxed, is_boxed_at, boxes_as_text, any_boxes_as_text, boxes, last_boxes, operand_boxes, operands_box, cases_box}
+use Rattle.object_folders.specs.Boxes.{Goal, goal_of, goals_of, is_boxed, any_is_boxed, any_item_boxed, operands_are_boxed, is_boxed_at, boxes_as_text, any_boxes_as_text, boxes, last_boxes, operand_boxes, operands_box, cases_box}
 use Rattle.js_tree.specs.declared.items.Binding.{Binding}
 use Rattle.sj_core.specs.Terms as core
 use Rattle.sj_core.specs.Terms.{Expression, boxed_char, checked_value, followed}
 use Rattle.sj_core.specs.Views.{expressions_of}
-use Rattle.sj_desugar.specs.Coercions.{is_char, coerced, coerced_arguments, coerced_receiver}
-use Rattle.sj_desugar.specs.Desugar.{operand, receiver, received, received_text, into, block, operands, cases, finish, target_of, Targets, expression_of, all_expressions, wrapped, break_unless, first_of, second_of, rest_of, member, types_of, callee_of}
+use Rattle.sj_desugar.specs.Coercions.{is_char, coerced, coerced_arguments, coerced_items, coerced_receiver}
+use Rattle.sj_desugar.specs.Desugar.{operand, receiver, received, received_text, into, block, operands, cases, finish, target_of, Targets, expression_of, all_expressions, wrapped, break_unless, first_of, second_of, third_of, rest_of, member, types_of, callee_of}
 use Rattle.sj_desugar.specs.Finalizers.{kept, keep_all, finalizer_code}
 use Rattle.sj_desugar.specs.Plain.{is_no_type, is_plain, are_plain}
 use Rattle.sj_desugar.specs.Spill.{Destination, discard, to_variable, to_result, Code, one, put_first, Operand, Spilled, spill, then_use}
 use Rattle.sj_desugar.specs.Texts.{operand_of}
-use Rattle.sj_emit_expr.specs.Templates.{check_name, is_nonzero_literal, called_member}
-use Rattle.sj_emit_expr.specs.Uses.{object_binding, function_binding, class_use, setter_use, store_use, helper_of, test_uses, cast_uses, uses_in, uses_in_all, uses_of, uses_of_all, uses_of_cases, call_uses}
+use Rattle.sj_emit_expr.specs.Templates.{check_name, element_setter, is_nonzero_literal, called_member}
+use Rattle.sj_emit_expr.specs.Uses.{object_binding, function_binding, class_use, setter_use, store_use, helper_of, test_uses, cast_uses, base_uses, type_uses, uses_in, uses_in_all, uses_of, uses_of_all, uses_of_cases, call_uses}
 use Rattle.sj_names.proofs.Same.{impossible}
 use Rattle.sj_names.specs.declared.method_names.Namespace.TheVariants.{Constructor}
+use Rattle.sj_names.specs.declared.references.ArrayRef.{ArrayRef}
 use Rattle.sj_names.specs.declared.references.TypeRef.{TypeRef}
-use Rattle.sj_trees.specs.Term.{Term, Terms, no_terms, more_terms, Cases, no_cases, more_cases, var_def, block_of, labeled, assign, return_to, if_then, while_loop, do_while, try_catch, try_finally, match_on, throw, new_object, load_module, store_module, select, select_static, apply_statically, apply_static, unary_op, binary_op, is_instance_of, as_instance_of, char_literal, var_ref, this_ref, log_line, apply}
+use Rattle.sj_trees.specs.Term.{Term, Terms, no_terms, more_terms, Cases, no_cases, more_cases, var_def, block_of, labeled, assign, return_to, if_then, while_loop, do_while, try_catch, try_finally, match_on, throw, new_object, new_array, array_value, array_length, array_select, load_module, store_module, select, select_static, apply_statically, apply_static, unary_op, binary_op, is_instance_of, as_instance_of, char_literal, var_ref, this_ref, log_line, apply}
 use Rattle.sj_trees.specs.TypeOf.{type_of_term, unary_result, binary_result}
-use Rattle.sj_trees.specs.Types.{class_type, reference_type}
+use Rattle.sj_trees.specs.Types.{class_type, reference_type, element_type}
 use Rattle.sj_trees.specs.declared.operators.BinaryOp.{BinaryOp}
 use Rattle.sj_trees.specs.declared.operators.BinaryOp.TheVariants.{StrictEqual, StrictNotEqual}
 use Rattle.sj_trees.specs.declared.positions.Position.{Position}
 use Rattle.sj_trees.specs.declared.types.IrType.{IrType}
-use Rattle.sj_trees.specs.declared.types.IrType.TheVariants.{Any, Boolean, Char}
+use Rattle.sj_trees.specs.declared.types.IrType.TheVariants.{Any, Boolean, Char, Int, Array}
 use Rattle.sure_receivers.specs.Sure.{is_sure}
-use Rattle.body_uses.proofs.Uses.{fixed_plain, spill_count, front, back, In, InAll, Within, only, followed_parts, uncoerced, arguments_in, operand_in, Written, as_text, as_code, AllWritten, spill_in, one_in, two_in, first_and_rest, finished, labeled_in, leaving_in, finalizer_in, break_in}
+use Rattle.body_uses.proofs.Uses.{fixed_plain, spill_count, front, back, In, InAll, Within, only, followed_parts, uncoerced, arguments_in, items_in, operand_in, Written, as_text, as_code, AllWritten, spill_in, one_in, two_in, three_in, first_and_rest, finished, labeled_in, leaving_in, finalizer_in, break_in}
 
 either : {A : Type 0} (a b : Bool) → (a || b) ≡ true → (a ≡ true → A) → (b ≡ true → A) → A
 either true b h f g = f refl
@@ -70,6 +70,22 @@ module _ (U : Binding → Type 0) (runs : Lookup) where
       let own = coerced (reference_type r) (type_of_term t) e in
       let rest = uses_in_all runs (expressions_of (coerced_arguments rs (types_of ts) es)) in
       either (is_boxed (reference_type r) t) (any_is_boxed rs ts) k (coerced_box (reference_type r) (type_of_term t) e (front U runs (uses_in runs own) rest h)) (arguments_box rs ts es m (back U runs (uses_in runs own) rest h))
+
+  items_box : (t : IrType) (ts : Terms) (es : List Expression) → AsMany ts es → All U (uses_in_all runs (expressions_of (coerced_items t (types_of ts) es))) → any_item_boxed t ts ≡ true → Boxed
+  items_box t no_terms es m h k = impossible k
+  items_box t (more_terms u us) [] m h k = absurd m
+  items_box t (more_terms u us) (e ∷ es) m h k =
+      let own = coerced t (type_of_term u) e in
+      let rest = uses_in_all runs (expressions_of (coerced_items t (types_of us) es)) in
+      either (is_boxed t u) (any_item_boxed t us) k (coerced_box t (type_of_term u) e (front U runs (uses_in runs own) rest h)) (items_box t us es m (back U runs (uses_in runs own) rest h))
+
+  -- behind the helper that makes arrays and what names their base
+  array_inside : (x : List ℕ) (r : ArrayRef) (inside : List Binding) → All U (object_binding x ∷ base_uses r.base ++ inside) → All U inside
+  array_inside x r inside u = back U runs (base_uses r.base) inside (All-tail U (object_binding x) (base_uses r.base ++ inside) u)
+
+  -- between what a test or a cast calls and what names the base of its type
+  type_inside : (t : IrType) (names inside : List Binding) → All U (names ++ inside ++ type_uses t) → All U inside
+  type_inside t names inside u = back U runs names inside (front U runs (names ++ inside) (type_uses t) u)
 
   -- operands of identity, as values of any type
   same_box : (o : BinaryOp) (e d : Term) (x y : Expression) → In U runs (operand_of o (type_of_term e) x) → In U runs (operand_of o (type_of_term d) y) → operands_are_boxed o e d ≡ true → Boxed
@@ -142,8 +158,20 @@ module _ (U : Binding → Type 0) (runs : Lookup) where
           let of_left = back U runs helper (uses_in runs left) h0 in
           let of_right = back U runs (helper ++ uses_in runs left) (uses_in runs right) h in
           either (operands_are_boxed o e d) (boxes_as_text e || boxes_as_text d) k (same_box o e d (expression_of sure e) (expression_of sure d) of_left of_right) (λ k. either (boxes_as_text e) (boxes_as_text d) k (text_box e q0.0 (operand_in U runs o (type_of_term e) (expression_of sure e) of_left)) (text_box d q0.1 (operand_in U runs o (type_of_term d) (expression_of sure d) of_right)))
-      text_box (is_instance_of p e t) q h k = let value = back U runs (test_uses t) (uses_in runs (coerced Any (type_of_term e) (expression_of sure e))) h in either (is_boxed Any e) (boxes_as_text e) k (coerced_box Any (type_of_term e) (expression_of sure e) value) (text_box e q (uncoerced U runs Any (type_of_term e) (expression_of sure e) value))
-      text_box (as_instance_of p e t) q h k = let value = back U runs (cast_uses t) (uses_in runs (coerced Any (type_of_term e) (expression_of sure e))) h in either (is_boxed Any e) (boxes_as_text e) k (coerced_box Any (type_of_term e) (expression_of sure e) value) (text_box e q (uncoerced U runs Any (type_of_term e) (expression_of sure e) value))
+      text_box (new_array p r e) q h k = text_box e q (array_inside (codes "$mk") r (uses_in runs (expression_of sure e)) h) k
+      text_box (array_value p r ts) q h k =
+          let inside = uses_in_all runs (expressions_of (coerced_items (element_type r) (types_of ts) (all_expressions sure ts))) in
+          let given = array_inside (codes "$A") r inside h in
+          either (any_item_boxed (element_type r) ts) (any_boxes_as_text ts) k (items_box (element_type r) ts (all_expressions sure ts) (all_expressed sure ts) given) (texts_box ts q (items_in U runs (element_type r) (types_of ts) (all_expressions sure ts) given))
+      text_box (array_length p e) q h k = text_box e q (received_in (is_sure sure e) (expression_of sure e) h) k
+      text_box (array_select p e i t) q h k =
+          let q0 = and_parts (is_plain e) (is_plain i) q in
+          let array = uses_in runs (received_text (is_sure sure e) (expression_of sure e)) in
+          let index = uses_in runs (expression_of sure i) in
+          let inside = All-tail U (object_binding (codes "$get")) (array ++ index) h in
+          either (boxes_as_text e) (boxes_as_text i) k (text_box e q0.0 (received_in (is_sure sure e) (expression_of sure e) (front U runs array index inside))) (text_box i q0.1 (back U runs array index inside))
+      text_box (is_instance_of p e t) q h k = let value = type_inside t (test_uses t) (uses_in runs (coerced Any (type_of_term e) (expression_of sure e))) h in either (is_boxed Any e) (boxes_as_text e) k (coerced_box Any (type_of_term e) (expression_of sure e) value) (text_box e q (uncoerced U runs Any (type_of_term e) (expression_of sure e) value))
+      text_box (as_instance_of p e t) q h k = let value = type_inside t (cast_uses t) (uses_in runs (coerced Any (type_of_term e) (expression_of sure e))) h in either (is_boxed Any e) (boxes_as_text e) k (coerced_box Any (type_of_term e) (expression_of sure e) value) (text_box e q (uncoerced U runs Any (type_of_term e) (expression_of sure e) value))
       text_box _ q h k = impossible k
 
       texts_box : (ts : Terms) → are_plain ts ≡ true → InAll U runs (all_expressions sure ts) → any_boxes_as_text ts ≡ true → Boxed
@@ -237,6 +265,19 @@ module _ (U : Binding → Type 0) (runs : Lookup) where
             let of_value = back U runs (uses_in runs (first_of s.expressions)) (uses_in runs value) inside in
             let written = spill_in U runs os j parts.0 (two_in U runs s.expressions (spill_count os j) (front U runs (uses_in runs (first_of s.expressions)) (uses_in runs value) inside) (uncoerced U runs t (type_of_term e) (second_of s.expressions) of_value)) in
             either (is_boxed t e) (operand_boxes (goals_of ts) d || operand_boxes (goals_of ts) e) i (coerced_box t (type_of_term e) (second_of s.expressions) of_value) (λ i. either (operand_boxes (goals_of ts) d) (operand_boxes (goals_of ts) e) i (receiver_box d (tree d) ts written.0) (operand_box e (tree e) ts written.1.0))
+        tree (assign p (array_select v d x t) e) ts k j h i =
+            let os : List Operand = receiver_for ts d ∷ operand_for ts x ∷ one_of ts e in
+            let s : Spilled = spill os j in
+            let array = uses_in runs (first_of s.expressions) in
+            let index = uses_in runs (second_of s.expressions) in
+            let value = coerced t (type_of_term e) (third_of s.expressions) in
+            let last = core.assign_element (Some p) t (first_of s.expressions) (second_of s.expressions) value in
+            let parts = followed_parts U runs s.statements (core.statement last core.no_statements) h in
+            let inside = All-tail U (object_binding (element_setter t)) (array ++ index ++ uses_in runs value) (only U runs last parts.1) in
+            let head = front U runs (array ++ index) (uses_in runs value) inside in
+            let of_value = back U runs (array ++ index) (uses_in runs value) inside in
+            let written = spill_in U runs os j parts.0 (three_in U runs s.expressions (spill_count os j) (front U runs array index head) (back U runs array index head) (uncoerced U runs t (type_of_term e) (third_of s.expressions) of_value)) in
+            either (is_boxed t e) (operand_boxes (goals_of ts) d || (operand_boxes (goals_of ts) x || operand_boxes (goals_of ts) e)) i (coerced_box t (type_of_term e) (third_of s.expressions) of_value) (λ i. either (operand_boxes (goals_of ts) d) (operand_boxes (goals_of ts) x || operand_boxes (goals_of ts) e) i (receiver_box d (tree d) ts written.0) (λ i. either (operand_boxes (goals_of ts) x) (operand_boxes (goals_of ts) e) i (operand_box x (tree x) ts written.1.0) (operand_box e (tree e) ts written.1.1.0)))
         tree (assign p (select_static v c f t) e) ts k j h i =
             let s : Spilled = spill (one_of ts e) j in
             let value = coerced t (type_of_term e) (first_of s.expressions) in
@@ -361,19 +402,47 @@ module _ (U : Binding → Type 0) (runs : Lookup) where
             let of_right = back U runs (helper ++ uses_in runs left) (uses_in runs right) inside in
             let written = spill_in U runs os j parts.0 (two_in U runs s.expressions (spill_count os j) (operand_in U runs o (type_of_term e) (first_of s.expressions) of_left) (operand_in U runs o (type_of_term d) (second_of s.expressions) of_right)) in
             either (is_boxed_at (goal_of k) (binary_result o) || operands_are_boxed o e d) (operand_boxes (goals_of ts) e || operand_boxes (goals_of ts) d) i (λ i. either (is_boxed_at (goal_of k) (binary_result o)) (operands_are_boxed o e d) i (finish_box k p (binary_result o) false made s.next parts.1) (same_box o e d (first_of s.expressions) (second_of s.expressions) of_left of_right)) (λ i. either (operand_boxes (goals_of ts) e) (operand_boxes (goals_of ts) d) i (operand_box e (tree e) ts written.0) (operand_box d (tree d) ts written.1.0))
+        tree (new_array p r e) ts k j h i =
+            let s : Spilled = spill (one_of ts e) j in
+            let made = core.new_array_of r (first_of s.expressions) in
+            let parts = followed_parts U runs s.statements (finish k p (Array r) false made s.next).statements h in
+            act e (tree e) ts j parts.0 (array_inside (codes "$mk") r (uses_in runs (first_of s.expressions)) (finished U runs k p (Array r) made s.next parts.1)) i
+        tree (array_value p r es) ts k j h i =
+            let s : Spilled = spill (operands is_mutable sure ts es) j in
+            let items = expressions_of (coerced_items (element_type r) (types_of es) s.expressions) in
+            let made = core.array_of r items in
+            let parts = followed_parts U runs s.statements (finish k p (Array r) false made s.next).statements h in
+            let given = array_inside (codes "$A") r (uses_in_all runs items) (finished U runs k p (Array r) made s.next parts.1) in
+            either (any_item_boxed (element_type r) es) (operands_box (goals_of ts) es) i (items_box (element_type r) es s.expressions (operands_expressed ts es s.expressions (spill_count (operands is_mutable sure ts es) j)) given) (of_operands es ts (spill_in U runs (operands is_mutable sure ts es) j parts.0 (items_in U runs (element_type r) (types_of es) s.expressions given)))
+        tree (array_length p e) ts k j h i =
+            let os : List Operand = receiver_for ts e ∷ [] in
+            let s : Spilled = spill os j in
+            let read = core.length_of (first_of s.expressions) in
+            let parts = followed_parts U runs s.statements (finish k p Int false read s.next).statements h in
+            receiver_box e (tree e) ts (spill_in U runs os j parts.0 (one_in U runs s.expressions (spill_count os j) (finished U runs k p Int read s.next parts.1))).0 i
+        tree (array_select p e x t) ts k j h i =
+            let os : List Operand = receiver_for ts e ∷ one_of ts x in
+            let s : Spilled = spill os j in
+            let array = uses_in runs (first_of s.expressions) in
+            let index = uses_in runs (second_of s.expressions) in
+            let read = core.element_of (first_of s.expressions) (second_of s.expressions) in
+            let parts = followed_parts U runs s.statements (finish k p t false read s.next).statements h in
+            let inside = All-tail U (object_binding (codes "$get")) (array ++ index) (finished U runs k p t read s.next parts.1) in
+            let written = spill_in U runs os j parts.0 (two_in U runs s.expressions (spill_count os j) (front U runs array index inside) (back U runs array index inside)) in
+            either (is_boxed_at (goal_of k) t) (operand_boxes (goals_of ts) e || operand_boxes (goals_of ts) x) i (finish_box k p t false read s.next parts.1) (λ i. either (operand_boxes (goals_of ts) e) (operand_boxes (goals_of ts) x) i (receiver_box e (tree e) ts written.0) (operand_box x (tree x) ts written.1.0))
         tree (is_instance_of p e t) ts k j h i =
             let s : Spilled = spill (one_of ts e) j in
             let value = coerced Any (type_of_term e) (first_of s.expressions) in
             let made = core.test_of t value in
             let parts = followed_parts U runs s.statements (finish k p Boolean false made s.next).statements h in
-            let of_value = back U runs (test_uses t) (uses_in runs value) (finished U runs k p Boolean made s.next parts.1) in
+            let of_value = type_inside t (test_uses t) (uses_in runs value) (finished U runs k p Boolean made s.next parts.1) in
             either (is_boxed_at (goal_of k) Boolean) (is_boxed Any e || operand_boxes (goals_of ts) e) i (finish_box k p Boolean false made s.next parts.1) (λ i. either (is_boxed Any e) (operand_boxes (goals_of ts) e) i (coerced_box Any (type_of_term e) (first_of s.expressions) of_value) (act e (tree e) ts j parts.0 (uncoerced U runs Any (type_of_term e) (first_of s.expressions) of_value)))
         tree (as_instance_of p e t) ts k j h i =
             let s : Spilled = spill (one_of ts e) j in
             let value = coerced Any (type_of_term e) (first_of s.expressions) in
             let made = core.cast_of t value in
             let parts = followed_parts U runs s.statements (finish k p t false made s.next).statements h in
-            let of_value = back U runs (cast_uses t) (uses_in runs value) (finished U runs k p t made s.next parts.1) in
+            let of_value = type_inside t (cast_uses t) (uses_in runs value) (finished U runs k p t made s.next parts.1) in
             either (is_boxed_at (goal_of k) t) (is_boxed Any e || operand_boxes (goals_of ts) e) i (finish_box k p t false made s.next parts.1) (λ i. either (is_boxed Any e) (operand_boxes (goals_of ts) e) i (coerced_box Any (type_of_term e) (first_of s.expressions) of_value) (act e (tree e) ts j parts.0 (uncoerced U runs Any (type_of_term e) (first_of s.expressions) of_value)))
         tree (char_literal p u) ts k j h i = finish_box k p Char true (core.number_value (pos u)) j h i
         tree (var_ref p x t) ts k j h i = finish_box k p t true (core.variable_use (core.named x)) j h i

@@ -1,6 +1,5 @@
 -- Each body of the forms with objects is built with what it is given.
 use Rattle.sj_core.specs.Lookup.{Lookup}
-use Rattle.sj_names.specs.declared.method_names.Member.{Member}
 use Rattle.std.proofs.Common.{◌≡◌, ℕ, Bool, true, false, List, [], ◌∷◌, ◌||◌, ◌⊎◌, inl, inr, None, refl, sym, subst, codes, Contains, if◌then◌else◌}
 use Rattle.std.specs.List.{All, list_any}
 use Rattle.std.proofs.lemmas.Bool.{and_parts, and_from}
@@ -18,7 +17,7 @@ use Rattle.sj_names.specs.declared.method_names.Namespace.{Namespace}
 use Rattle.sj_names.specs.declared.method_names.Namespace.TheVariants.{Public, PublicStatic, Private, PrivateStatic, Constructor}
 use Rattle.object_folders.specs.Typing.{may_check, is_built_with}
 use Rattle.object_folders.specs.Built.{Usable, can_box, may_make, is_built, any_object, body_boxes, is_object_body}
-use Rattle.sj_trees.specs.Term.{Term, Terms, new_object, load_module, store_module, select, select_static, apply_statically, apply_static, is_instance_of, as_instance_of, binary_op, apply}
+use Rattle.sj_trees.specs.Term.{Term, Terms, new_object, new_array, array_value, load_module, store_module, select, select_static, apply_statically, apply_static, is_instance_of, as_instance_of, binary_op, apply}
 use Rattle.sj_trees.specs.declared.classes.MethodDef.{MethodDef}
 use Rattle.sj_trees.specs.declared.positions.Position.{Position}
 use Rattle.sj_trees.specs.declared.types.IrType.{IrType}
@@ -85,13 +84,15 @@ module _ (has : Usable) (used : List Binding) where
 
   gives : (t : Term) → Given has used t → Gives U has.lookup any_object has t
   gives (apply_static p c n m ts t) g = λ h u. g u
-  gives (apply p e m ts t) g = (λ c same h u. g.0 c same u, (λ c same h u. g.1.0 c same h u, (λ h. g.1.1.0, λ n h u. g.1.1.1 n u)))
+  gives (apply p e m ts t) g = (λ c same h u. g.0 c same u, (λ c same h u. g.1.0 c same h u, (λ same h. g.1.1.0 same, λ n h u. g.1.1.1 n u)))
   gives (apply_statically p e c n m ts t) g = call_given p e c n m ts t g
   gives (new_object p c m ts) g = λ h k f u. g k f u
   gives (select p e c f t) g = λ h. g
   gives (select_static p c f t) g = (λ h u. g.0 u, λ h u. g.1 u)
   gives (load_module p c) g = λ h u. g u
   gives (store_module p c e) g = λ h u. g u
+  gives (new_array p r e) g = g
+  gives (array_value p r ts) g = g
   gives (is_instance_of p e t) g = g
   gives (as_instance_of p e t) g = g
   gives (binary_op p o e d) g = λ h. g

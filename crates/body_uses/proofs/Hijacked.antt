@@ -1,5 +1,5 @@
--- What a call asks for that a hijacked class decides on.
-use Rattle.std.proofs.Common.{◌≡◌, ◌∙◌, ℕ, Bool, true, false, List, [], ◌∷◌, ◌++◌, Contains, Option, Some, None, codes, refl, sym, ap, subst, if◌then◌else◌}
+-- What a call asks for, by what its receiver is called.
+use Rattle.std.proofs.Common.{◌≡◌, ◌∙◌, Bool, true, false, List, [], ◌∷◌, ◌++◌, Contains, Option, Some, None, codes, refl, sym, ap, subst, if◌then◌else◌}
 use Rattle.std.specs.Prelude.{is_none}
 use Rattle.object_folders.proofs.Found.{here}
 use Rattle.sj_core.specs.declared.callees.Callee.{Callee}
@@ -14,7 +14,8 @@ use Rattle.sj_names.specs.declared.references.TypeRef.{TypeRef}
 use Rattle.sj_trees.specs.Term.{Term}
 use Rattle.sj_trees.specs.TypeOf.{type_of_term}
 use Rattle.sj_trees.specs.declared.types.IrType.{IrType}
-use Rattle.sj_world.specs.Known.{Name, is_hijacked}
+use Rattle.sj_world.specs.Known.{Name, is_hijacked, object}
+use Rattle.object_folders.specs.TypingRulesRules.{HasReceiver}
 
 -- the class is that of a receiver of this type, and hijacked
 record IsItsClass (t : IrType) (c : Name) : Type 0 where
@@ -116,3 +117,42 @@ of_looked_up d m c e = go m.result refl e
     go : (o : Option TypeRef) → m.result ≡ o → named_by o (type_of_term d) m ≡ callees.LookedUp c m → OfLookedUp d m c
     go None named e = absurd (cc)
     go (Some r) named e = let its = looked_type m c (type_of_term d) e in record { free = its.free; asked = asked_by r named its }
+
+module _ (m : MethodName) where
+  abbrev OnArrays : Callee → Type 0
+  OnArrays k = k ≡ callees.OfArray m
+
+  class_apart : (k : Name) → OnArrays (called_on (IrType.Class k) m) → receiver_class (IrType.Class k) ≡ Some object
+  class_apart k e = go (is_hijacked k) e
+    where
+      go : (b : Bool) → OnArrays (if b then callees.Member (member k Public m) else callees.LookedUp k m) → receiver_class (IrType.Class k) ≡ Some object
+      go true e = absurd (cc)
+      go false e = absurd (cc)
+
+  -- what is called on arrays is called on receivers of the class of all objects
+  array_receiver : (t : IrType) → HasReceiver t → OnArrays (called_on t m) → receiver_class t ≡ Some object
+  array_receiver (IrType.Array r) i e = refl
+  array_receiver (IrType.Class k) i e = class_apart k e
+  array_receiver IrType.Any i e = refl
+  array_receiver IrType.Undefined i e = absurd (cc)
+  array_receiver IrType.Boolean i e = absurd (cc)
+  array_receiver IrType.Char i e = absurd (cc)
+  array_receiver IrType.Byte i e = absurd (cc)
+  array_receiver IrType.Short i e = absurd (cc)
+  array_receiver IrType.Int i e = absurd (cc)
+  array_receiver IrType.Long i e = absurd (cc)
+  array_receiver IrType.String i e = absurd (cc)
+  array_receiver IrType.Null i e = absurd i
+  array_receiver IrType.Nothing i e = absurd i
+  array_receiver IrType.NoType i e = absurd i
+
+-- a method that is called on arrays is asked for in the class of all objects
+pub of_array : (d : Term) (m : MethodName) → HasReceiver (type_of_term d) → callee_of (type_of_term d) m ≡ callees.OfArray m → (names : List Name) → Contains (of_apply names d m) (Called object m)
+of_array d m i e = go m.result refl e
+  where
+    asked_by : (r : TypeRef) → m.result ≡ Some r → receiver_class (type_of_term d) ≡ Some object → (names : List Name) → Contains (of_apply names d m) (Called object m)
+    asked_by r named its names = subst (λ (o : Option TypeRef). Contains (if is_none o then Reflective m ∷ of_receiver names d ++ no_such_method else of_call m (receiver_class (type_of_term d)) ++ of_receiver names d) (Called object m)) (sym named) (subst (λ (q : Option Name). Contains (of_call m q ++ of_receiver names d) (Called object m)) (sym its) (here (Called object m) (of_receiver names d)))
+
+    go : (o : Option TypeRef) → m.result ≡ o → named_by o (type_of_term d) m ≡ callees.OfArray m → (names : List Name) → Contains (of_apply names d m) (Called object m)
+    go None named e = absurd (cc)
+    go (Some r) named e = asked_by r named (array_receiver m (type_of_term d) i e)

@@ -1,5 +1,5 @@
 -- The test of a primitive type uses its helper, and so does the cast to one.
-use Rattle.std.proofs.Common.{◌≡◌, true, List, [], ◌∷◌, refl}
+use Rattle.std.proofs.Common.{◌≡◌, true, [], ◌∷◌, refl}
 use Rattle.object_folders.specs.Built.{has_kind}
 use Rattle.sj_emit_expr.specs.Tests.{test_name, cast_name}
 use Rattle.sj_emit_expr.specs.Uses.{object_binding, test_uses, cast_uses}

@@ -15,34 +15,35 @@ use Rattle.sj_core.specs.Terms.{Expression, boxed_char, checked_value, static_ca
 use Rattle.sj_core.specs.Views.{expressions_of}
 use Rattle.sj_core.specs.declared.callees.Callee.{Callee}
 use Rattle.sj_core.specs.declared.callees.Callee.TheVariants as callees
-use Rattle.sj_desugar.specs.Coercions.{is_char, coerced, coerced_arguments, coerced_receiver}
-use Rattle.sj_desugar.specs.Desugar.{operand, receiver, received, received_text, into, block, operands, cases, finish, has_no_value, target_of, Targets, expression_of, all_expressions, labeled_code, leaving_code, wrapped, break_unless, first_of, second_of, rest_of, member, types_of, callee_of}
+use Rattle.sj_desugar.specs.Coercions.{is_char, coerced, coerced_arguments, coerced_items, coerced_receiver}
+use Rattle.sj_desugar.specs.Desugar.{operand, receiver, received, received_text, into, block, operands, cases, finish, has_no_value, target_of, Targets, expression_of, all_expressions, labeled_code, leaving_code, wrapped, break_unless, first_of, second_of, third_of, rest_of, member, types_of, callee_of}
 use Rattle.sj_desugar.specs.Finalizers.{kept, keep_all, give_all_back, finalizer_code}
 use Rattle.sj_desugar.specs.Plain.{is_no_type, is_plain, are_plain, is_fixed}
 use Rattle.sj_desugar.specs.Spill.{Destination, discard, to_variable, to_result, Code, one, put_first, Operand, all_plain, texts, Spilled, spill, spill_case, then_use}
 use Rattle.sj_desugar.specs.Texts.{operand_of}
-use Rattle.sj_emit_expr.specs.Templates.{check_name, is_nonzero_literal, called_member}
+use Rattle.sj_emit_expr.specs.Templates.{check_name, element_setter, is_nonzero_literal, called_member}
 use Rattle.sj_emit_expr.specs.Tests.{same_name}
-use Rattle.sj_emit_expr.specs.Uses.{object_binding, function_binding, class_use, static_use, setter_use, load_use, store_use, helper_of, test_uses, cast_uses, uses_in, uses_in_all, uses_of, uses_of_all, uses_of_cases, call_uses}
+use Rattle.sj_emit_expr.specs.Uses.{object_binding, function_binding, class_use, static_use, setter_use, load_use, store_use, helper_of, test_uses, cast_uses, base_uses, type_uses, uses_in, uses_in_all, uses_of, uses_of_all, uses_of_cases, call_uses}
 use Rattle.sj_infos.specs.Trees.{trees, below, all_below, cases_below}
 use Rattle.sj_names.proofs.Same.{impossible, text-same}
 use Rattle.sj_names.specs.Same.{is_same_text}
 use Rattle.sj_names.specs.declared.method_names.Member.{Member}
+use Rattle.sj_names.specs.declared.references.ArrayRef.{ArrayRef}
 use Rattle.sj_names.specs.declared.references.TypeRef.{TypeRef}
 use Rattle.object_folders.specs.Typing.{may_check}
-use Rattle.object_folders.specs.Built.{Usable, is_nonzero_int, is_nonzero_long, divides, is_operation, can_cast, stands, is_built, are_built, are_built_cases, can_call, can_look_up}
+use Rattle.object_folders.specs.Built.{Usable, is_nonzero_int, is_nonzero_long, divides, is_operation, has_base, is_based, can_cast, can_put, are_countable, stands, is_built, are_built, are_built_cases, can_call, can_look_up}
 use Rattle.sj_names.specs.declared.method_names.MethodName.{MethodName}
 use Rattle.sj_names.specs.declared.method_names.Namespace.{Namespace}
 use Rattle.sj_names.specs.declared.method_names.Namespace.TheVariants.{Public, Private, Constructor}
 use Rattle.sure_receivers.specs.Sure.{is_sure}
-use Rattle.sj_trees.specs.Term.{Term, Terms, no_terms, more_terms, Cases, no_cases, more_cases, var_def, skip, block_of, labeled, assign, return_to, if_then, while_loop, do_while, try_catch, try_finally, match_on, throw, new_object, load_module, store_module, select, select_static, apply_statically, apply_static, unary_op, binary_op, is_instance_of, as_instance_of, undefined_literal, null_literal, boolean_literal, char_literal, byte_literal, short_literal, int_literal, long_literal, string_literal, var_ref, this_ref, log_line, apply}
+use Rattle.sj_trees.specs.Term.{Term, Terms, no_terms, more_terms, Cases, no_cases, more_cases, var_def, skip, block_of, labeled, assign, return_to, if_then, while_loop, do_while, try_catch, try_finally, match_on, throw, new_object, new_array, array_value, array_length, array_select, load_module, store_module, select, select_static, apply_statically, apply_static, unary_op, binary_op, is_instance_of, as_instance_of, undefined_literal, null_literal, boolean_literal, char_literal, byte_literal, short_literal, int_literal, long_literal, string_literal, var_ref, this_ref, log_line, apply}
 use Rattle.sj_trees.specs.TypeOf.{type_of_term, unary_result, binary_result}
-use Rattle.sj_trees.specs.Types.{class_type, reference_type}
+use Rattle.sj_trees.specs.Types.{class_type, reference_type, element_type}
 use Rattle.sj_trees.specs.declared.operators.BinaryOp.{BinaryOp}
 use Rattle.sj_trees.specs.declared.operators.BinaryOp.TheVariants.{StringConcatenate, StrictEqual, StrictNotEqual, IntDivide, IntRemainder, LongDivide, LongRemainder}
 use Rattle.sj_trees.specs.declared.positions.Position.{Position}
 use Rattle.sj_trees.specs.declared.types.IrType.{IrType}
-use Rattle.sj_trees.specs.declared.types.IrType.TheVariants.{Any, Boolean, Char, Int, Long, Nothing, String}
+use Rattle.sj_trees.specs.declared.types.IrType.TheVariants.{Any, Undefined, Boolean, Char, Byte, Short, Int, Long, Nothing, String, Null, Array}
 use Rattle.body_uses.specs.Given.{FitsDivision, HasType, body_helpers}
 
 pub fixed_plain : (m : List ℕ → Bool) (t : Term) → is_fixed m t ≡ true → is_plain t ≡ true
@@ -77,6 +78,19 @@ spill_count (o ∷ os) j = case_count (o.plain && all_plain os) o.fixed o.plain 
 -- a helper that bodies use, by its name
 pub in_helpers : (x : List ℕ) → list_any (is_same_text x) body_helpers ≡ true → Contains body_helpers x
 in_helpers x h = let at = Any-from_list_any (is_same_text x) body_helpers h in subst (Contains body_helpers) (sym (text-same x at.1 at.4)) (at.0, at.2, at.3)
+
+-- the helper that sets an element is one of these
+setter_listed : (t : IrType) → Contains body_helpers (element_setter t)
+setter_listed Undefined = in_helpers (codes "$set") refl
+setter_listed Boolean = in_helpers (codes "$set") refl
+setter_listed Char = in_helpers (codes "$set") refl
+setter_listed Byte = in_helpers (codes "$set") refl
+setter_listed Short = in_helpers (codes "$set") refl
+setter_listed Int = in_helpers (codes "$set") refl
+setter_listed Long = in_helpers (codes "$set") refl
+setter_listed String = in_helpers (codes "$set") refl
+setter_listed Null = in_helpers (codes "$set") refl
+setter_listed _ = in_helpers (codes "$put") refl
 
 pub or_first : (a b : Bool) → a ≡ true → (a || b) ≡ true
 or_first true b h = refl
@@ -187,6 +201,11 @@ module _ (U : Binding → Type 0) (runs : Lookup) where
   arguments_in [] ts (e ∷ es) h = (front (uses_in runs e) (uses_in_all runs (expressions_of es)) h, arguments_in [] ts es (back (uses_in runs e) (uses_in_all runs (expressions_of es)) h))
   arguments_in (r ∷ rs) [] (e ∷ es) h = (front (uses_in runs e) (uses_in_all runs (expressions_of es)) h, arguments_in (r ∷ rs) [] es (back (uses_in runs e) (uses_in_all runs (expressions_of es)) h))
 
+  pub items_in : (t : IrType) (ts : List IrType) (es : List Expression) → All U (uses_in_all runs (expressions_of (coerced_items t ts es))) → InAll es
+  items_in t ts [] h = tt
+  items_in t (u ∷ us) (e ∷ es) h = let rest = coerced_items t us es in (uncoerced t u e (front (uses_in runs (coerced t u e)) (uses_in_all runs (expressions_of rest)) h), items_in t us es (back (uses_in runs (coerced t u e)) (uses_in_all runs (expressions_of rest)) h))
+  items_in t [] (e ∷ es) h = (front (uses_in runs e) (uses_in_all runs (expressions_of es)) h, items_in t [] es (back (uses_in runs e) (uses_in_all runs (expressions_of es)) h))
+
   pub operand_in : (o : BinaryOp) (t : IrType) (e : Expression) → In (operand_of o t e) → In e
   operand_in StringConcatenate String e h = h
   operand_in StringConcatenate Char e h = h
@@ -234,6 +253,13 @@ module _ (U : Binding → Type 0) (runs : Lookup) where
   two_in (e ∷ []) l h k = absurd (omega (arith, l))
   two_in (e ∷ f ∷ []) l h k = (h, (k, tt))
   two_in (e ∷ f ∷ g ∷ es) l h k = absurd (omega (arith, l))
+
+  pub three_in : (es : List Expression) → length es ≡ 3 → In (first_of es) → In (second_of es) → In (third_of es) → InAll es
+  three_in [] l h k m = tt
+  three_in (e ∷ []) l h k m = absurd (omega (arith, l))
+  three_in (e ∷ f ∷ []) l h k m = absurd (omega (arith, l))
+  three_in (e ∷ f ∷ g ∷ []) l h k m = (h, (k, (m, tt)))
+  three_in (e ∷ f ∷ g ∷ d ∷ es) l h k m = absurd (omega (arith, l))
 
   pub first_and_rest : (es : List Expression) → In (first_of es) → InAll (rest_of es) → InAll es
   first_and_rest [] h k = tt
@@ -285,15 +311,17 @@ module _ (U : Binding → Type 0) (runs : Lookup) where
     -- what a tree uses that its code names is there
     abbrev pub Gives : Term → Type 0
     Gives (apply_static p c n m ts t) = from.linked (member c n m) ≡ true → U (function_binding (member c n m)) → has.linked (member c n m) ≡ true
-    Gives (apply p e m ts t) = ((c : List ℕ) → callee_of (type_of_term e) m ≡ callees.Member (member c Public m) → GivesReceived Public c m) × (((c : List ℕ) → callee_of (type_of_term e) m ≡ callees.LookedUp c m → can_look_up from c m ≡ true → All U (call_uses runs (callees.LookedUp c m)) → can_look_up has c m ≡ true) × ((from.objects ≡ true → has.objects ≡ true) × (m.result ≡ None → from.reflected m ≡ true → All U (call_uses runs (callees.Reflective m)) → has.reflected m ≡ true)))
+    Gives (apply p e m ts t) = ((c : List ℕ) → callee_of (type_of_term e) m ≡ callees.Member (member c Public m) → GivesReceived Public c m) × (((c : List ℕ) → callee_of (type_of_term e) m ≡ callees.LookedUp c m → can_look_up from c m ≡ true → All U (call_uses runs (callees.LookedUp c m)) → can_look_up has c m ≡ true) × ((callee_of (type_of_term e) m ≡ callees.OfArray m → from.on_arrays m ≡ true → has.on_arrays m ≡ true) × (m.result ≡ None → from.reflected m ≡ true → All U (call_uses runs (callees.Reflective m)) → has.reflected m ≡ true)))
     Gives (apply_statically p e c n m ts t) = GivesReceived n c m
     Gives (new_object p c m ts) = from.made c ≡ true → from.built (member c Constructor m) ≡ true → U (function_binding (member c Constructor m)) → U (class_use c) → (has.built (member c Constructor m) ≡ true) × (has.made c ≡ true)
     Gives (select p e c f t) = from.field c f t ≡ true → has.field c f t ≡ true
     Gives (select_static p c f t) = (from.static_field c f t ≡ true → U (static_use c f) → has.static_field c f t ≡ true) × (from.static_setter c f t ≡ true → U (setter_use c f) → has.static_setter c f t ≡ true)
     Gives (load_module p c) = from.modules c ≡ true → U (load_use c) → has.modules c ≡ true
     Gives (store_module p c e) = from.stored c ≡ true → U (store_use c) → has.stored c ≡ true
-    Gives (is_instance_of p e t) = from.tests t ≡ true → All U (test_uses t) → has.tests t ≡ true
-    Gives (as_instance_of p e t) = from.casts t ≡ true → All U (cast_uses t) → has.casts t ≡ true
+    Gives (is_instance_of p e t) = (from.tests t ≡ true → All U (test_uses t) → has.tests t ≡ true) × (is_based from t ≡ true → All U (type_uses t) → is_based has t ≡ true)
+    Gives (as_instance_of p e t) = (from.casts t ≡ true → All U (cast_uses t) → has.casts t ≡ true) × (is_based from t ≡ true → All U (type_uses t) → is_based has t ≡ true)
+    Gives (new_array p r e) = has_base from r.base ≡ true → All U (base_uses r.base) → has_base has r.base ≡ true
+    Gives (array_value p r ts) = has_base from r.base ≡ true → All U (base_uses r.base) → has_base has r.base ≡ true
     Gives (binary_op p o e d) = divides from o ≡ true → FitsDivision o d
     Gives _ = Unit {0}
 
@@ -379,6 +407,10 @@ module _ (U : Binding → Type 0) (runs : Lookup) where
     literal (store_module p c e) q k l = impossible q
     literal (unary_op p o e) q k l = impossible l
     literal (binary_op p o e d) q k l = impossible l
+    literal (new_array p r e) q k l = impossible l
+    literal (array_value p r ts) q k l = impossible l
+    literal (array_length p e) q k l = impossible l
+    literal (array_select p e i t) q k l = impossible l
     literal (is_instance_of p e t) q k l = impossible l
     literal (as_instance_of p e t) q k l = impossible l
     literal (var_ref p x t) q k l = impossible l
@@ -396,7 +428,6 @@ module _ (U : Binding → Type 0) (runs : Lookup) where
     literal (match_on p e cs d t) q k l = impossible q
     literal (throw p e) q k l = impossible q
     literal (log_line p e) q k l = impossible q
-    literal t q k l = impossible k
 
     -- the expression of a right operand is its own, or it is no literal
     abbrev IsRight : Term → Expression → Type 0
@@ -467,8 +498,33 @@ module _ (U : Binding → Type 0) (runs : Lookup) where
         by : Calls from (type_of_term e) m → can_call has (callee_of (type_of_term e) m) ≡ true
         by (calls_member is) = ap (can_call has) is.callee ∙ g.0 is.direct.class is.callee (sym (ap (can_call from) is.callee) ∙ q.0) (All-head U (function_binding (runs.target (member is.direct.class Public m))) [] (subst (λ (k : Callee). All U (call_uses runs k)) is.callee f))
         by (looks_up is) = ap (can_call has) is.callee ∙ g.1.0 is.lookup.class is.callee is.lookup.there (subst (λ (k : Callee). All U (call_uses runs k)) is.callee f)
-        by (calls_array is) = ap (can_call has) is.callee ∙ g.1.1.0 is.on.there
+        by (calls_array is) = ap (can_call has) is.callee ∙ g.1.1.0 is.callee is.on.there
         by (calls_by_name is) = ap (can_call has) is.callee ∙ g.1.1.1 is.named is.there (subst (λ (k : Callee). All U (call_uses runs k)) is.callee f)
+
+    -- a test or a cast is there, and so is the base of a type of arrays
+    type_there : (t : IrType) (was is : Bool) (names inside : List Binding) → (was ≡ true → All U names → is ≡ true) → (is_based from t ≡ true → All U (type_uses t) → is_based has t ≡ true) → All U (names ++ inside ++ type_uses t) → (was && is_based from t) ≡ true → (is && is_based has t) ≡ true
+    type_there t was is names inside f b u k = let q = and_parts was (is_based from t) k in and_from is (is_based has t) (f q.0 (front names inside (front (names ++ inside) (type_uses t) u))) (b q.1 (back (names ++ inside) (type_uses t) u))
+
+    type_inside : (t : IrType) (names inside : List Binding) → All U (names ++ inside ++ type_uses t) → All U inside
+    type_inside t names inside u = back names inside (front (names ++ inside) (type_uses t) u)
+
+    -- a helper that makes arrays is there, and so is their base
+    array_there : (x : List ℕ) → Contains body_helpers x → (r : ArrayRef) (inside : List Binding) → (has_base from r.base ≡ true → All U (base_uses r.base) → has_base has r.base ≡ true) → All U (object_binding x ∷ base_uses r.base ++ inside) → (from.helper x && has_base from r.base) ≡ true → (has.helper x && has_base has r.base) ≡ true
+    array_there x i r inside b u k = let q = and_parts (from.helper x) (has_base from r.base) k in and_from (has.helper x) (has_base has r.base) (helpers x i q.0 (All-head U (object_binding x) (base_uses r.base ++ inside) u)) (b q.1 (front (base_uses r.base) inside (All-tail U (object_binding x) (base_uses r.base ++ inside) u)))
+
+    array_inside : (x : List ℕ) (r : ArrayRef) (inside : List Binding) → All U (object_binding x ∷ base_uses r.base ++ inside) → All U inside
+    array_inside x r inside u = back (base_uses r.base) inside (All-tail U (object_binding x) (base_uses r.base ++ inside) u)
+
+    items_there : (r : ArrayRef) (ts : Terms) (inside : List Binding) → (has_base from r.base ≡ true → All U (base_uses r.base) → has_base has r.base ≡ true) → All U (object_binding (codes "$A") ∷ base_uses r.base ++ inside) → (from.helper (codes "$A") && (has_base from r.base && are_countable ts)) ≡ true → (has.helper (codes "$A") && (has_base has r.base && are_countable ts)) ≡ true
+    items_there r ts inside b u k =
+        let q = and_parts (from.helper (codes "$A")) (has_base from r.base && are_countable ts) k in
+        let c = and_parts (has_base from r.base) (are_countable ts) q.1 in
+        let there = and_parts (has.helper (codes "$A")) (has_base has r.base) (array_there (codes "$A") (in_helpers (codes "$A") refl) r inside b u (and_from (from.helper (codes "$A")) (has_base from r.base) q.0 c.0)) in
+        and_from (has.helper (codes "$A")) (has_base has r.base && are_countable ts) there.0 (and_from (has_base has r.base) (are_countable ts) there.1 c.1)
+
+    -- a helper for an item is there, and the array is checked
+    item_there : (x : List ℕ) → Contains body_helpers x → (e : Term) → IsChecked e → U (object_binding x) → (from.helper x && checked e) ≡ true → (has.helper x && checks e) ≡ true
+    item_there x i e u v k = let q = and_parts (from.helper x) (checked e) k in and_from (has.helper x) (checks e) (helpers x i q.0 v) (check_there e q.1 u)
 
     new_there : (p : Position) (c : List ℕ) (m : MethodName) (ts : Terms) → Found (new_object p c m ts) → U (function_binding (member c Constructor m)) → U (class_use c) → stands from checked (new_object p c m ts) ≡ true → stands has checks (new_object p c m ts) ≡ true
     new_there p c m ts g f u h =
@@ -540,16 +596,42 @@ module _ (U : Binding → Type 0) (runs : Lookup) where
           let h0 = front (helper ++ uses_in runs left) (uses_in runs right) h in
           let g0 = two e d (inner (binary_op p o e d) g) in
           and_from (is_operation has o d) (new e && new d) (operation_there o d (expression_of sure d) (inl (q0.1, refl)) k1.1 (All-head Found (binary_op p o e d) (trees e ++ trees d) g) (front helper (uses_in runs left) h0) k0.0) (and_from (new e) (new d) (plain e q0.0 k1.0 g0.0 (operand_in o (type_of_term e) (expression_of sure e) (back helper (uses_in runs left) h0))) (plain d q0.1 k1.1 g0.1 (operand_in o (type_of_term d) (expression_of sure d) (back (helper ++ uses_in runs left) (uses_in runs right) h))))
+      plain (new_array p r e) q k g h =
+          let tree = new_array p r e in
+          let k0 = and_parts (stands from checked tree) (old e) k in
+          let inside = uses_in runs (expression_of sure e) in
+          and_from (stands has checks tree) (new e) (array_there (codes "$mk") (in_helpers (codes "$mk") refl) r inside (All-head Found tree (below tree) g) h k0.0) (plain e q k0.1 (inner tree g) (array_inside (codes "$mk") r inside h))
+      plain (array_value p r ts) q k g h =
+          let tree = array_value p r ts in
+          let k0 = and_parts (stands from checked tree) (olds ts) k in
+          let inside = uses_in_all runs (expressions_of (coerced_items (element_type r) (types_of ts) (all_expressions sure ts))) in
+          and_from (stands has checks tree) (news ts) (items_there r ts inside (All-head Found tree (all_below ts) g) h k0.0) (all_plain_built ts q k0.1 (inner tree g) (items_in (element_type r) (types_of ts) (all_expressions sure ts) (array_inside (codes "$A") r inside h)))
+      plain (array_length p e) q k g h =
+          let k0 = and_parts (checked e) (old e) k in
+          and_from (checks e) (new e) (check_there e k0.0 (checked_in (is_sure sure e) (expression_of sure e) h)) (plain e q k0.1 (inner (array_length p e) g) (received_in (is_sure sure e) (expression_of sure e) h))
+      plain (array_select p e i t) q k g h =
+          let tree = array_select p e i t in
+          let q0 = and_parts (is_plain e) (is_plain i) q in
+          let k0 = and_parts (stands from checked tree) (old e && old i) k in
+          let k1 = and_parts (old e) (old i) k0.1 in
+          let array = received_text (is_sure sure e) (expression_of sure e) in
+          let index = expression_of sure i in
+          let inside = All-tail U (object_binding (codes "$get")) (uses_in runs array ++ uses_in runs index) h in
+          let own = front (uses_in runs array) (uses_in runs index) inside in
+          let g0 = two e i (inner tree g) in
+          and_from (stands has checks tree) (new e && new i) (item_there (codes "$get") (in_helpers (codes "$get") refl) e (checked_in (is_sure sure e) (expression_of sure e) own) (All-head U (object_binding (codes "$get")) (uses_in runs array ++ uses_in runs index) h) k0.0) (and_from (new e) (new i) (plain e q0.0 k1.0 g0.0 (received_in (is_sure sure e) (expression_of sure e) own)) (plain i q0.1 k1.1 g0.1 (back (uses_in runs array) (uses_in runs index) inside)))
       plain (is_instance_of p e t) q k g h =
           let tree = is_instance_of p e t in
-          let k0 = and_parts (from.tests t) (old e) k in
+          let k0 = and_parts (from.tests t && is_based from t) (old e) k in
           let value = coerced Any (type_of_term e) (expression_of sure e) in
-          and_from (has.tests t) (new e) (All-head Found tree (below tree) g k0.0 (front (test_uses t) (uses_in runs value) h)) (plain e q k0.1 (inner tree g) (uncoerced Any (type_of_term e) (expression_of sure e) (back (test_uses t) (uses_in runs value) h)))
+          let found = All-head Found tree (below tree) g in
+          and_from (has.tests t && is_based has t) (new e) (type_there t (from.tests t) (has.tests t) (test_uses t) (uses_in runs value) found.0 found.1 h k0.0) (plain e q k0.1 (inner tree g) (uncoerced Any (type_of_term e) (expression_of sure e) (type_inside t (test_uses t) (uses_in runs value) h)))
       plain (as_instance_of p e t) q k g h =
           let tree = as_instance_of p e t in
-          let k0 = and_parts (can_cast from t) (old e) k in
+          let k0 = and_parts (can_cast from t && is_based from t) (old e) k in
           let value = coerced Any (type_of_term e) (expression_of sure e) in
-          and_from (can_cast has t) (new e) (cast_there t (All-head Found tree (below tree) g) (front (cast_uses t) (uses_in runs value) h) k0.0) (plain e q k0.1 (inner tree g) (uncoerced Any (type_of_term e) (expression_of sure e) (back (cast_uses t) (uses_in runs value) h)))
+          let found = All-head Found tree (below tree) g in
+          and_from (can_cast has t && is_based has t) (new e) (type_there t (can_cast from t) (can_cast has t) (cast_uses t) (uses_in runs value) (λ c u. cast_there t found.0 u c) found.1 h k0.0) (plain e q k0.1 (inner tree g) (uncoerced Any (type_of_term e) (expression_of sure e) (type_inside t (cast_uses t) (uses_in runs value) h)))
       plain (undefined_literal p) q k g h = refl
       plain (null_literal p) q k g h = refl
       plain (boolean_literal p b) q k g h = refl
@@ -574,7 +656,6 @@ module _ (U : Binding → Type 0) (runs : Lookup) where
       plain (match_on p e cs d t) q k g h = impossible q
       plain (log_line p e) q k g h = impossible q
       plain (throw p e) q k g h = impossible q
-      plain t q k g h = impossible k
 
       all_plain_built : (ts : Terms) → are_plain ts ≡ true → olds ts ≡ true → Each (all_below ts) → InAll (all_expressions sure ts) → news ts ≡ true
       all_plain_built no_terms q k g h = refl
@@ -664,6 +745,25 @@ module _ (U : Binding → Type 0) (runs : Lookup) where
             let g0 = two (select v d c f t) e (inner (assign p (select v d c f t) e) g) in
             let target = receiver_built d (tree d) ts k1.0 (inner (select v d c f t) g0.0) written.0 in
             and_from (has.field c f t && checks d) (new d && new e) (select_there c f t d (All-head Found (select v d c f t) (trees d) g0.0) target.1 k0.0) (and_from (new d) (new e) target.0 (operand_built e (tree e) ts k1.1 g0.1 written.1.0))
+        tree (assign p (array_select v d i t) e) ts k j q g h =
+            let k0 = and_parts (can_put from t && checked d) (old d && (old i && old e)) q in
+            let k1 = and_parts (old d) (old i && old e) k0.1 in
+            let k2 = and_parts (old i) (old e) k1.1 in
+            let os : List Operand = receiver_for ts d ∷ operand_for ts i ∷ one_of ts e in
+            let s : Spilled = spill os j in
+            let array = uses_in runs (first_of s.expressions) in
+            let index = uses_in runs (second_of s.expressions) in
+            let value = coerced t (type_of_term e) (third_of s.expressions) in
+            let last = core.assign_element (Some p) t (first_of s.expressions) (second_of s.expressions) value in
+            let parts = followed_parts s.statements (core.statement last core.no_statements) h in
+            let inside = only last parts.1 in
+            let behind = All-tail U (object_binding (element_setter t)) (array ++ index ++ uses_in runs value) inside in
+            let head = front (array ++ index) (uses_in runs value) behind in
+            let written = spill_in os j parts.0 (three_in s.expressions (spill_count os j) (front array index head) (back array index head) (uncoerced t (type_of_term e) (third_of s.expressions) (back (array ++ index) (uses_in runs value) behind))) in
+            let g0 = two (array_select v d i t) e (inner (assign p (array_select v d i t) e) g) in
+            let g1 = two d i (inner (array_select v d i t) g0.0) in
+            let target = receiver_built d (tree d) ts k1.0 g1.0 written.0 in
+            and_from (can_put has t && checks d) (new d && (new i && new e)) (item_there (element_setter t) (setter_listed t) d target.1 (All-head U (object_binding (element_setter t)) (array ++ index ++ uses_in runs value) inside) k0.0) (and_from (new d) (new i && new e) target.0 (and_from (new i) (new e) (operand_built i (tree i) ts k2.0 g1.1 written.1.0) (operand_built e (tree e) ts k2.1 g0.1 written.1.1.0)))
         tree (assign p (select_static v c f t) e) ts k j q g h =
             let r = and_parts (from.static_setter c f t) (old e) q in
             let s : Spilled = spill (one_of ts e) j in
@@ -820,22 +920,67 @@ module _ (U : Binding → Type 0) (runs : Lookup) where
             let written = spill_in os j parts.0 (two_in s.expressions (spill_count os j) (operand_in o (type_of_term e) (first_of s.expressions) (back helper (uses_in runs left) head)) (operand_in o (type_of_term d) (second_of s.expressions) (back (helper ++ uses_in runs left) (uses_in runs right) inside))) in
             let g0 = two e d (inner (binary_op p o e d) g) in
             and_from (is_operation has o d) (new e && new d) (operation_there o d (second_of s.expressions) (is_right d ts (second_of s.expressions) (second_text (operand_for ts e) (operand_for ts d) j)) k1.1 (All-head Found (binary_op p o e d) (trees e ++ trees d) g) (front helper (uses_in runs left) head) k0.0) (and_from (new e) (new d) (operand_built e (tree e) ts k1.0 g0.0 written.0) (operand_built d (tree d) ts k1.1 g0.1 written.1.0))
+        tree (new_array p r e) ts k j q g h =
+            let own = new_array p r e in
+            let k0 = and_parts (stands from checked own) (old e) q in
+            let s : Spilled = spill (one_of ts e) j in
+            let made = core.new_array_of r (first_of s.expressions) in
+            let parts = followed_parts s.statements (finish k p (Array r) false made s.next).statements h in
+            let inside = finished k p (Array r) made s.next parts.1 in
+            let length_uses = uses_in runs (first_of s.expressions) in
+            and_from (stands has checks own) (new e) (array_there (codes "$mk") (in_helpers (codes "$mk") refl) r length_uses (All-head Found own (below own) g) inside k0.0) (act e (tree e) ts j k0.1 (inner own g) parts.0 (array_inside (codes "$mk") r length_uses inside))
+        tree (array_value p r es) ts k j q g h =
+            let own = array_value p r es in
+            let k0 = and_parts (stands from checked own) (olds es) q in
+            let s : Spilled = spill (operands is_mutable sure ts es) j in
+            let items = expressions_of (coerced_items (element_type r) (types_of es) s.expressions) in
+            let made = core.array_of r items in
+            let parts = followed_parts s.statements (finish k p (Array r) false made s.next).statements h in
+            let inside = finished k p (Array r) made s.next parts.1 in
+            and_from (stands has checks own) (news es) (items_there r es (uses_in_all runs items) (All-head Found own (all_below es) g) inside k0.0) (operands_built es ts k0.1 (inner own g) (spill_in (operands is_mutable sure ts es) j parts.0 (items_in (element_type r) (types_of es) s.expressions (array_inside (codes "$A") r (uses_in_all runs items) inside))))
+        tree (array_length p e) ts k j q g h =
+            let k0 = and_parts (checked e) (old e) q in
+            let os : List Operand = receiver_for ts e ∷ [] in
+            let s : Spilled = spill os j in
+            let read = core.length_of (first_of s.expressions) in
+            let parts = followed_parts s.statements (finish k p Int false read s.next).statements h in
+            let written = spill_in os j parts.0 (one_in s.expressions (spill_count os j) (finished k p Int read s.next parts.1)) in
+            let start = receiver_built e (tree e) ts k0.1 (inner (array_length p e) g) written.0 in
+            and_from (checks e) (new e) (check_there e k0.0 start.1) start.0
+        tree (array_select p e i t) ts k j q g h =
+            let own = array_select p e i t in
+            let k0 = and_parts (stands from checked own) (old e && old i) q in
+            let k1 = and_parts (old e) (old i) k0.1 in
+            let os : List Operand = receiver_for ts e ∷ one_of ts i in
+            let s : Spilled = spill os j in
+            let array = uses_in runs (first_of s.expressions) in
+            let index = uses_in runs (second_of s.expressions) in
+            let read = core.element_of (first_of s.expressions) (second_of s.expressions) in
+            let parts = followed_parts s.statements (finish k p t false read s.next).statements h in
+            let inside = finished k p t read s.next parts.1 in
+            let behind = All-tail U (object_binding (codes "$get")) (array ++ index) inside in
+            let written = spill_in os j parts.0 (two_in s.expressions (spill_count os j) (front array index behind) (back array index behind)) in
+            let g0 = two e i (inner own g) in
+            let start = receiver_built e (tree e) ts k1.0 g0.0 written.0 in
+            and_from (stands has checks own) (new e && new i) (item_there (codes "$get") (in_helpers (codes "$get") refl) e start.1 (All-head U (object_binding (codes "$get")) (array ++ index) inside) k0.0) (and_from (new e) (new i) start.0 (operand_built i (tree i) ts k1.1 g0.1 written.1.0))
         tree (is_instance_of p e t) ts k j q g h =
             let own = is_instance_of p e t in
-            let k0 = and_parts (from.tests t) (old e) q in
+            let k0 = and_parts (from.tests t && is_based from t) (old e) q in
             let s : Spilled = spill (one_of ts e) j in
             let value = coerced Any (type_of_term e) (first_of s.expressions) in
             let parts = followed_parts s.statements (finish k p Boolean false (core.test_of t value) s.next).statements h in
             let inside = finished k p Boolean (core.test_of t value) s.next parts.1 in
-            and_from (has.tests t) (new e) (All-head Found own (below own) g k0.0 (front (test_uses t) (uses_in runs value) inside)) (act e (tree e) ts j k0.1 (inner own g) parts.0 (uncoerced Any (type_of_term e) (first_of s.expressions) (back (test_uses t) (uses_in runs value) inside)))
+            let found = All-head Found own (below own) g in
+            and_from (has.tests t && is_based has t) (new e) (type_there t (from.tests t) (has.tests t) (test_uses t) (uses_in runs value) found.0 found.1 inside k0.0) (act e (tree e) ts j k0.1 (inner own g) parts.0 (uncoerced Any (type_of_term e) (first_of s.expressions) (type_inside t (test_uses t) (uses_in runs value) inside)))
         tree (as_instance_of p e t) ts k j q g h =
             let own = as_instance_of p e t in
-            let k0 = and_parts (can_cast from t) (old e) q in
+            let k0 = and_parts (can_cast from t && is_based from t) (old e) q in
             let s : Spilled = spill (one_of ts e) j in
             let value = coerced Any (type_of_term e) (first_of s.expressions) in
             let parts = followed_parts s.statements (finish k p t false (core.cast_of t value) s.next).statements h in
             let inside = finished k p t (core.cast_of t value) s.next parts.1 in
-            and_from (can_cast has t) (new e) (cast_there t (All-head Found own (below own) g) (front (cast_uses t) (uses_in runs value) inside) k0.0) (act e (tree e) ts j k0.1 (inner own g) parts.0 (uncoerced Any (type_of_term e) (first_of s.expressions) (back (cast_uses t) (uses_in runs value) inside)))
+            let found = All-head Found own (below own) g in
+            and_from (can_cast has t && is_based has t) (new e) (type_there t (can_cast from t) (can_cast has t) (cast_uses t) (uses_in runs value) (λ c u. cast_there t found.0 u c) found.1 inside k0.0) (act e (tree e) ts j k0.1 (inner own g) parts.0 (uncoerced Any (type_of_term e) (first_of s.expressions) (type_inside t (cast_uses t) (uses_in runs value) inside)))
         tree (undefined_literal p) ts k j q g h = refl
         tree (null_literal p) ts k j q g h = refl
         tree (boolean_literal p b) ts k j q g h = refl

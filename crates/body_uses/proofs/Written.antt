@@ -1,6 +1,6 @@
 -- The bodies of an accepted folder whose classes are written are built with what is written.
 use Rattle.object_folders.specs.Refusals.{IsPresent, missing_class, missing_method, abstract_target, no_class, no_target, no_target_body, no_method, no_hijacked_body}
-use Rattle.body_uses.proofs.Hijacked.{of_hijacked, of_looked_up}
+use Rattle.body_uses.proofs.Hijacked.{of_hijacked, of_looked_up, of_array}
 use Rattle.object_folders.proofs.Facts.{made_told, called_told, some_call_told}
 use Rattle.resolution_laws.proofs.SameNames.{method-itself}
 use Rattle.object_folders.specs.Dispatch.{dispatch_name, reflective_name}
@@ -12,7 +12,7 @@ use Rattle.resolution_laws.specs.Laws.{HasAnswer}
 use Rattle.resolution_laws.proofs.WorkedOut.{targets_are_worked_out}
 use Rattle.resolution_laws.specs.DispatchLawsLaws.{found_by}
 use Rattle.object_folders.specs.Targets.{at_owner, target_in, has_hijacked_in}
-use Rattle.std.proofs.Common.{◌≡◌, Bool, true, false, List, [], ◌∷◌, inl, inr, Option, Some, refl, sym, subst, ◌∙◌, Contains, codes, ap, None, if◌then◌else◌}
+use Rattle.std.proofs.Common.{◌≡◌, Bool, true, false, List, [], ◌∷◌, inl, inr, Option, Some, refl, sym, subst, ◌∙◌, Contains, ap, map, None, if◌then◌else◌}
 use Rattle.std.specs.Prelude.{not, ◌&&◌, ◌||◌, is_none}
 use Rattle.worklist.proofs.Inserted.{nothing_in}
 use Rattle.std.specs.List.{All, list_any}
@@ -20,12 +20,12 @@ use Rattle.std.proofs.lemmas.Bool.{and_from, or_left}
 use Rattle.std.proofs.lemmas.List.Elements.{All-head, All-tail}
 use Rattle.std.proofs.lemmas.List.Folds.{list_any_at}
 use Rattle.object_folders.specs.Typing.{is_built_with}
-use Rattle.object_folders.specs.Built.{can_look_up, Usable, is_object_body, is_static, is_testable, has_no_value}
+use Rattle.object_folders.specs.Built.{can_look_up, Usable, any_object, has_base, is_based, is_object_body, is_static, is_testable, has_no_value}
 use Rattle.object_folders.proofs.EachTyped.{in_all}
 use Rattle.object_folders.proofs.Undenied.{first_or_later}
 use Rattle.helper_rules.specs.Helpers.{helper_name}
 use Rattle.helper_rules.specs.declared.kinds.Helper.{Helper}
-use Rattle.helper_rules.specs.declared.kinds.Helper.TheVariants.{NotNull, IntQuotient, IntRemainder as IntRest, LongQuotient, LongRemainder as LongRest, BoxedChar, Equal, TestOf, CastTo}
+use Rattle.helper_rules.specs.declared.kinds.Helper.TheVariants.{NotNull, IntQuotient, IntRemainder as IntRest, LongQuotient, LongRemainder as LongRest, BoxedChar, Equal, MakeArray, ArrayClass, Get, Set, Put, TestOf, CastTo}
 use Rattle.helper_rules.specs.declared.kinds.Kind.{Kind}
 use Rattle.helper_rules.specs.declared.kinds.Kind.TheVariants as kinds
 use Rattle.js_tree.specs.declared.items.Binding.{Binding}
@@ -33,8 +33,7 @@ use Rattle.object_folders.proofs.Derivations.{closed}
 use Rattle.object_folders.specs.Reachable.{Reachable}
 use Rattle.object_folders.specs.Rules.{Reads, of_call, of_new, asked_body, new_made, field_needed, resolved_class, resolved_body, call, call_class, call_hijacked}
 use Rattle.sj_desugar.specs.Desugar.{member}
-use Rattle.sj_emit_expr.specs.Templates.{check_name}
-use Rattle.sj_emit_expr.specs.Tests.{test_name, cast_name, same_name}
+use Rattle.sj_emit_expr.specs.Tests.{test_name, cast_name}
 use Rattle.sj_emit_expr.specs.Uses.{object_binding, function_binding, class_use, static_use, setter_use, load_use, store_use, test_uses, cast_uses, looked_up_uses, is_same_binding}
 use Rattle.sj_infos.specs.Infos.{asks, asked_by_body, asked_in, of_receiver}
 use Rattle.sj_infos.specs.Sure.{sure_among}
@@ -52,6 +51,7 @@ use Rattle.sj_names.specs.declared.entry_points.EntryPoint.{EntryPoint}
 use Rattle.sj_names.specs.declared.folders.SourceFile.{SourceFile}
 use Rattle.sj_names.specs.declared.method_names.Member.{Member}
 use Rattle.sj_names.specs.declared.method_names.MethodName.{MethodName}
+use Rattle.sj_names.specs.declared.references.BaseRef.{BaseRef}
 use Rattle.sj_names.specs.declared.references.TypeRef.{TypeRef}
 use Rattle.sj_names.specs.declared.method_names.Namespace.{Namespace}
 use Rattle.sj_names.specs.declared.method_names.Namespace.TheVariants.{Public, PublicStatic, Private, PrivateStatic, Constructor}
@@ -60,12 +60,12 @@ use Rattle.object_folders.specs.Linked.{has_function}
 use Rattle.sj_trees.proofs.SameTypes.{type-refl}
 use Rattle.sj_trees.specs.SameTypes.{is_same_type}
 use Rattle.sj_trees.specs.declared.positions.Position.{Position}
-use Rattle.sj_trees.specs.Term.{Term, new_object, load_module, store_module, select, select_static, apply_statically, apply_static, binary_op, is_instance_of, as_instance_of, apply}
+use Rattle.sj_trees.specs.Term.{Term, new_object, load_module, store_module, select, select_static, apply_statically, apply_static, binary_op, new_array, array_value, is_instance_of, as_instance_of, apply}
 use Rattle.sj_trees.specs.declared.classes.ClassDef.{ClassDef}
 use Rattle.sj_trees.specs.declared.operators.BinaryOp.{BinaryOp}
 use Rattle.sj_trees.specs.declared.operators.BinaryOp.TheVariants.{IntDivide, IntRemainder, LongDivide, LongRemainder}
 use Rattle.sj_trees.specs.declared.types.IrType.{IrType}
-use Rattle.sj_trees.specs.declared.types.IrType.TheVariants.{Undefined, Boolean, Char, Byte, Short, Int, Long, String, Class as IrClass}
+use Rattle.sj_trees.specs.declared.types.IrType.TheVariants.{Undefined, Boolean, Char, Byte, Short, Int, Long, String, Array, Class as IrClass}
 use Rattle.sj_world.specs.Known.{Name, Classes, class_of, is_hijacked}
 use Rattle.sj_world.proofs.Searches.{contains_at}
 use Rattle.sj_world.specs.Subtypes.{equal, from_nothing, to_any, null_to_class, null_to_array, class_to_class, primitive_to_class, arrays_alike, arrays_of_arrays}
@@ -289,6 +289,10 @@ module _ (entries : List EntryPoint) (files : List SourceFile) (w : Classes) (fa
       go true e v = looks true true refl refl e (told v)
       go false e v = by_property (tells_apart w facts all written m) refl e
 
+  -- a method that is called on arrays is called in the class of all objects
+  on_arrays_there : (m : MethodName) → Reads w entries (Reachable w entries) (Called object m) → has.on_arrays m ≡ true
+  on_arrays_there m r = called_told facts object m ((uses.are_facts (CalledOn object m)).1 (closed w entries (CalledOn object m) (call object m r refl)))
+
   -- a helper by its name
   helper_there : (h : Helper) → Contains used (object_binding (helper_name h)) → has.helper (helper_name h) ≡ true
   helper_there h u = and_from (is_among written object) (list_any (λ (g : Helper). is_same_text (helper_name h) (helper_name g)) helpers) (in_written (object_binding (helper_name h)) u) (any_of (λ (g : Helper). is_same_text (helper_name h) (helper_name g)) helpers h (uses.helped e i here_written h u) (text-refl (helper_name h)))
@@ -344,9 +348,18 @@ module _ (entries : List EntryPoint) (files : List SourceFile) (w : Classes) (fa
   cast_given p d String among h u = kind_cast String kinds.Text refl (first_used (object_binding (cast_name String)) [] u)
   cast_given p d _ among h u = impossible h
 
+  -- no class is named as the base of an array yet
+  base_given : (b : BaseRef) → has_base any_object b ≡ true → has_base has b ≡ true
+  base_given (BaseRef.Class c) h = impossible h
+  base_given _ h = refl
+
+  type_given : (t : IrType) → is_based any_object t ≡ true → is_based has t ≡ true
+  type_given (Array r) h = base_given r.base h
+  type_given _ h = refl
+
   tree_given : (t : Term) → Contains (trees e.its_body) t → Stands (MeetsThere w e.definition.namespace) t → Given has used t
   tree_given (apply_static p c n m ts t) among s = λ u. in_used (member c n m) (is_static n) (static_there n s.asked.0) (asked (apply_static p c n m ts t) among (Static (member c n m)) (here (Static (member c n m)) [])) u
-  tree_given (apply p d m ts t) among s = (λ c same u. let of = of_hijacked d m c same in hijacked_there c m of.hijacked (asked (apply p d m ts t) among (Called c m) (of.asked (sure_among [] (trees e.its_body)))) u, (λ c same h u. let of = of_looked_up d m c same in looked_there c m of.free (asked (apply p d m ts t) among (Called c m) (of.asked (sure_among [] (trees e.its_body)))) u, (refl, λ n u. named_there (apply p d m ts t) m among (form_named m n) u)))
+  tree_given (apply p d m ts t) among s = (λ c same u. let of = of_hijacked d m c same in hijacked_there c m of.hijacked (asked (apply p d m ts t) among (Called c m) (of.asked (sure_among [] (trees e.its_body)))) u, (λ c same h u. let of = of_looked_up d m c same in looked_there c m of.free (asked (apply p d m ts t) among (Called c m) (of.asked (sure_among [] (trees e.its_body)))) u, (λ same. on_arrays_there m (asked (apply p d m ts t) among (Called object m) (of_array d m s.asked.0 same (sure_among [] (trees e.its_body)))), λ n u. named_there (apply p d m ts t) m among (form_named m n) u)))
   tree_given (apply_statically p d c Private m ts t) among s = λ u. in_used (member c Private m) true refl (asked (apply_statically p d c Private m ts t) among (Static (member c Private m)) (here (Static (member c Private m)) (of_receiver (sure_among [] (trees e.its_body)) d))) u
   tree_given (apply_statically p d c Constructor m ts t) among s = λ v u. in_used (member c Constructor m) (has_no_value m.result) v (asked (apply_statically p d c Constructor m ts t) among (Static (member c Constructor m)) (here (Static (member c Constructor m)) (of_receiver (sure_among [] (trees e.its_body)) d))) u
   tree_given (apply_statically p d c Public m ts t) among s = λ u. target_there c m (asked (apply_statically p d c Public m ts t) among (Resolved c m) (here (Resolved c m) (of_receiver (sure_among [] (trees e.its_body)) d))) u
@@ -359,34 +372,22 @@ module _ (entries : List EntryPoint) (files : List SourceFile) (w : Classes) (fa
       (λ u. there (in_written (static_use c f) u), λ u. there (in_written (setter_use c f) u))
   tree_given (load_module p c) among s = λ u. and_from (is_among written c) (is_loaded all c) (in_written (load_use c) u) (has_form (load_module p c) (Load c) (is_load_of c) among (here (Load c) []) (text-refl c))
   tree_given (store_module p c d) among s = λ u. and_from (is_among written c) (is_stored all c) (in_written (store_use c) u) (has_form (store_module p c d) (Store c) (is_store_of c) among (here (Store c) []) (text-refl c))
-  tree_given (is_instance_of p d t) among s = test_given p d t among
-  tree_given (as_instance_of p d t) among s = cast_given p d t among
+  tree_given (new_array p r d) among s = λ h u. base_given r.base h
+  tree_given (array_value p r ts) among s = λ h u. base_given r.base h
+  tree_given (is_instance_of p d t) among s = (test_given p d t among, λ h u. type_given t h)
+  tree_given (as_instance_of p d t) among s = (cast_given p d t among, λ h u. type_given t h)
   tree_given (binary_op p o a b) among s = divisor w o a b s.asked
   tree_given t among s = tt
 
-  helpers_given : HelpersGiven has used
-  helpers_given x among u = elim (first_or_later check_name (codes "$id" ∷ codes "$im" ∷ codes "$ld" ∷ codes "$lm" ∷ codes "$C" ∷ same_name ∷ []) x among) [
-    | inl same ↦ is_helper NotNull x same u
-    | inr more ↦ elim (first_or_later (codes "$id") (codes "$im" ∷ codes "$ld" ∷ codes "$lm" ∷ codes "$C" ∷ same_name ∷ []) x more) [
-      | inl same ↦ is_helper IntQuotient x same u
-      | inr more ↦ elim (first_or_later (codes "$im") (codes "$ld" ∷ codes "$lm" ∷ codes "$C" ∷ same_name ∷ []) x more) [
-        | inl same ↦ is_helper IntRest x same u
-        | inr more ↦ elim (first_or_later (codes "$ld") (codes "$lm" ∷ codes "$C" ∷ same_name ∷ []) x more) [
-          | inl same ↦ is_helper LongQuotient x same u
-          | inr more ↦ elim (first_or_later (codes "$lm") (codes "$C" ∷ same_name ∷ []) x more) [
-            | inl same ↦ is_helper LongRest x same u
-            | inr more ↦ elim (first_or_later (codes "$C") (same_name ∷ []) x more) [
-              | inl same ↦ is_helper BoxedChar x same u
-              | inr more ↦ elim (first_or_later same_name [] x more) [
-                | inl same ↦ is_helper Equal x same u
-                | inr more ↦ nothing_in x more
-              ]
-            ]
-          ]
-        ]
-      ]
-    ]
+  named_in : (hs : List Helper) (x : Name) → Contains (map helper_name hs) x → (h : Helper) × (helper_name h ≡ x)
+  named_in [] x among = nothing_in x among
+  named_in (h ∷ hs) x among = elim (first_or_later (helper_name h) (map helper_name hs) x among) [
+    | inl same ↦ (h, same)
+    | inr more ↦ named_in hs x more
   ]
+
+  helpers_given : HelpersGiven has used
+  helpers_given x among u = let its = named_in (NotNull ∷ IntQuotient ∷ IntRest ∷ LongQuotient ∷ LongRest ∷ BoxedChar ∷ Equal ∷ MakeArray ∷ ArrayClass ∷ Get ∷ Set ∷ Put ∷ []) x among in is_helper its.0 x its.1 u
 
   body_built : is_object_body e.definition e.its_body ≡ true → is_built_with has e.definition e.its_body ≡ true
   body_built k = given has e.definition e.its_body refl k helpers_given (λ t among. tree_given t among (tree_stands entries files w all accepted bodies e i t among))

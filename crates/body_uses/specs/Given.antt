@@ -1,15 +1,15 @@
 -- What a body is given: what its emitted code names is there.
 use Rattle.std.specs.Prelude.{◌≡◌, ◌⊎◌, ℕ, true, List, [], ◌∷◌, Contains, codes, None}
 use Rattle.std.specs.List.{All}
-use Rattle.object_folders.specs.Built.{Usable, is_testable, has_no_value, any_object, can_look_up}
+use Rattle.object_folders.specs.Built.{Usable, is_testable, has_base, is_based, has_no_value, any_object, can_look_up}
 use Rattle.js_tree.specs.declared.items.Binding.{Binding}
 use Rattle.sj_core.specs.declared.callees.Callee.TheVariants as callees
 use Rattle.sj_desugar.specs.Desugar.{member, callee_of}
 use Rattle.sj_emit_expr.specs.Templates.{check_name}
 use Rattle.sj_emit_expr.specs.Tests.{same_name}
-use Rattle.sj_emit_expr.specs.Uses.{object_binding, function_binding, class_use, static_use, setter_use, load_use, store_use, test_uses, cast_uses, call_uses}
+use Rattle.sj_emit_expr.specs.Uses.{object_binding, function_binding, class_use, static_use, setter_use, load_use, store_use, test_uses, cast_uses, base_uses, type_uses, call_uses}
 use Rattle.sj_names.specs.declared.method_names.Namespace.TheVariants.{Private, Constructor, Public}
-use Rattle.sj_trees.specs.Term.{Term, new_object, load_module, store_module, select, select_static, apply_statically, apply_static, binary_op, is_instance_of, as_instance_of, apply}
+use Rattle.sj_trees.specs.Term.{Term, new_object, new_array, array_value, load_module, store_module, select, select_static, apply_statically, apply_static, binary_op, is_instance_of, as_instance_of, apply}
 use Rattle.sj_trees.specs.TypeOf.{type_of_term}
 use Rattle.sj_trees.specs.declared.operators.BinaryOp.{BinaryOp}
 use Rattle.sj_trees.specs.declared.operators.BinaryOp.TheVariants.{IntDivide, IntRemainder, LongDivide, LongRemainder}
@@ -28,17 +28,17 @@ FitsDivision LongDivide d = HasType Long d
 FitsDivision LongRemainder d = HasType Long d
 FitsDivision _ d = Unit {0}
 
--- the check of null, the divisions, the class of objects that hold chars, and identity
+-- the check of null, the divisions, the class of objects that hold chars, identity, and what makes arrays, reads their items and sets them
 abbrev pub body_helpers : List (List ℕ)
-body_helpers = check_name ∷ codes "$id" ∷ codes "$im" ∷ codes "$ld" ∷ codes "$lm" ∷ codes "$C" ∷ same_name ∷ []
+body_helpers = check_name ∷ codes "$id" ∷ codes "$im" ∷ codes "$ld" ∷ codes "$lm" ∷ codes "$C" ∷ same_name ∷ codes "$mk" ∷ codes "$A" ∷ codes "$get" ∷ codes "$set" ∷ codes "$put" ∷ []
 
 -- where these bindings are used
 module _ (has : Usable) (used : List Binding) where
   -- a member whose function is used is there, of a public one, and of a method that a hijacked class decides on, the target, a method that is looked up, a constructor where it has no value, and so are a class that is used to make an object, each field, a static field whose
-  -- variable or setter is used, a module whose function that loads or stores it is used, and a test and a cast whose function is used; a divisor has its type
+  -- variable or setter is used, a module whose function that loads or stores it is used, a test and a cast whose function is used, and the base of arrays that is named; a method that is called on arrays can be; a divisor has its type
   abbrev pub Given : Term → Type 0
   Given (apply_static p c n m ts t) = Contains used (function_binding (member c n m)) → has.linked (member c n m) ≡ true
-  Given (apply p e m ts t) = ((c : List ℕ) → callee_of (type_of_term e) m ≡ callees.Member (member c Public m) → Contains used (function_binding (has.lookup.target (member c Public m))) → has.received (has.lookup.target (member c Public m)) ≡ true) × (((c : List ℕ) → callee_of (type_of_term e) m ≡ callees.LookedUp c m → can_look_up any_object c m ≡ true → All (Contains used) (call_uses has.lookup (callees.LookedUp c m)) → can_look_up has c m ≡ true) × ((has.objects ≡ true) × (m.result ≡ None → All (Contains used) (call_uses has.lookup (callees.Reflective m)) → has.reflected m ≡ true)))
+  Given (apply p e m ts t) = ((c : List ℕ) → callee_of (type_of_term e) m ≡ callees.Member (member c Public m) → Contains used (function_binding (has.lookup.target (member c Public m))) → has.received (has.lookup.target (member c Public m)) ≡ true) × (((c : List ℕ) → callee_of (type_of_term e) m ≡ callees.LookedUp c m → can_look_up any_object c m ≡ true → All (Contains used) (call_uses has.lookup (callees.LookedUp c m)) → can_look_up has c m ≡ true) × ((callee_of (type_of_term e) m ≡ callees.OfArray m → has.on_arrays m ≡ true) × (m.result ≡ None → All (Contains used) (call_uses has.lookup (callees.Reflective m)) → has.reflected m ≡ true)))
   Given (apply_statically p e c Private m ts t) = Contains used (function_binding (member c Private m)) → has.received (member c Private m) ≡ true
   Given (apply_statically p e c Public m ts t) = Contains used (function_binding (has.lookup.target (member c Public m))) → has.received (has.lookup.target (member c Public m)) ≡ true
   Given (apply_statically p e c Constructor m ts t) = has_no_value m.result ≡ true → Contains used (function_binding (member c Constructor m)) → has.built (member c Constructor m) ≡ true
@@ -47,8 +47,10 @@ module _ (has : Usable) (used : List Binding) where
   Given (select_static p c f t) = (Contains used (static_use c f) → has.static_field c f t ≡ true) × (Contains used (setter_use c f) → has.static_setter c f t ≡ true)
   Given (load_module p c) = Contains used (load_use c) → has.modules c ≡ true
   Given (store_module p c e) = Contains used (store_use c) → has.stored c ≡ true
-  Given (is_instance_of p e t) = is_testable t ≡ true → All (Contains used) (test_uses t) → has.tests t ≡ true
-  Given (as_instance_of p e t) = is_testable t ≡ true → All (Contains used) (cast_uses t) → has.casts t ≡ true
+  Given (is_instance_of p e t) = (is_testable t ≡ true → All (Contains used) (test_uses t) → has.tests t ≡ true) × (is_based any_object t ≡ true → All (Contains used) (type_uses t) → is_based has t ≡ true)
+  Given (as_instance_of p e t) = (is_testable t ≡ true → All (Contains used) (cast_uses t) → has.casts t ≡ true) × (is_based any_object t ≡ true → All (Contains used) (type_uses t) → is_based has t ≡ true)
+  Given (new_array p r e) = has_base any_object r.base ≡ true → All (Contains used) (base_uses r.base) → has_base has r.base ≡ true
+  Given (array_value p r ts) = has_base any_object r.base ≡ true → All (Contains used) (base_uses r.base) → has_base has r.base ≡ true
   Given (binary_op p o e d) = FitsDivision o d
   Given _ = Unit {0}
 

@@ -1,6 +1,5 @@
 -- Laws of what bodies use.
 use Rattle.sj_core.specs.Lookup.{Lookup}
-use Rattle.sj_names.specs.declared.method_names.Member.{Member}
 use Rattle.std.specs.Prelude.{◌≡◌, true, List, Contains}
 use Rattle.object_folders.specs.Accepted.{IsAccepted}
 use Rattle.object_folders.specs.Bodies.{AreBodies}

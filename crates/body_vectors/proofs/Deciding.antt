@@ -16,7 +16,7 @@ use Rattle.body_rules.specs.Locals.{local_of}
 use Rattle.sj_proper.specs.Once.{Once, OnceAll, OnceCases}
 use Rattle.sj_trees.proofs.SameTypes.{type-same}
 use Rattle.sj_trees.specs.SameTypes.{is_same_type}
-use Rattle.sj_trees.specs.Term.{Term, Terms, no_terms, more_terms, Cases, no_cases, more_cases, var_def, skip, block_of, labeled, assign, return_to, if_then, while_loop, do_while, try_catch, try_finally, match_on, throw, new_object, store_module, select, select_static, apply_statically, this_ref, apply_static, unary_op, binary_op, is_instance_of, as_instance_of, undefined_literal, null_literal, boolean_literal, char_literal, byte_literal, short_literal, int_literal, long_literal, string_literal, var_ref, log_line, apply}
+use Rattle.sj_trees.specs.Term.{Term, Terms, no_terms, more_terms, Cases, no_cases, more_cases, var_def, skip, block_of, labeled, assign, return_to, if_then, while_loop, do_while, try_catch, try_finally, match_on, throw, new_object, store_module, select, select_static, apply_statically, this_ref, apply_static, unary_op, binary_op, is_instance_of, as_instance_of, undefined_literal, null_literal, boolean_literal, char_literal, byte_literal, short_literal, int_literal, long_literal, string_literal, var_ref, log_line, apply, new_array, array_value, array_length, array_select}
 use Rattle.sj_trees.specs.TypeOf.{type_of_term}
 use Rattle.sj_trees.specs.Types.{reference_type}
 use Rattle.sj_trees.specs.declared.classes.ParamDef.{ParamDef}
@@ -137,6 +137,12 @@ is_found s (new_object p c m ts) = false
 is_found s (apply p e m ts t) = false
 is_found s (apply_statically p e c n m ts t) = false
 is_found s (this_ref p t) = false
+is_found s (assign p (array_select q d i t) e) = false
+is_found s (new_array p r e) = false
+is_found s (array_value p r ts) = false
+is_found s (array_select p e i t) = false
+is_found s (is_instance_of p e t) = false
+is_found s (as_instance_of p e t) = false
 is_found s (apply_static p c n m ts t) = all_have_values m.params
 is_found s (char_literal p u) = nat_lt u (2 ^ 16)
 is_found s (byte_literal p z) = has_bits (2 ^ 31) z
@@ -244,6 +250,12 @@ found around s (new_object p c m ts) o h = impossible h
 found around s (apply p e m ts t) o h = impossible h
 found around s (apply_statically p e c n m ts t) o h = impossible h
 found around s (this_ref p t) o h = impossible h
+found around s (assign p (array_select q d i t) e) o h = impossible h
+found around s (new_array p r e) o h = impossible h
+found around s (array_value p r ts) o h = impossible h
+found around s (array_select p e i t) o h = impossible h
+found around s (is_instance_of p e t) o h = impossible h
+found around s (as_instance_of p e t) o h = impossible h
 found around s (apply_static p c n m ts t) o h = values_are m.params h
 found around s (char_literal p u) o h = units u h
 found around s (byte_literal p z) o h = ints z h
@@ -356,6 +368,11 @@ module _ (w : Classes) (has : Usable) where
     typed ar s (select p e c f t) o h = impossible h
     typed ar s (apply p e m ts t) o h = impossible h
     typed ar s (apply_statically p e c n m ts t) o h = impossible h
+    typed ar s (assign p (array_select q d i t) e) o h = impossible h
+    typed ar s (new_array p r e) o h = impossible h
+    typed ar s (array_value p r ts) o h = impossible h
+    typed ar s (array_length p e) o h = impossible h
+    typed ar s (array_select p e i t) o h = impossible h
     typed ar s (is_instance_of p e t) o h = impossible h
     typed ar s (as_instance_of p e t) o h = impossible h
     typed ar s t o h = here ar s t o h

@@ -48,11 +48,11 @@ pub record IsArray (t : IrType) : Type 0 where
 pub array_valued : (t : IrType) → IsArray t → t ≡ IrType.NoType → ⊥
 array_valued t a i = let e : IrType.Array a.reference ≡ IrType.NoType = sym a.is ∙ i in absurd (cc)
 
--- the receiver is an array, where it may be one at all, and there are objects
+-- the receiver is an array, where it may be one at all, and the method can be called on arrays
 pub record IsOnArray (has : Usable) (t : IrType) (m : MethodName) : Type 0 where
   pub array : HasReceiver t → IsArray t
   pub called : called_on t m ≡ callees.OfArray m
-  pub there : has.objects ≡ true
+  pub there : has.on_arrays m ≡ true
 
 pub data HowCalled (has : Usable) (t : IrType) (m : MethodName) : Type 0 where
   directly : IsDirect t m → HowCalled has t m

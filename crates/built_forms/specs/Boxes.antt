@@ -6,9 +6,9 @@ use Rattle.sj_desugar.specs.Desugar.{Targets}
 use Rattle.sj_desugar.specs.Plain.{is_plain}
 use Rattle.sj_desugar.specs.Spill.{Destination, discard, to_variable, to_result}
 use Rattle.sj_names.specs.declared.references.TypeRef.{TypeRef}
-use Rattle.sj_trees.specs.Term.{Term, Terms, no_terms, more_terms, Cases, no_cases, more_cases, var_def, block_of, labeled, assign, return_to, if_then, while_loop, do_while, try_catch, try_finally, match_on, throw, new_object, load_module, store_module, select, select_static, apply, apply_statically, this_ref, apply_static, unary_op, binary_op, is_instance_of, as_instance_of, char_literal, var_ref, log_line}
+use Rattle.sj_trees.specs.Term.{Term, Terms, no_terms, more_terms, Cases, no_cases, more_cases, var_def, block_of, labeled, assign, return_to, if_then, while_loop, do_while, try_catch, try_finally, match_on, throw, new_object, new_array, array_value, array_length, array_select, load_module, store_module, select, select_static, apply, apply_statically, this_ref, apply_static, unary_op, binary_op, is_instance_of, as_instance_of, char_literal, var_ref, log_line}
 use Rattle.sj_trees.specs.TypeOf.{type_of_term, unary_result, binary_result}
-use Rattle.sj_trees.specs.Types.{class_type, reference_type}
+use Rattle.sj_trees.specs.Types.{class_type, element_type, reference_type}
 use Rattle.sj_trees.specs.declared.operators.BinaryOp.{BinaryOp}
 use Rattle.sj_trees.specs.declared.operators.BinaryOp.TheVariants.{StrictEqual, StrictNotEqual}
 use Rattle.sj_trees.specs.declared.types.IrType.{IrType}
@@ -22,6 +22,11 @@ is_boxed expected e = is_char (type_of_term e) && not (is_char expected)
 abbrev pub any_is_boxed : List TypeRef → Terms → Bool
 any_is_boxed (r ∷ rs) (more_terms e es) = is_boxed (reference_type r) e || any_is_boxed rs es
 any_is_boxed _ _ = false
+
+-- one of the items of an array is a char, where items are of another type
+abbrev pub any_item_boxed : IrType → Terms → Bool
+any_item_boxed t no_terms = false
+any_item_boxed t (more_terms e es) = is_boxed t e || any_item_boxed t es
 
 -- one of the operands of an operator is a char where identity takes any value
 abbrev pub operands_are_boxed : BinaryOp → Term → Term → Bool
@@ -70,6 +75,10 @@ abbrev mutual
   boxes_as_text (apply_static p c n m ts t) = any_is_boxed m.params ts || any_boxes_as_text ts
   boxes_as_text (unary_op p o e) = boxes_as_text e
   boxes_as_text (binary_op p o e d) = operands_are_boxed o e d || (boxes_as_text e || boxes_as_text d)
+  boxes_as_text (new_array p r e) = boxes_as_text e
+  boxes_as_text (array_value p r ts) = any_item_boxed (element_type r) ts || any_boxes_as_text ts
+  boxes_as_text (array_length p e) = boxes_as_text e
+  boxes_as_text (array_select p e i t) = boxes_as_text e || boxes_as_text i
   boxes_as_text (is_instance_of p e t) = is_boxed Any e || boxes_as_text e
   boxes_as_text (as_instance_of p e t) = is_boxed Any e || boxes_as_text e
   boxes_as_text _ = false
@@ -88,6 +97,7 @@ abbrev mutual
   boxes ls k (assign p (var_ref q x t) e) = is_boxed t e || (if is_plain e then boxes_as_text e else boxes ls (brought_to (type_of_term e)) e)
   boxes ls k (assign p (select q d c f t) e) = is_boxed t e || ((if is_plain d then boxes_as_text d else boxes ls (brought_to (type_of_term d)) d) || (if is_plain e then boxes_as_text e else boxes ls (brought_to (type_of_term e)) e))
   boxes ls k (assign p (select_static q c f t) e) = is_boxed t e || (if is_plain e then boxes_as_text e else boxes ls (brought_to (type_of_term e)) e)
+  boxes ls k (assign p (array_select q d i t) e) = is_boxed t e || ((if is_plain d then boxes_as_text d else boxes ls (brought_to (type_of_term d)) d) || ((if is_plain i then boxes_as_text i else boxes ls (brought_to (type_of_term i)) i) || (if is_plain e then boxes_as_text e else boxes ls (brought_to (type_of_term e)) e)))
   boxes ls k (return_to p e l) = boxes ls (goal_of_label ls l) e
   boxes ls k (if_then p c a b t) = (if is_plain c then boxes_as_text c else boxes ls (brought_to (type_of_term c)) c) || (boxes ls k a || boxes ls k b)
   boxes ls k (while_loop p c b) = (if is_plain c then boxes_as_text c else boxes ls (brought_to (type_of_term c)) c) || boxes ls given_up b
@@ -106,6 +116,10 @@ abbrev mutual
   boxes ls k (apply_static p c n m ts t) = is_boxed_at k t || (any_is_boxed m.params ts || operands_box ls ts)
   boxes ls k (unary_op p o e) = is_boxed_at k (unary_result o) || (if is_plain e then boxes_as_text e else boxes ls (brought_to (type_of_term e)) e)
   boxes ls k (binary_op p o e d) = (is_boxed_at k (binary_result o) || operands_are_boxed o e d) || ((if is_plain e then boxes_as_text e else boxes ls (brought_to (type_of_term e)) e) || (if is_plain d then boxes_as_text d else boxes ls (brought_to (type_of_term d)) d))
+  boxes ls k (new_array p r e) = if is_plain e then boxes_as_text e else boxes ls (brought_to (type_of_term e)) e
+  boxes ls k (array_value p r ts) = any_item_boxed (element_type r) ts || operands_box ls ts
+  boxes ls k (array_length p e) = if is_plain e then boxes_as_text e else boxes ls (brought_to (type_of_term e)) e
+  boxes ls k (array_select p e i t) = is_boxed_at k t || ((if is_plain e then boxes_as_text e else boxes ls (brought_to (type_of_term e)) e) || (if is_plain i then boxes_as_text i else boxes ls (brought_to (type_of_term i)) i))
   boxes ls k (is_instance_of p e t) = is_boxed_at k Boolean || (is_boxed Any e || (if is_plain e then boxes_as_text e else boxes ls (brought_to (type_of_term e)) e))
   boxes ls k (as_instance_of p e t) = is_boxed_at k t || (is_boxed Any e || (if is_plain e then boxes_as_text e else boxes ls (brought_to (type_of_term e)) e))
   boxes ls k (char_literal p u) = is_boxed_at k Char

@@ -1,25 +1,29 @@
 -- The forms of bodies that are built: what is asked of a method beside its typing, so that the theorem on bodies covers it, one Boolean.
-use Rattle.std.specs.Prelude.{ℕ, pos, Bool, true, false, ◌&&◌, ◌||◌, not, List, [], ◌∷◌, Option, Some, None, codes}
+use Rattle.std.specs.Prelude.{ℕ, ◌^◌, nat_lt, length, pos, Bool, true, false, ◌&&◌, ◌||◌, not, List, [], ◌∷◌, Option, Some, None, codes}
+use Rattle.std.specs.List.{list_any}
 use Rattle.std.specs.Ordering.{int_eq}
 use Rattle.sj_desugar.specs.Lookup.{Lookup, own_targets}
 use Rattle.sj_desugar.specs.Callee.{Callee}
 use Rattle.sj_desugar.specs.CalleeVariants as callees
-use Rattle.sj_desugar.specs.Desugar.{member, callee_of, result_destination}
+use Rattle.sj_desugar.specs.Desugar.{member, callee_of, result_destination, types_of}
 use Rattle.sj_desugar.specs.Plain.{is_no_type}
+use Rattle.sj_emit_expr.specs.Templates.{element_setter}
+use Rattle.sj_names.specs.Same.{is_same_text}
 use Rattle.sj_names.specs.declared.method_names.Namespace.{Namespace}
 use Rattle.sj_names.specs.declared.method_names.Namespace.TheVariants.{Public, PublicStatic, Private, PrivateStatic, Constructor}
+use Rattle.sj_names.specs.declared.references.BaseRef.{BaseRef}
 use Rattle.sj_names.specs.declared.references.TypeRef.{TypeRef}
 use Rattle.sj_names.specs.declared.references.TypeRef.TheVariants.{Void}
 use Rattle.sj_names.specs.declared.method_names.Member.{Member}
 use Rattle.sj_names.specs.declared.method_names.MethodName.{MethodName}
 use Rattle.sj_desugar.specs.Sure.{is_sure_type}
-use Rattle.sj_trees.specs.Term.{Term, Terms, no_terms, more_terms, Cases, no_cases, more_cases, var_def, skip, block_of, labeled, assign, return_to, if_then, while_loop, do_while, try_catch, try_finally, match_on, throw, new_object, load_module, store_module, select, select_static, apply, apply_statically, this_ref, apply_static, unary_op, binary_op, is_instance_of, as_instance_of, undefined_literal, null_literal, boolean_literal, char_literal, byte_literal, short_literal, int_literal, long_literal, string_literal, var_ref, log_line}
+use Rattle.sj_trees.specs.Term.{Term, Terms, no_terms, more_terms, Cases, no_cases, more_cases, var_def, skip, block_of, labeled, assign, return_to, if_then, while_loop, do_while, try_catch, try_finally, match_on, throw, new_object, new_array, array_value, array_length, array_select, load_module, store_module, select, select_static, apply, apply_statically, this_ref, apply_static, unary_op, binary_op, is_instance_of, as_instance_of, undefined_literal, null_literal, boolean_literal, char_literal, byte_literal, short_literal, int_literal, long_literal, string_literal, var_ref, log_line}
 use Rattle.sj_trees.specs.TypeOf.{type_of_term}
 use Rattle.sj_trees.specs.declared.classes.MethodDef.{MethodDef}
 use Rattle.sj_trees.specs.declared.operators.BinaryOp.{BinaryOp}
 use Rattle.sj_trees.specs.declared.operators.BinaryOp.TheVariants.{StrictEqual, StrictNotEqual, IntDivide, IntRemainder, LongDivide, LongRemainder}
 use Rattle.sj_trees.specs.declared.types.IrType.{IrType}
-use Rattle.sj_trees.specs.declared.types.IrType.TheVariants.{Any, Class}
+use Rattle.sj_trees.specs.declared.types.IrType.TheVariants.{Any, Array, Class}
 use Rattle.built_forms.specs.Boxes.{boxes, goal_of}
 
 -- a literal other than zero
@@ -33,7 +37,7 @@ is_nonzero_long _ = false
 
 -- what a body can use: the static members that are linked, and those that run on a receiver, with what is known of the classes where these are called; the methods that are looked
 -- up on the instances of a class, and those of which there is a function that tells primitive instances apart; the reflective names of which there is a function by which receivers are called; the constructors that are linked; the classes of which objects are made, and those whose code is there: these and the classes above them; their fields and the static fields that can be read and those that can be set, with their types; the classes whose one object can be loaded, and those for which it can be stored; the types for which
--- there is a test, and those for which there is a cast; helpers, by their names; and whether it can throw, and name the object that it runs on
+-- there is a test, and those for which there is a cast; the classes that can be named as the base of an array; the methods that can be called on arrays; helpers, by their names; and whether it can throw, and name the object that it runs on
 pub record Usable : Type 0 where
   pub linked : Member → Bool
   pub lookup : Lookup
@@ -51,6 +55,8 @@ pub record Usable : Type 0 where
   pub stored : List ℕ → Bool
   pub tests : IrType → Bool
   pub casts : IrType → Bool
+  pub bases : List ℕ → Bool
+  pub on_arrays : MethodName → Bool
   pub helper : List ℕ → Bool
   pub objects : Bool
 
@@ -64,7 +70,7 @@ may_make has boxed = can_box has || not boxed
 
 -- these static members and nothing else
 abbrev pub members_alone : (Member → Bool) → Usable
-members_alone linked = record { linked = linked; lookup = own_targets; received = λ m. false; looked_up = λ c m. false; dispatched = λ m. false; reflected = λ m. false; built = λ m. false; made = λ c. false; live = λ c. false; field = λ c f t. false; static_field = λ c f t. false; static_setter = λ c f t. false; modules = λ c. false; stored = λ c. false; tests = λ t. false; casts = λ t. false; helper = λ x. false; objects = false }
+members_alone linked = record { linked = linked; lookup = own_targets; received = λ m. false; looked_up = λ c m. false; dispatched = λ m. false; reflected = λ m. false; built = λ m. false; made = λ c. false; live = λ c. false; field = λ c f t. false; static_field = λ c f t. false; static_setter = λ c f t. false; modules = λ c. false; stored = λ c. false; tests = λ t. false; casts = λ t. false; bases = λ c. false; on_arrays = λ m. false; helper = λ x. false; objects = false }
 
 -- a static field can be read or set
 abbrev pub has_static : Usable → List ℕ → List ℕ → IrType → Bool
@@ -86,10 +92,28 @@ divides has _ = false
 abbrev pub compares : Usable → Bool
 compares has = has.helper (codes "$eq")
 
+-- the base of an array can be named
+abbrev pub has_base : Usable → BaseRef → Bool
+has_base has (BaseRef.Class c) = has.bases c
+has_base has base = true
+
+-- a type whose base can be named, where it is one of arrays
+abbrev pub is_based : Usable → IrType → Bool
+is_based has (Array r) = has_base has r.base
+is_based has t = true
+
 -- a cast to this type: one to any calls nothing
 abbrev pub can_cast : Usable → IrType → Bool
 can_cast has Any = true
 can_cast has t = has.casts t
+
+-- an item of this type can be written
+abbrev pub can_put : Usable → IrType → Bool
+can_put has t = has.helper (element_setter t)
+
+-- there are as many trees as an int can tell
+abbrev pub are_countable : Terms → Bool
+are_countable ts = nat_lt (length (types_of ts)) (2 ^ 31)
 
 -- an operator with this right operand: its helper can be used, or it needs none; a division by a literal other than zero needs none
 abbrev pub is_operation : Usable → BinaryOp → Term → Bool
@@ -105,17 +129,17 @@ is_operation has _ d = true
 abbrev pub can_look_up : Usable → List ℕ → MethodName → Bool
 can_look_up has c m = has.looked_up c m && (has.dispatched m || not (has.lookup.has_hijacked c))
 
--- what is called on a receiver: the target of a public member, a method that is looked up, one of an array, where there are objects, and one by its reflective name
+-- what is called on a receiver: the target of a public member, a method that is looked up, one of an array, and one by its reflective name
 abbrev pub can_call : Usable → Callee → Bool
 can_call has (callees.Member m) = has.received (has.lookup.target m)
 can_call has (callees.LookedUp c m) = can_look_up has c m
-can_call has (callees.OfArray m) = has.objects
+can_call has (callees.OfArray m) = has.on_arrays m
 can_call has (callees.Reflective m) = has.reflected m
 
 -- what a body can use, and the receivers that are never null or whose null check can be used
 module _ (has : Usable) (checked : Term → Bool) where
   -- the tree is of the forms that are built, whatever the trees in it are: what it calls, makes and reads is there, so is the helper of its division or its divisor is a literal, its
-  -- receiver is checked where it has to be, and the call of a constructor has no value
+  -- receiver is checked where it has to be, the call of a constructor has no value, and an array is given with no more items than an int can tell
   abbrev pub stands : Term → Bool
   stands (var_def p x t b e) = true
   stands (skip p) = true
@@ -124,6 +148,7 @@ module _ (has : Usable) (checked : Term → Bool) where
   stands (assign p (var_ref q x t) e) = true
   stands (assign p (select q d c f t) e) = has.field c f t && checked d
   stands (assign p (select_static q c f t) e) = has.static_setter c f t
+  stands (assign p (array_select q d i t) e) = can_put has t && checked d
   stands (return_to p e l) = true
   stands (if_then p c a b t) = true
   stands (while_loop p c b) = true
@@ -144,8 +169,12 @@ module _ (has : Usable) (checked : Term → Bool) where
   stands (apply_static p c n m ts t) = has.linked (member c n m)
   stands (unary_op p o e) = true
   stands (binary_op p o e d) = is_operation has o d
-  stands (is_instance_of p e t) = has.tests t
-  stands (as_instance_of p e t) = can_cast has t
+  stands (new_array p r e) = has.helper (codes "$mk") && has_base has r.base
+  stands (array_value p r ts) = has.helper (codes "$A") && (has_base has r.base && are_countable ts)
+  stands (array_length p e) = checked e
+  stands (array_select p e i t) = has.helper (codes "$get") && checked e
+  stands (is_instance_of p e t) = has.tests t && is_based has t
+  stands (as_instance_of p e t) = can_cast has t && is_based has t
   stands (undefined_literal p) = true
   stands (null_literal p) = true
   stands (boolean_literal p b) = true
@@ -169,6 +198,7 @@ module _ (has : Usable) (checked : Term → Bool) where
     is_built (assign p (var_ref q x t) e) = is_built e
     is_built (assign p (select q d c f t) e) = stands (assign p (select q d c f t) e) && (is_built d && is_built e)
     is_built (assign p (select_static q c f t) e) = stands (assign p (select_static q c f t) e) && is_built e
+    is_built (assign p (array_select q d i t) e) = stands (assign p (array_select q d i t) e) && (is_built d && (is_built i && is_built e))
     is_built (return_to p e l) = is_built e
     is_built (if_then p c a b t) = is_built c && (is_built a && is_built b)
     is_built (while_loop p c b) = is_built c && is_built b
@@ -185,6 +215,10 @@ module _ (has : Usable) (checked : Term → Bool) where
     is_built (apply_static p c n m ts t) = stands (apply_static p c n m ts t) && are_built ts
     is_built (unary_op p o e) = is_built e
     is_built (binary_op p o e d) = stands (binary_op p o e d) && (is_built e && is_built d)
+    is_built (new_array p r e) = stands (new_array p r e) && is_built e
+    is_built (array_value p r ts) = stands (array_value p r ts) && are_built ts
+    is_built (array_length p e) = stands (array_length p e) && is_built e
+    is_built (array_select p e i t) = stands (array_select p e i t) && (is_built e && is_built i)
     is_built (is_instance_of p e t) = stands (is_instance_of p e t) && is_built e
     is_built (as_instance_of p e t) = stands (as_instance_of p e t) && is_built e
     is_built (log_line p e) = is_built e
@@ -226,17 +260,21 @@ abbrev pub is_testable : IrType → Bool
 is_testable (Class c) = true
 is_testable t = has_kind t
 
--- whatever is made, called and used of objects, but for constructors with a value, and tests of arrays and casts to them
+-- the helpers that make arrays, read their items and set them
+abbrev pub is_array_helper : List ℕ → Bool
+is_array_helper x = list_any (is_same_text x) (codes "$mk" ∷ codes "$A" ∷ codes "$get" ∷ codes "$set" ∷ codes "$put" ∷ [])
+
+-- whatever is made, called and used of objects, but for constructors with a value and for arrays, which no code makes yet
 abbrev pub any_object : Usable
-any_object = record { linked = λ m. true; lookup = own_targets; received = λ m. true; looked_up = λ c m. true; dispatched = λ m. true; reflected = λ m. true; built = λ m. has_no_value m.method.result; made = λ c. true; live = λ c. true; field = λ c f t. true; static_field = λ c f t. true; static_setter = λ c f t. true; modules = λ c. true; stored = λ c. true; tests = is_testable; casts = is_testable; helper = λ x. true; objects = true }
+any_object = record { linked = λ m. true; lookup = own_targets; received = λ m. true; looked_up = λ c m. true; dispatched = λ m. true; reflected = λ m. true; built = λ m. has_no_value m.method.result; made = λ c. true; live = λ c. true; field = λ c f t. true; static_field = λ c f t. true; static_setter = λ c f t. true; modules = λ c. true; stored = λ c. true; tests = is_testable; casts = is_testable; bases = λ c. false; on_arrays = λ m. true; helper = λ x. not (is_array_helper x); objects = true }
 
 -- the body is of these forms, whatever it calls, makes and reads
 abbrev pub is_object_body : MethodDef → Term → Bool
 is_object_body = is_built_method any_object (λ e. true)
 
--- the body is of the forms that are built, whatever it calls
+-- the body is of the forms that are built without objects, whatever static member it calls: no receiver is checked
 abbrev pub is_built_body : MethodDef → Term → Bool
-is_built_body = is_built_method anything (λ e. true)
+is_built_body = is_built_method anything (λ e. false)
 
 abbrev pub is_static : Namespace → Bool
 is_static PublicStatic = true

@@ -6,7 +6,7 @@ use Rattle.sj_names.specs.declared.method_names.Namespace.TheVariants.{Public, P
 use Rattle.sj_names.specs.declared.references.BaseRef.{BaseRef}
 use Rattle.sj_names.specs.declared.references.TypeRef.{TypeRef}
 use Rattle.sj_trees.specs.Erase.{nowhere}
-use Rattle.sj_trees.specs.Term.{Term, no_terms, more_terms, no_cases, more_cases, var_def, load_module, store_module, new_array, skip, block_of, labeled, assign, return_to, if_then, try_catch, try_finally, match_on, throw, new_object, select, select_static, apply, apply_statically, apply_static, this_ref, binary_op, is_instance_of, as_instance_of, char_literal, int_literal, long_literal, var_ref}
+use Rattle.sj_trees.specs.Term.{Term, no_terms, more_terms, no_cases, more_cases, var_def, load_module, store_module, new_array, array_value, array_length, array_select, skip, block_of, labeled, assign, return_to, if_then, try_catch, try_finally, match_on, throw, new_object, select, select_static, apply, apply_statically, apply_static, this_ref, binary_op, is_instance_of, as_instance_of, char_literal, int_literal, long_literal, var_ref}
 use Rattle.sj_trees.specs.declared.classes.MethodDef.{MethodDef}
 use Rattle.sj_trees.specs.declared.operators.BinaryOp.{BinaryOp}
 use Rattle.sj_trees.specs.declared.operators.BinaryOp.TheVariants.{StrictEqual, StrictNotEqual, IntDivide, IntEqual, LongRemainder}
@@ -97,7 +97,7 @@ case (k ∷ ks) body = match_on nowhere (number 1) (more_cases (pos k ∷ []) bo
 
 -- a field can be used, whatever its class, its name and its type are
 abbrev pub with_fields : Usable
-with_fields = record { linked = λ m. true; lookup = own_targets; received = λ m. false; looked_up = λ c m. false; dispatched = λ m. false; reflected = λ m. false; built = λ m. false; made = λ c. false; live = λ c. false; field = λ c f t. true; static_field = λ c f t. false; static_setter = λ c f t. false; modules = λ c. false; stored = λ c. false; tests = λ t. false; casts = λ t. false; helper = λ x. false; objects = false }
+with_fields = record { linked = λ m. true; lookup = own_targets; received = λ m. false; looked_up = λ c m. false; dispatched = λ m. false; reflected = λ m. false; built = λ m. false; made = λ c. false; live = λ c. false; field = λ c f t. true; static_field = λ c f t. false; static_setter = λ c f t. false; modules = λ c. false; stored = λ c. false; tests = λ t. false; casts = λ t. false; bases = λ c. false; on_arrays = λ m. false; helper = λ x. false; objects = false }
 
 -- there is a test for each type, and there is a cast to each
 abbrev pub with_tests : Usable
@@ -115,7 +115,17 @@ with_stores = record with_fields { stored = λ c. true }
 
 -- objects that hold chars can be made
 abbrev pub with_boxes : Usable
-with_boxes = record { linked = λ m. true; lookup = own_targets; received = λ m. false; looked_up = λ c m. false; dispatched = λ m. false; reflected = λ m. false; built = λ m. false; made = λ c. false; live = λ c. false; field = λ c f t. true; static_field = λ c f t. false; static_setter = λ c f t. false; modules = λ c. false; stored = λ c. false; tests = λ t. false; casts = λ t. false; helper = λ x. true; objects = false }
+with_boxes = record { linked = λ m. true; lookup = own_targets; received = λ m. false; looked_up = λ c m. false; dispatched = λ m. false; reflected = λ m. false; built = λ m. false; made = λ c. false; live = λ c. false; field = λ c f t. true; static_field = λ c f t. false; static_setter = λ c f t. false; modules = λ c. false; stored = λ c. false; tests = λ t. false; casts = λ t. false; bases = λ c. false; on_arrays = λ m. false; helper = λ x. true; objects = false }
+
+-- an array of objects of a class, and items of it and of an array of ints
+abbrev pub of_class : Term
+of_class = new_array nowhere (record { base = BaseRef.Class (codes "A"); dimensions = 1 }) (number 1)
+
+abbrev pub item_of : Term → Term
+item_of a = array_select nowhere a (number 0) Int
+
+abbrev pub setting_item : Term → Term → Term
+setting_item a value = assign nowhere (item_of a) value
 
 -- the code of a method that gives a value of this type makes an object that holds a char
 abbrev pub makes_box : IrType → Term → Bool
@@ -223,6 +233,21 @@ pub record WorkedForms : Type 0 where
   pub cast_it_can_use : is_built with_casts (λ e. true) (casted String (number 1)) ≡ true
   pub cast_with_tests_alone : is_built with_tests (λ e. true) (casted String (number 1)) ≡ false
   pub test_with_casts_alone : is_built with_casts (λ e. true) (tested String (number 1)) ≡ false
+  pub length_of_an_array : not_built (static (array_length nowhere (local_of (Array (record { base = BaseRef.Int; dimensions = 1 }))))) ≡ false
+  pub length_of_an_unchecked_array : is_built with_boxes (λ e. false) (array_length nowhere (local_of Null)) ≡ false
+  pub length_of_what_is_not_built : not_built (static (array_length nowhere unbuilt)) ≡ true
+  pub items : not_built (static (array_value nowhere (record { base = BaseRef.Int; dimensions = 1 }) no_terms)) ≡ true
+  pub item : not_built (static (item_of (local_of Null))) ≡ true
+  pub sets_an_item : not_built (static (setting_item (local_of Null) (number 1))) ≡ true
+  pub array_it_can_use : is_built with_boxes (λ e. true) unbuilt ≡ true
+  pub array_without_a_helper : is_built with_fields (λ e. true) unbuilt ≡ false
+  pub array_of_a_class_that_has_no_name : is_built with_boxes (λ e. true) of_class ≡ false
+  pub items_it_can_use : is_built with_boxes (λ e. true) (array_value nowhere (record { base = BaseRef.Int; dimensions = 1 }) (more_terms (number 1) no_terms)) ≡ true
+  pub item_it_can_use : is_built with_boxes (λ e. true) (item_of unbuilt) ≡ true
+  pub item_of_an_unchecked_array : is_built with_boxes (λ e. false) (item_of unbuilt) ≡ false
+  pub item_without_a_helper : is_built with_fields (λ e. true) (item_of (local_of Null)) ≡ false
+  pub sets_an_item_it_can_use : is_built with_boxes (λ e. true) (setting_item unbuilt (number 1)) ≡ true
+  pub sets_an_item_without_a_helper : is_built with_fields (λ e. true) (setting_item (local_of Null) (number 1)) ≡ false
   pub by_two : not_built (static (operation IntDivide Int (number 2))) ≡ false
   pub by_zero : not_built (static (operation IntDivide Int (number 0))) ≡ false
   pub by_a_local : not_built (static (operation IntDivide Int (var_ref nowhere (codes "y") Int))) ≡ false

@@ -36,7 +36,8 @@ pub fn is_built(tree: &Tree) -> bool
         | Tree::StoreModule(_, _, value)
         | Tree::UnaryOp(_, _, value)
         | Tree::Log(_, value)
-        | Tree::Select(_, value, _, _, _) => is_built(value),
+        | Tree::Select(_, value, _, _, _)
+        | Tree::ArrayLength(_, value) => is_built(value),
         Tree::Block(_, trees) => are_built(trees),
         Tree::Assign(_, target, value) => match &**target {
             Tree::VarRef(_, _, _) | Tree::SelectStatic(_, _, _, _) => is_built(value),
@@ -64,10 +65,8 @@ pub fn is_built(tree: &Tree) -> bool
         Tree::BinaryOp(_, _, left, right) => is_built(left) && is_built(right),
         Tree::IsInstanceOf(_, value, tpe) => is_testable(tpe) && is_built(value),
         Tree::AsInstanceOf(_, value, tpe) => can_cast(tpe) && is_built(value),
-        Tree::NewArray(_, _, _)
-        | Tree::ArrayValue(_, _, _)
-        | Tree::ArrayLength(_, _)
-        | Tree::ArraySelect(_, _, _, _) => false,
+        Tree::NewArray(_, _, _) | Tree::ArrayValue(_, _, _) | Tree::ArraySelect(_, _, _, _) =>
+            false,
     }
 }
 

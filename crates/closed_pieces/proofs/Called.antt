@@ -9,7 +9,7 @@ use Rattle.linked_folders.specs.Built.{Usable, can_call, stands, is_built, are_b
 use Rattle.linked_folders.proofs.WrittenTrees.{written, written_below, all_written, cases_written}
 use Rattle.sj_desugar.specs.Desugar.{callee_of}
 use Rattle.sj_names.proofs.Same.{impossible}
-use Rattle.sj_trees.specs.Term.{Term, Terms, no_terms, more_terms, Cases, no_cases, more_cases, var_def, block_of, labeled, assign, return_to, if_then, while_loop, do_while, try_catch, try_finally, match_on, throw, new_object, store_module, select, select_static, apply, apply_statically, apply_static, unary_op, binary_op, is_instance_of, as_instance_of, var_ref, log_line}
+use Rattle.sj_trees.specs.Term.{Term, Terms, no_terms, more_terms, Cases, no_cases, more_cases, var_def, block_of, labeled, assign, return_to, if_then, while_loop, do_while, try_catch, try_finally, match_on, throw, new_object, new_array, array_value, array_length, array_select, store_module, select, select_static, apply, apply_statically, apply_static, unary_op, binary_op, is_instance_of, as_instance_of, var_ref, log_line}
 use Rattle.sj_trees.specs.TypeOf.{type_of_term}
 
 abbrev pub Called : Usable → Term → Type 0
@@ -45,6 +45,10 @@ module _ (has : Usable) (checked : Term → Bool) where
         let inside = and_parts (built d) (built e) (and_parts (own (assign p (select q d c f t) e)) (built d && built e) h).1 in
         top (assign p (select q d c f t) e) tt (pair (written (select q d c f t)) (written e) (top (select q d c f t) tt (each_called d inside.0)) (each_called e inside.1))
     each_called (assign p (select_static q c f t) e) h = top (assign p (select_static q c f t) e) tt (pair (written (select_static q c f t)) (written e) (top (select_static q c f t) tt (All-nil Own)) (each_called e (and_parts (own (assign p (select_static q c f t) e)) (built e) h).1))
+    each_called (assign p (array_select q d i t) e) h =
+        let first = and_parts (built d) (built i && built e) (and_parts (own (assign p (array_select q d i t) e)) (built d && (built i && built e)) h).1 in
+        let inside = and_parts (built i) (built e) first.1 in
+        top (assign p (array_select q d i t) e) tt (pair (written (array_select q d i t)) (written e) (top (array_select q d i t) tt (pair (written d) (written i) (each_called d first.0) (each_called i inside.0))) (each_called e inside.1))
     each_called (return_to p e l) h = top (return_to p e l) tt (each_called e h)
     each_called (if_then p c a b t) h =
         let first = and_parts (built c) (built a && built b) h in
@@ -74,6 +78,12 @@ module _ (has : Usable) (checked : Term → Bool) where
     each_called (binary_op p o e d) h =
         let inside = and_parts (built e) (built d) (and_parts (own (binary_op p o e d)) (built e && built d) h).1 in
         top (binary_op p o e d) tt (pair (written e) (written d) (each_called e inside.0) (each_called d inside.1))
+    each_called (new_array p r e) h = top (new_array p r e) tt (each_called e (and_parts (own (new_array p r e)) (built e) h).1)
+    each_called (array_value p r ts) h = top (array_value p r ts) tt (all_called ts (and_parts (own (array_value p r ts)) (all_built ts) h).1)
+    each_called (array_length p e) h = top (array_length p e) tt (each_called e (and_parts (own (array_length p e)) (built e) h).1)
+    each_called (array_select p e i t) h =
+        let inside = and_parts (built e) (built i) (and_parts (own (array_select p e i t)) (built e && built i) h).1 in
+        top (array_select p e i t) tt (pair (written e) (written i) (each_called e inside.0) (each_called i inside.1))
     each_called (is_instance_of p e t) h = top (is_instance_of p e t) tt (each_called e (and_parts (own (is_instance_of p e t)) (built e) h).1)
     each_called (as_instance_of p e t) h = top (as_instance_of p e t) tt (each_called e (and_parts (own (as_instance_of p e t)) (built e) h).1)
     each_called (log_line p e) h = top (log_line p e) tt (each_called e h)
@@ -89,7 +99,7 @@ module _ (has : Usable) (checked : Term → Bool) where
     cases_called (more_cases [] t cs) h = cases_called cs h
     cases_called (more_cases (n ∷ ns) t cs) h = let inside = and_parts (built t) (are_built_cases has checked cs) h in pair (written t) (cases_written cs) (each_called t inside.0) (cases_called cs inside.1)
 
--- a law that takes a call for one holds where each call is
-pub with_calls : (has : Usable) (P : Term → Type 0) (ts : List Term) → All (λ (t : Term). Called has t → P t) ts → All (Called has) ts → All P ts
-with_calls has P [] h k = All-nil P
-with_calls has P (t ∷ ts) h k = All-cons P t ts (All-head (λ (t : Term). Called has t → P t) t ts h (All-head (Called has) t ts k)) (with_calls has P ts (All-tail (λ (t : Term). Called has t → P t) t ts h) (All-tail (Called has) t ts k))
+-- a law with a premise holds of each tree of which the premise does
+pub with_each : (P Q : Term → Type 0) (ts : List Term) → All (λ (t : Term). P t → Q t) ts → All P ts → All Q ts
+with_each P Q [] h k = All-nil Q
+with_each P Q (t ∷ ts) h k = All-cons Q t ts (All-head (λ (t : Term). P t → Q t) t ts h (All-head P t ts k)) (with_each P Q ts (All-tail (λ (t : Term). P t → Q t) t ts h) (All-tail P t ts k))

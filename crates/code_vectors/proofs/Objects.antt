@@ -5,7 +5,7 @@ use Rattle.std.proofs.lemmas.Bool.{and_parts}
 use Rattle.code_vectors.specs.Forms.{is_built_operator, is_public, is_object, is_built, are_built, are_built_cases, is_built_body}
 use Rattle.sj_names.proofs.Same.{impossible}
 use Rattle.sj_pieces.specs.Owners.{OnObjects, AllOnObjects, CasesOnObjects, BodyOnObjects}
-use Rattle.sj_trees.specs.Term.{Term, Terms, no_terms, more_terms, Cases, no_cases, more_cases, var_def, block_of, labeled, assign, return_to, if_then, while_loop, do_while, throw, try_catch, try_finally, match_on, new_object, load_module, store_module, select, select_static, apply, apply_statically, apply_static, unary_op, binary_op, is_instance_of, as_instance_of, var_ref, this_ref, log_line}
+use Rattle.sj_trees.specs.Term.{Term, Terms, no_terms, more_terms, Cases, no_cases, more_cases, var_def, block_of, labeled, assign, return_to, if_then, while_loop, do_while, throw, try_catch, try_finally, match_on, new_object, load_module, store_module, select, select_static, apply, apply_statically, apply_static, unary_op, binary_op, new_array, array_value, array_length, array_select, is_instance_of, as_instance_of, var_ref, this_ref, log_line}
 use Rattle.sj_trees.specs.TypeOf.{type_of_term}
 use Rattle.sj_trees.specs.Types.{class_type}
 use Rattle.sj_trees.specs.declared.positions.Position.{Position}
@@ -35,6 +35,7 @@ assigned : (t e : Term) → OnObjects t → OnObjects e → (p : Position) → O
 assigned (var_ref q x t) e h k p = k
 assigned (select q d c f t) e h k p = (h.0, h.1, k)
 assigned (select_static q c f t) e h k p = k
+assigned (array_select q d i t) e h k p = (h.0, h.1, h.2, k)
 assigned _ e h k p = tt
 
 mutual
@@ -67,6 +68,10 @@ mutual
   on_objects (apply_static p c n m ts t) h = all_on_objects ts h
   on_objects (unary_op p o e) h = on_objects e h
   on_objects (apply p e m ts t) h = impossible h
+  on_objects (new_array p r e) h = impossible h
+  on_objects (array_value p r ts) h = impossible h
+  on_objects (array_length p e) h = impossible h
+  on_objects (array_select p e i t) h = impossible h
   on_objects (is_instance_of p e t) h = impossible h
   on_objects (as_instance_of p e t) h = impossible h
   on_objects (binary_op p o e d) h =

@@ -1,5 +1,5 @@
 -- Files that declare what can be used: their state behind the declarations stands for the opening of the IR, and they have what objects ask.
-use Rattle.std.specs.Prelude.{is_some, not}
+use Rattle.std.specs.Prelude.{is_some, not, ◌||◌}
 use Rattle.std.proofs.Common.{◌≡◌, ◌≤◌, ℕ, suc, Bool, true, false, List, [], ◌∷◌, ◌++◌, length, map, slice_get, refl, sym, ap, ◌∙◌, subst, Contains, inl, inr, ⊎_elim, Option, Some, None, cond, codes, arith, if◌then◌else◌}
 use Rattle.body_rules.proofs.Lists.{nothing_in, in_front_or_behind, at_front, further_on}
 use Rattle.built_forms.proofs.Statics.{set_static, static_among, store_cell}
@@ -51,7 +51,7 @@ use Rattle.file_declarations.specs.Methods.{Linked, parameters_in, function_of}
 use Rattle.file_declarations.specs.Names.{emitted_in}
 use Rattle.file_declarations.specs.Objects.{RunsOn, Constructs, function_on, body_of}
 use Rattle.file_declarations.specs.Objects as on_objects
-use Rattle.file_declarations.specs.Worlds.{IsMade, CanCheck, CanDivide, ThrowsCast, CanCast, CanCastClass, Casted, to_kind, to_class, StaticStands, setter_code, CellStands, StoreStands, LoadStands, HasObjects}
+use Rattle.file_declarations.specs.Worlds.{NoArrays, IsMade, CanCheck, CanDivide, ThrowsCast, CanCast, CanCastClass, Casted, to_kind, to_class, StaticStands, setter_code, CellStands, StoreStands, LoadStands, HasObjects}
 use Rattle.sj_core.specs.Terms.{named, receiver}
 use Rattle.sj_desugar.specs.Desugar.{is_mutable_in, names_of, body_code, completed, desugared_member, member}
 use Rattle.sj_emit_expr.specs.Members.{with_receiver, member_piece}
@@ -59,6 +59,7 @@ use Rattle.sj_emit_expr.specs.Names.{variable_name, label_name}
 use Rattle.sj_emit_expr.specs.Templates.{check_name, member_name, static_name, setter_name, load_name, store_name, parameter_names, statement_templates}
 use Rattle.sj_emit_expr.specs.Tests.{test_name, cast_name}
 use Rattle.sj_names.proofs.Same.{impossible}
+use Rattle.sj_names.specs.declared.references.ArrayRef.{ArrayRef}
 use Rattle.sj_names.specs.MethodNames.{spelled_method}
 use Rattle.sj_names.specs.declared.references.TypeRef.{TypeRef}
 use Rattle.js_mean.specs.Proper.{is_among, are_distinct}
@@ -80,7 +81,7 @@ use Rattle.sj_trees.specs.declared.classes.MethodDef.{MethodDef}
 use Rattle.sj_trees.specs.declared.operators.BinaryOp.{BinaryOp}
 use Rattle.sj_trees.specs.declared.operators.BinaryOp.TheVariants.{IntDivide, IntRemainder, LongDivide, LongRemainder}
 use Rattle.sj_trees.specs.declared.types.IrType.{IrType}
-use Rattle.sj_trees.specs.declared.types.IrType.TheVariants.{Any, Class}
+use Rattle.sj_trees.specs.declared.types.IrType.TheVariants.{Any, Array, Class}
 use Rattle.built_forms.specs.Built.{Usable}
 use Rattle.declared_files.specs.Declared as declared
 use Rattle.declared_files.specs.Declared.{Spread, all_items, Stands, FunctionDeclared, ClassDeclared, ChainDeclared, KindTestDeclared, ClassTestDeclared, TestDeclared, CastThrows, KindCastDeclared, ClassCastDeclared, CastDeclared, TargetDeclared, EntryDeclared, CaseDeclared, KindsDeclared, ReflectedDeclared, ReflectedKind, NoEntryDeclared, ProxyDeclared, AnswerDeclared, BoxesDeclared, Declared, IsLawful}
@@ -93,6 +94,11 @@ use Rattle.js_mean.specs.Files.{is_good_file}
 held_among : (p : js.Program) (t : js.State) (ls : List Placed) (n : ℕ) → AllHold p t n ls → (l : Placed) → Contains ls l → (k : ℕ) × Holds p t k l.file l.item
 held_among p t [] n h l c = nothing_in l c
 held_among p t (m ∷ ms) n h l c = ⊎_elim (λ same. (n, subst (λ (o : Placed). Holds p t n o.file o.item) same h.0)) (λ later. held_among p t ms (behind n m.item) h.1 l later) (in_front_or_behind m ms l c)
+
+-- what is of a class that is live or the base of arrays, where none is such a base
+pub live_alone : (live base : Bool) → base ≡ false → (live || base) ≡ true → live ≡ true
+live_alone true base none h = refl
+live_alone false base none h = impossible (sym none ∙ h)
 
 module _ (z : Spread) where
   -- each chain has room, and so has a helper
@@ -495,8 +501,38 @@ module _ (z : Spread) where
       target_here : (f : Name) (m : MemberName) → (z.has f).received ((z.has f).lookup.target m) ≡ true → IsTargetOf z.classes m ((z.has f).lookup.target m)
       target_here f m l = let same = (laws.among f).targets m in subst (IsTargetOf z.classes m) same (laws.objects.targets m (subst (λ (o : MemberName). all.received o ≡ true) (sym same) ((laws.among f).tops (a_method ((z.has f).lookup.target m)) l)))
 
+      -- no array is made
+      uncovered : (f : Name) (h : Helper) → is_covered h ≡ false → (b : Bool) → (z.has f).helper (helper_name h) ≡ b → (z.has f).helper (helper_name h) ≡ false
+      uncovered f h none true l = impossible (sym none ∙ (can.helper f h l).0)
+      uncovered f h none false l = l
+
+      no_test : {A : Type 0} (f : Name) (r : ArrayRef) → TestDeclared z f (Array r) → A
+      no_test f r (declared.of_kind _ d) = let e = d.its_kind in absurd (cc)
+
+      no_cast : {A : Type 0} (f : Name) (r : ArrayRef) → CastDeclared z f (Array r) → A
+      no_cast f r (declared.to_kind _ d) = let e = d.its_kind in absurd (cc)
+
+      untested : (f : Name) (r : ArrayRef) (b : Bool) → (z.has f).tests (Array r) ≡ b → (z.has f).tests (Array r) ≡ false
+      untested f r true l = no_test f r (can.tests f (Array r) l)
+      untested f r false l = l
+
+      uncast : (f : Name) (r : ArrayRef) (b : Bool) → (z.has f).casts (Array r) ≡ b → (z.has f).casts (Array r) ≡ false
+      uncast f r true l = no_cast f r (can.casts f (Array r) l)
+      uncast f r false l = l
+
+      no_arrays_here : (f : Name) → NoArrays (z.has f)
+      no_arrays_here f = record {
+        made = uncovered f helpers.MakeArray refl _ refl;
+        given = uncovered f helpers.ArrayClass refl _ refl;
+        got = uncovered f helpers.Get refl _ refl;
+        set = uncovered f helpers.Set refl _ refl;
+        put = uncovered f helpers.Put refl _ refl;
+        tested = λ r. untested f r _ refl;
+        cast = λ r. uncast f r _ refl;
+      }
+
       pub has_objects : HasObjects place
-      has_objects = record { linked = linked_here; received = runs_here; targets = target_here; looked = looked_here; reflected = reflected_here; built = constructs_here; made = made_here; lives = can.made; objects = object_here; field = field_here; statics = static_here; cells = cell_here; stores = store_here; loads = load_here; checked = check_here; divided = divided_here; boxes = box_here; tested = tested_here; cast = cast_here; compared = compared_here; each = omega arith; beyond = omega arith }
+      has_objects = record { linked = linked_here; received = runs_here; targets = target_here; looked = looked_here; reflected = reflected_here; built = constructs_here; made = made_here; lives = can.made; objects = object_here; field = field_here; statics = static_here; cells = cell_here; stores = store_here; loads = load_here; checked = check_here; divided = divided_here; boxes = box_here; tested = tested_here; cast = cast_here; compared = compared_here; no_arrays = no_arrays_here; each = omega arith; beyond = omega arith }
 
     -- the state behind the declarations
     module _ (t : js.State) (hold : AllHold z.program t 0 (all_items z)) (made : (a : ℕ) (y : js.Stored) → slice_get t.heap a ≡ Some y → OfPlaced (all_items z) y) where
@@ -505,7 +541,7 @@ module _ (z : Spread) where
 
       -- nothing is made, and what stands on the heap is the emitted code's own
       abbrev pub begun : World
-      begun = record { place = λ i. None; classes = λ i. None; owned = λ a. slice_get t.heap a; pending = λ a. None; boxes = box_link place ∷ [] }
+      begun = record { place = λ i. None; classes = λ i. None; arrays = λ i. None; owned = λ a. slice_get t.heap a; pending = λ a. None; boxes = box_link place ∷ [] }
 
       none_there : {A : Type 0} (o : A) → None ≡ Some o → ⊥
       none_there o e = cc
@@ -513,6 +549,10 @@ module _ (z : Spread) where
       heaps_begin : SameHeap place begun [] t.heap
       heaps_begin = record {
         objects = λ i a e. absurd (none_there a e);
+        arrays = λ i k e. absurd (none_there k e);
+        items_differ = λ i j k l e g h. absurd (none_there k e);
+        items_apart = λ i k o e g. none_there k e;
+        items_born = λ i k o e g. none_there k e;
         differ = λ i j a e g. absurd (none_there a e);
         owned = λ a o e. e;
         pending = λ a o e. absurd (none_there o e);
@@ -578,7 +618,7 @@ module _ (z : Spread) where
       top_held f (a_reflection m) l = let d = can.reflected f m l in (held_in (z.home (a_reflection m)) (reflective_item m (units_of (spelled_method m)) d.cases) d.function).1
       top_held f (a_constructor m) l = let d = (can.built f m l).0 in (held_in (z.home (a_constructor m)) (member_item d) d.function).1
       top_held f (a_class c) l = let k = can.live f c l in class_held c k.above k.classes ∙ ap (λ cs. js.holds false (js.class (map (link_of place) cs))) (sym k.chain)
-      top_held f (some_constants c) l = let k = can.live f c l in first_constants c k.above k.classes
+      top_held f (some_constants c) l = let k = can.live f c (live_alone ((z.has f).live c) ((z.has f).bases c) (can.bases f c) l) in first_constants c k.above k.classes
       top_held f (a_static c g k) l = tt
       top_held f (a_setter c g k) l = let its = can.static_field f c g k (set_static (z.has f) c g k l) in (held_in (z.home (a_setter c g k)) (setter (setter_name c g) (static_name c g)) (subst (λ n. Stands z (a_setter c g k) (setter (setter_name c n) (static_name c n))) its.field.named its.setter)).1
       top_held f (a_cell c) l = tt

@@ -50,6 +50,7 @@ use Rattle.sj_world.specs.Known.{is_same}
 use Rattle.sj_world.specs.Subtypes.{equal}
 use Rattle.sj_world.specs.Tables.{AreAncestors}
 use Rattle.typing_rules.specs.Rules.{nothing_wanted, fitting, HasFieldType}
+use Rattle.declared_files.proofs.Place.{live_alone}
 use Rattle.declared_files.specs.Declared.{Leads, Stands, Makes, Uses, FunctionDeclared, ClassDeclared, extends_none, extends_one, MadeDeclared, StaticDeclared, StoreDeclared, LoadDeclared, LookupDeclared, TellsApart, ReflectionDeclared, Declared, IsAmong, IsPublic, IsLawful, all_items, TestDeclared, CastDeclared, AreConstants}
 use Rattle.declared_files.specs.Placed.{Placed, placed}
 use Rattle.declared_files.specs.Worked.{object_constants, object_class, its_constants, its_class, init_function, get_function, main_function, main_file, class_file, object_file, main_use, class_use, use_of, three_files, spread}
@@ -131,19 +132,19 @@ main_rules : KeepsRules object_world main_use object_name main_method gets
 main_rules = record { typed = (record { meets = (tt, refl, equal refl, tt); built = refl; finds = tt }, (record { meets = (refl, tt); built = refl; finds = tt }, tt), tt); yields = nothing_wanted refl; boxed = refl; result = inl refl; values = λ x p e. impossible (cc); once = record { once = (tt, tt, λ x o i. i); parameters = tt; fresh = λ x o i. i } }
 
 abbrev main_right : RightMember object_world main_use main_member
-main_right = record { definition = main_method; its_body = gets; found = refl; has_body = refl; rules = main_rules; parameters = tt; result_is = refl }
+main_right = record { definition = main_method; its_body = gets; found = refl; has_body = refl; rules = main_rules; names = record { once = tt; fresh = λ x n i. n }; parameters = tt; result_is = refl }
 
 get_rules : KeepsRules object_world class_use class_name get_method gets_field
 get_rules = record { typed = (record { meets = (equal refl, field_type); built = refl; finds = tt }, record { meets = tt; built = refl; finds = (tt, refl) }); yields = fitting (equal refl); boxed = refl; result = inr refl; values = λ x p e. impossible (cc); once = record { once = tt; parameters = tt; fresh = λ x o i. i } }
 
 abbrev get_right : RightMember object_world class_use (member class_name Private get_name)
-get_right = record { definition = get_method; its_body = gets_field; found = refl; has_body = refl; rules = get_rules; parameters = tt; result_is = refl }
+get_right = record { definition = get_method; its_body = gets_field; found = refl; has_body = refl; rules = get_rules; names = record { once = tt; fresh = λ x n i. n }; parameters = tt; result_is = refl }
 
 init_rules : KeepsRules object_world class_use class_name init_method (skip nowhere)
 init_rules = record { typed = record { meets = tt; built = refl; finds = tt }; yields = nothing_wanted refl; boxed = refl; result = inl refl; values = λ x p e. impossible (cc); once = record { once = tt; parameters = tt; fresh = λ x o i. i } }
 
 abbrev init_right : RightMember object_world class_use (member class_name Constructor init_name)
-init_right = record { definition = init_method; its_body = skip nowhere; found = refl; has_body = refl; rules = init_rules; parameters = tt; result_is = refl }
+init_right = record { definition = init_method; its_body = skip nowhere; found = refl; has_body = refl; rules = init_rules; names = record { once = tt; fresh = λ x n i. n }; parameters = tt; result_is = refl }
 
 -- where each item stands
 stands_at : (ls : List Placed) (n : ℕ) (l : Placed) → slice_get ls n ≡ Some l → Contains ls l
@@ -311,6 +312,7 @@ all_declared = record {
   dispatched = by_file (λ f u. (m : MethodName) → u.dispatched m ≡ true → TellsApart spread m) (λ m h. impossible h) (λ m h. impossible h) (λ f m h. impossible h);
   built = by_file (λ f u. (m : Member) → u.built m ≡ true → Completes m) (λ m h. subst Completes (sym (member-same m (member class_name Constructor init_name) h)) (init_declared, refl)) (λ m h. impossible h) (λ f m h. impossible h);
   live = by_file (λ f u. (c : Name) → u.live c ≡ true → MadeDeclared spread c) (λ c h. main_makes c (is-equal class_name c h)) (λ c h. class_makes c (is-equal object_name c h)) (λ f c h. impossible h);
+  bases = by_file (λ f u. (c : Name) → u.bases c ≡ false) (λ c. refl) (λ c. refl) (λ f c. refl);
   made = by_file (λ f u. (c : Name) → u.made c ≡ true → u.live c ≡ true) (λ c h. h) (λ c h. h) (λ f c h. impossible h);
   field = by_file (λ f u. (c g : Name) (t : IrType) → u.field c g t ≡ true → IsField object_world c g t) (λ c g t h. impossible h) (λ c g t h. field_declared c g t (field_is c g t h)) (λ f c g t h. impossible h);
   static_field = by_file (λ f u. (c g : Name) (t : IrType) → has_static u c g t ≡ true → StaticDeclared spread c g t) (λ c g t h. impossible h) (λ c g t h. impossible h) (λ f c g t h. impossible h);
@@ -335,7 +337,7 @@ main_among (a_dispatch m) h = impossible h
 main_among (a_reflection m) h = impossible h
 main_among (a_constructor m) h = h
 main_among (a_class c) h = subst (λ k. object_use.live k ≡ true) (is-equal class_name c h) refl
-main_among (some_constants c) h = subst (λ k. object_use.live k ≡ true) (is-equal class_name c h) refl
+main_among (some_constants c) h = subst (λ k. is_usable object_use (some_constants k) ≡ true) (is-equal class_name c (live_alone (main_use.live c) false refl h)) refl
 main_among (a_static c g t) h = impossible h
 main_among (a_setter c g t) h = impossible h
 main_among (a_cell c) h = impossible h
@@ -352,7 +354,7 @@ class_among (a_dispatch m) h = impossible h
 class_among (a_reflection m) h = impossible h
 class_among (a_constructor m) h = impossible h
 class_among (a_class c) h = subst (λ k. object_use.live k ≡ true) (is-equal object_name c h) refl
-class_among (some_constants c) h = subst (λ k. object_use.live k ≡ true) (is-equal object_name c h) refl
+class_among (some_constants c) h = subst (λ k. is_usable object_use (some_constants k) ≡ true) (is-equal object_name c (live_alone (class_use.live c) false refl h)) refl
 class_among (a_static c g t) h = impossible h
 class_among (a_setter c g t) h = impossible h
 class_among (a_cell c) h = impossible h

@@ -284,7 +284,7 @@ pub record AreConstants (w : World) (ps : List Property) : Type 0 where
   pub above : AreAncestors w class ancestors
 
 -- all that the code of some file can use is declared, and its file leads to what it names: each member as it runs, and each method that can be looked up, each reflective name by which receivers can be called, a constructor without a value; each class whose
--- code it has, among them each that is made; each field and each static field; each class whose one object can be loaded or stored; tests and casts; and each helper, whose file can use those that it uses, and that of
+-- code it has, among them each that is made; each field and each static field; each class whose one object can be loaded or stored; no class as the base of arrays; tests and casts; and each helper, whose file can use those that it uses, and that of
 -- a failure the exception of it. Each object that is declared is the constants of a class
 pub record Declared (z : Spread) : Type 0 where
   pub leads : (f : Name) (t : Top) → is_named (z.has f) t ≡ true → Leads z f t
@@ -296,6 +296,7 @@ pub record Declared (z : Spread) : Type 0 where
   pub built : (f : Name) (m : MemberName) → (z.has f).built m ≡ true → (b : FunctionDeclared z (a_constructor m) completing m) × (b.right.definition.result ≡ NoType)
   pub live : (f c : Name) → (z.has f).live c ≡ true → MadeDeclared z c
   pub made : (f c : Name) → (z.has f).made c ≡ true → (z.has f).live c ≡ true
+  pub bases : (f c : Name) → (z.has f).bases c ≡ false
   pub field : (f c g : Name) (t : IrType) → (z.has f).field c g t ≡ true → IsField z.classes c g t
   pub static_field : (f c g : Name) (t : IrType) → has_static (z.has f) c g t ≡ true → StaticDeclared z c g t
   pub stored : (f c : Name) → has_cell (z.has f) c ≡ true → StoreDeclared z c

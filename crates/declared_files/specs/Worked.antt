@@ -108,6 +108,8 @@ main_use = record {
   stored = λ c. false;
   tests = λ t. false;
   casts = λ t. false;
+  bases = λ c. false;
+  on_arrays = λ m. false;
   helper = λ x. false;
   objects = true;
 }
@@ -130,6 +132,8 @@ class_use = record {
   stored = λ c. false;
   tests = λ t. false;
   casts = λ t. false;
+  bases = λ c. false;
+  on_arrays = λ m. false;
   helper = λ x. false;
   objects = true;
 }

@@ -2,13 +2,13 @@
 use Rattle.std.proofs.Common.{◌≡◌, ◌⊎◌, ◌++◌, inl, inr, Bool, true, false, List, [], ◌∷◌, Option, Some, None, map, refl, sym, subst, Contains, if◌then◌else◌}
 use Rattle.std.specs.List.{filter}
 use Rattle.std.proofs.lemmas.List.Elements.{Contains-append_cases}
-use Rattle.helper_rules.specs.Helpers.{Above, helper_name, helper_item, helper_piece}
+use Rattle.helper_rules.specs.Helpers.{Above, helper_name, helper_item}
 use Rattle.helper_rules.specs.Words.{entry_name}
 use Rattle.helper_rules.specs.declared.kinds.Failure.{Failure}
 use Rattle.helper_rules.specs.declared.kinds.Failure.TheVariants as failures
 use Rattle.helper_rules.specs.declared.kinds.Helper.{Helper}
 use Rattle.helper_rules.specs.declared.kinds.Helper.TheVariants as helpers
-use Rattle.js_mean.specs.Classes.{method_among, method_in, members_among, members_in, members_of}
+use Rattle.js_mean.specs.Classes.{method_in, members_among, members_in, members_of}
 use Rattle.js_mean.specs.Files.{module_among}
 use Rattle.js_mean.specs.Meaning.{Code}
 use Rattle.js_tree.specs.Terms.{Name, Item, class_item, subclass_item, Piece}
@@ -18,7 +18,7 @@ use Rattle.sj_split.specs.Modules.{file}
 use Rattle.module_uses.proofs.Places.{Stands, own, method, helps, tells, names, stands}
 use Rattle.module_uses.specs.Emitted.{EmittedMethod}
 use Rattle.module_uses.specs.Files.{program_of, source_of}
-use Rattle.module_uses.specs.LinkedPiecesPieces.{piece_of_member, AreLinkedPieces}
+use Rattle.module_uses.specs.LinkedPiecesPieces.{AreLinkedPieces}
 use Rattle.module_uses.specs.Pieces.{Parts, pieces, class_piece}
 use Rattle.module_uses.proofs.Each.{each_own}
 use Rattle.sj_names.specs.Same.{is_same_text}

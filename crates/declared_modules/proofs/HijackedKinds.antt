@@ -1,5 +1,5 @@
 -- The kind of a hijacked class, and that a class without one isn't hijacked.
-use Rattle.std.proofs.Common.{◌≡◌, Bool, true, false, List, [], ◌∷◌, Option, Some, None, refl, ap, subst, ◌∙◌, ◌||◌, map, cond}
+use Rattle.std.proofs.Common.{◌≡◌, Bool, true, false, List, [], ◌∷◌, Some, None, refl, ap, subst, ◌∙◌, ◌||◌, map, cond}
 use Rattle.std.specs.List.{list_any}
 use Rattle.module_uses.specs.Pieces.{kind_of_class}
 use Rattle.helper_rules.specs.Words.{kind_class, all_kinds}

@@ -131,7 +131,7 @@ named_used has uses tests casts (a_dispatch m) h = (and_parts (uses (binding_of 
 named_used has uses tests casts (a_reflection m) h = (and_parts (uses (binding_of (a_reflection m))) true (and_parts (has.reflected m) (list_all uses (call_uses has.lookup (callees.Reflective m))) h).1).0
 named_used has uses tests casts (a_constructor m) h = (and_parts (has.built m) (uses (function_binding m)) h).1
 named_used has uses tests casts (a_class c) h = (and_parts (has.live c) (uses (class_use c)) h).1
-named_used has uses tests casts (some_constants c) h = impossible h
+named_used has uses tests casts (some_constants c) h = (and_parts (uses (binding_of (some_constants c))) true (and_parts (has.bases c) (uses (binding_of (some_constants c)) && true) h).1).0
 named_used has uses tests casts (a_static c f t) h = (and_parts (has.static_field c f t) (uses (static_use c f)) h).1
 named_used has uses tests casts (a_setter c f t) h = (and_parts (has.static_setter c f t) (uses (setter_use c f)) h).1
 named_used has uses tests casts (a_cell c) h = impossible h
@@ -721,6 +721,7 @@ modules_declare entries files l all live written modules ps front last declared 
   reflected = reflection_declared entries files l all live written modules ps front last declared bytes a bodies p are are_live run owned covered together whole stand marks;
   built = built_declared entries files l all live written modules ps front last declared bytes a bodies p are are_live run owned covered together whole stand marks;
   live = class_made entries files l all live written modules ps front last declared bytes a bodies p are are_live run owned covered together whole stand marks;
+  bases = λ f c. refl;
   made = λ f c h. let q = and_parts ((used_of l.world l.facts all live p.helpers written).made c) (uses_in modules ps f (class_use c)) h in and_from ((used_of l.world l.facts all live p.helpers written).live c) (uses_in modules ps f (class_use c)) (made_is_live entries files l all live written ps bytes a bodies p are are_live run owned c q.0) q.1;
   field = λ f. field_there l.world;
   static_field = static_declared entries files l all live written modules ps front last declared bytes a bodies p are are_live run owned covered together whole stand marks;

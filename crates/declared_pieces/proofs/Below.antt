@@ -1,5 +1,5 @@
 -- Which classes of values stand at or below a class that isn't hijacked.
-use Rattle.std.proofs.Common.{◌≡◌, ◌⊎◌, Bool, true, false, List, [], ◌∷◌, ◌||◌, inl, inr, Option, Some, None, codes, refl, sym, ap, subst, ◌∙◌, Contains, if◌then◌else◌}
+use Rattle.std.proofs.Common.{◌≡◌, ◌⊎◌, Bool, true, false, [], ◌∷◌, ◌||◌, inl, inr, Option, Some, None, codes, refl, sym, ap, subst, ◌∙◌, Contains, if◌then◌else◌}
 use Rattle.std.specs.Prelude.{is_some}
 use Rattle.std.specs.List.{filter, list_any}
 use Rattle.std.proofs.lemmas.Bool.{or_cases, or_right}

@@ -12,9 +12,8 @@ use Rattle.file_declarations.specs.Classes.{AreClassPieces, AreParts, absent, pr
 use Rattle.file_declarations.specs.Pieces.{Parts, pieces}
 use Rattle.sj_names.specs.WellKnown.{is_object, object}
 use Rattle.object_helpers.specs.Emitted.{EmittedMethod}
-use Rattle.sj_split.proofs.Members.{at_first, further, cons_cases, into_map, into_filter}
+use Rattle.sj_split.proofs.Members.{at_first, further, cons_cases, into_map}
 use Rattle.sj_trees.specs.declared.classes.ClassDef.{ClassDef}
-use Rattle.sj_world.proofs.OnCycles.{among}
 use Rattle.sj_world.specs.Known.{Classes, class_of}
 use Rattle.sj_world.specs.Linked.{Linked}
 use Rattle.worklist.proofs.Inserted.{nothing_in}

@@ -5,10 +5,9 @@ use Rattle.std.specs.Prelude.{is_none}
 use Rattle.std.proofs.lemmas.Bool.{and_parts, or_left, or_right}
 use Rattle.std.proofs.lemmas.List.Folds.{Any-from_list_any, list_any_at}
 use Rattle.declared_pieces.proofs.Blocks.{OwnPieces, own_pieces}
-use Rattle.declared_pieces.proofs.Forms.{InOne, in_one, body_tells, load_form, store_form, store_is}
+use Rattle.declared_pieces.proofs.Forms.{in_one, body_tells, load_form, store_form, store_is}
 use Rattle.declared_pieces.proofs.Live.{classes_kept}
 use Rattle.declared_pieces.proofs.Parts.{cell_among, cell_there, storer_there, loader_there}
-use Rattle.file_declarations.specs.Classes.{HasForm}
 use Rattle.file_declarations.specs.Pieces.{cell_piece, load_piece, store_piece}
 use Rattle.file_listings.specs.Listed.{AreBytes}
 use Rattle.js_tree.specs.Terms.{Piece}
@@ -45,7 +44,6 @@ use Rattle.sj_trees.specs.declared.types.IrType.{IrType}
 use Rattle.sj_world.proofs.OnCycles.{among}
 use Rattle.sj_world.specs.Known.{Name, Classes, class_of}
 use Rattle.sj_world.specs.Linked.{Linked}
-use Rattle.sj_world.specs.declared.facts.Fact.{Fact}
 use Rattle.sj_world.specs.declared.facts.Fact.TheVariants.{Needed, Body}
 use Rattle.worklist.proofs.Inserted.{nothing_in, only_one}
 

@@ -48,6 +48,7 @@ pub use Rattle.object_helpers.proofs.Bodies
 pub use Rattle.object_helpers.proofs.Brought
 pub use Rattle.object_helpers.proofs.Pieces
 pub use Rattle.object_helpers.proofs.WrittenTrees
+pub use Rattle.object_helpers.proofs.WithoutArrays
 pub use Rattle.object_helpers.proofs.Resolves
 pub use Rattle.object_helpers.proofs.Boxes
 pub use Rattle.file_declarations.proofs.Markers

@@ -1,11 +1,11 @@
 -- Methods that are looked up, where the pieces of some classes are written: where objects find them, and the function that tells primitive receivers apart.
-use Rattle.std.proofs.Common.{arith, ◌≡◌, ◌⊎◌, codes, length, Bool, true, false, not, List, [], ◌∷◌, ◌++◌, map, inl, inr, Option, Some, None, refl, sym, ap, subst, ◌∙◌, Contains, reverse}
-use Rattle.std.specs.Prelude.{if◌then◌else◌, is_none, ◌↔◌, ◌≢◌, is_some, ◌||◌, ◌&&◌}
-use Rattle.std.specs.List.{filter, flat_map, list_all, list_any}
-use Rattle.std.proofs.lemmas.Bool.{and_parts, and_from, or_cases}
+use Rattle.std.proofs.Common.{arith, ◌≡◌, codes, length, Bool, true, false, List, [], ◌∷◌, ◌++◌, inl, inr, Option, Some, None, refl, sym, ap, subst, ◌∙◌, Contains}
+use Rattle.std.specs.Prelude.{if◌then◌else◌, is_none, ◌↔◌, ◌≢◌}
+use Rattle.std.specs.List.{flat_map, list_all, list_any}
+use Rattle.std.proofs.lemmas.Bool.{and_parts}
 use Rattle.std.proofs.lemmas.List.Elements.{Contains-append_left, Contains-append_right, Contains-push_cases}
 use Rattle.std.proofs.lemmas.List.Folds.{Any-from_list_any}
-use Rattle.declared_pieces.proofs.Below.{stands_above, above_found, class_below, known_class, kind_hijacked, ToldBelow}
+use Rattle.declared_pieces.proofs.Below.{known_class, kind_hijacked}
 use Rattle.object_helpers.proofs.Proxies.{proxy_below, proxy_right, proxy_params, proxy_resolves}
 use Rattle.declared_pieces.proofs.Blocks.{OwnPieces, own_pieces, method_there, told_there, method_in_blocks}
 use Rattle.declared_pieces.proofs.Chains.{Stands, Chained, whole_chain}
@@ -20,7 +20,7 @@ use Rattle.declared_pieces.specs.Laws.{ClassThere, EntryThere, has_entry, has_no
 use Rattle.class_code.proofs.Members.{AreOwn, no_proxy, no_member, some_member, target_of_entry}
 use Rattle.entry_search.proofs.Found.{entry_found, search_finds_target}
 use Rattle.file_declarations.specs.ClassTestsKinds.{is_told}
-use Rattle.file_declarations.specs.Dispatch.{Told, AreTold, told_none, told, untold, IsReachedTarget, IsDispatchPiece, dispatch_piece, dispatch_name, told_uses, Reflected, reflected_uses, reflective_piece, reflective_name}
+use Rattle.file_declarations.specs.Dispatch.{Told, AreTold, told_none, told, untold, IsReachedTarget, dispatch_piece, dispatch_name, told_uses, Reflected, reflected_uses, reflective_piece, reflective_name}
 use Rattle.entry_search.specs.Search.{or_member, entry_for, found, IsChainTo, ends, goes}
 use Rattle.entry_search.specs.Laws.{AreSpelled}
 use Rattle.file_declarations.specs.Looked.{HasCase}
@@ -33,14 +33,14 @@ use Rattle.helper_rules.specs.declared.kinds.Helper.TheVariants.{BoxedChar, Test
 use Rattle.helper_rules.specs.declared.kinds.Failure.TheVariants.{Method}
 use Rattle.helper_rules.specs.declared.kinds.Kind.{Kind}
 use Rattle.helper_rules.specs.declared.kinds.Kind.TheVariants as kinds
-use Rattle.ir_mean.specs.Dispatch.{chain_of, is_ancestor, resolved, proxy_target}
+use Rattle.ir_mean.specs.Dispatch.{chain_of, proxy_target}
 use Rattle.js_tree.specs.Terms.{Piece}
 use Rattle.js_tree.specs.declared.items.Binding.{Binding}
 use Rattle.js_mean.specs.Proper.{are_distinct}
 use Rattle.object_helpers.proofs.Apart.{parameters_distinct, behind_receiver}
 use Rattle.object_helpers.proofs.Defined.{last}
 use Rattle.object_helpers.proofs.Derivations.{closed}
-use Rattle.object_helpers.proofs.Facts.{called_known, some_call_known}
+use Rattle.object_helpers.proofs.Facts.{some_call_known}
 use Rattle.object_helpers.proofs.Made as made
 use Rattle.object_helpers.proofs.Members.{defined}
 use Rattle.object_helpers.proofs.Calls.{needed}
@@ -53,18 +53,17 @@ use Rattle.object_helpers.proofs.WorkedOut.{targets_are_worked_out}
 use Rattle.object_helpers.proofs.EachTyped.{in_all}
 use Rattle.object_helpers.specs.Accepted.{IsAccepted}
 use Rattle.object_helpers.specs.Bodies.{AreBodies}
-use Rattle.object_helpers.specs.Dispatched.{IsDispatched, HasDispatchPiece}
 use Rattle.object_helpers.specs.Emitted.{EmittedMethod}
-use Rattle.object_helpers.specs.Entries.{AreEntries, IsLive, IsTarget, IsWanted, IsReflective, IsProxy, proxy}
+use Rattle.object_helpers.specs.Entries.{AreEntries, IsLive, IsTarget, IsReflective, IsProxy, proxy}
 use Rattle.object_helpers.specs.Pieces.{piece_of_member, pieces_of_block, AreLinkedPieces, by_piece}
 use Rattle.object_helpers.specs.Reachable.{Reachable}
 use Rattle.object_helpers.specs.Refusals.{abstract_target, no_dispatched_body, no_dispatched_method, no_reflective_body}
-use Rattle.object_helpers.specs.Rules.{IsCalledOn, on_made, on_hijacked, Rule, call, reflective, reflective_hijacked, dispatched, public_member, the_object, Reads}
+use Rattle.object_helpers.specs.Rules.{IsCalledOn, on_made, Rule, call, reflective, reflective_hijacked, dispatched, public_member, the_object, Reads}
 use Rattle.object_helpers.specs.Targets.{IsTargetOf, at_owner}
-use Rattle.object_helpers.specs.Used.{calls_on, calls, uses_dispatch, tells_apart, is_among, is_reflective, is_called_by, uses_reflective, calls_by_name}
+use Rattle.object_helpers.specs.Used.{calls, uses_dispatch, tells_apart, is_among, is_reflective, is_called_by, uses_reflective, calls_by_name}
 use Rattle.object_helpers.specs.Worlds.{AreClassesKept}
 use Rattle.sj_emit_expr.specs.Templates.{member_name}
-use Rattle.sj_emit_expr.specs.Uses.{once_each, is_same_binding}
+use Rattle.sj_emit_expr.specs.Uses.{is_same_binding}
 use Rattle.sj_names.proofs.Same.{impossible, text-same, text-refl, method-same}
 use Rattle.sj_infos.specs.Forms.{forms_in, forms_by_body}
 use Rattle.sj_infos.specs.declared.forms.BodyForm.{BodyForm}
@@ -80,13 +79,11 @@ use Rattle.sj_names.specs.declared.entry_points.EntryPoint.{EntryPoint}
 use Rattle.sj_names.specs.declared.folders.SourceFile.{SourceFile}
 use Rattle.sj_names.specs.declared.method_names.Member.{Member}
 use Rattle.sj_names.specs.declared.method_names.MethodName.{MethodName}
-use Rattle.sj_names.specs.declared.method_names.Namespace.TheVariants.{Public}
 use Rattle.sj_names.specs.declared.references.TypeRef.{TypeRef}
 use Rattle.sj_split.proofs.Members.{at_first, further, cons_cases, into_filter, from_filter}
-use Rattle.sj_trees.specs.declared.classes.ClassDef.{ClassDef}
 use Rattle.sj_world.proofs.OnCycles.{among}
 use Rattle.sj_world.specs.Ancestors.{IsAncestor, IsNext, IsOnChain, by_path}
-use Rattle.sj_world.specs.Known.{Name, Classes, class_of, is_known, is_hijacked, is_same}
+use Rattle.sj_world.specs.Known.{Name, Classes, is_known, is_hijacked, is_same}
 use Rattle.sj_world.specs.Linked.{Linked}
 use Rattle.sj_world.specs.Paths.{stay, on as on_path}
 use Rattle.sj_world.specs.Resolution.{Answer, target, abstract, missing, Resolves}

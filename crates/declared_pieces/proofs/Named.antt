@@ -1,5 +1,5 @@
 -- The names by which the bodies of an accepted folder call are in their grammar.
-use Rattle.std.proofs.Common.{◌≡◌, ℕ, codes, Bool, true, false, List, [], ◌∷◌, ◌++◌, Option, Some, None, refl, sym, ap, subst, Contains, if◌then◌else◌}
+use Rattle.std.proofs.Common.{◌≡◌, ℕ, codes, Bool, true, false, List, [], ◌∷◌, ◌++◌, Option, Some, None, refl, sym, subst, Contains, if◌then◌else◌}
 use Rattle.std.specs.Prelude.{MatchOption, is_none, is_some, ◌≢◌, not, ◌&&◌}
 use Rattle.std.specs.List.{All, flat_map}
 use Rattle.std.proofs.lemmas.List.Elements.{All-nil, All-cons, All-head, All-tail, All-contains}
@@ -11,13 +11,13 @@ use Rattle.object_helpers.specs.Rules.{Reads, Rule, call, reflective}
 use Rattle.object_helpers.proofs.Classes.{result-keeps}
 use Rattle.object_helpers.proofs.Defined.{last}
 use Rattle.object_helpers.proofs.Plain.{class_found}
-use Rattle.object_helpers.proofs.EntryTargets.{IsDefinedIn, IsMethodsName, target_named, proxy_reached}
+use Rattle.object_helpers.proofs.EntryTargets.{IsMethodsName, target_named, proxy_reached}
 use Rattle.object_helpers.proofs.Worlds.{judged}
 use Rattle.file_listings.proofs.ListedClasses.{file_is_listed}
 use Rattle.file_listings.specs.Listed.{AreBytes}
 use Rattle.listing_spelling.specs.Rules.{HasListing, IsListedMethod, IsListedTree, AreListedTrees, AreListedCases}
 use Rattle.sj_infos.specs.Forms.{form_of, of_base, of_test, of_cast, forms_by_body}
-use Rattle.sj_infos.specs.Infos.{null_pointer, arithmetic, class_cast, index_out_of_bounds, array_store, negative_size, no_such_method, of_receiver, of_call, of_apply, of_member, of_static_call, is_other_than_zero, divides, of_division, of_base as asked_of_base, of_array, of_type, is_any, of_cast as asked_of_cast, of_element, of_store, asks, asked_by_body}
+use Rattle.sj_infos.specs.Infos.{null_pointer, arithmetic, class_cast, index_out_of_bounds, array_store, negative_size, no_such_method, of_receiver, of_call, of_apply, of_member, of_static_call, is_other_than_zero, divides, of_base as asked_of_base, of_array, of_type, is_any, of_store, asks, asked_by_body}
 use Rattle.sj_infos.specs.Sure.{is_primitive}
 use Rattle.sj_infos.specs.Sure.{is_sure, sure_among}
 use Rattle.sj_infos.specs.Trees.{trees, below, all_below, cases_below}
@@ -35,14 +35,14 @@ use Rattle.sj_names.specs.declared.method_names.Namespace.{Namespace}
 use Rattle.sj_names.specs.declared.method_names.Namespace.TheVariants.{Public}
 use Rattle.sj_names.specs.declared.references.BaseRef.{BaseRef}
 use Rattle.sj_names.specs.declared.references.TypeRef.{TypeRef}
-use Rattle.sj_trees.specs.Term.{Term, Terms, no_terms, more_terms, Cases, no_cases, more_cases, var_def, skip, block_of, labeled, assign, return_to, if_then, while_loop, do_while, try_catch, try_finally, throw, match_on, new_object, load_module, store_module, select, select_static, apply, apply_statically, apply_static, unary_op, binary_op, new_array, array_value, array_length, array_select, is_instance_of, as_instance_of, undefined_literal, null_literal, boolean_literal, char_literal, byte_literal, short_literal, int_literal, long_literal, string_literal, var_ref, this_ref, log_line}
+use Rattle.sj_trees.specs.Term.{Term, Terms, no_terms, more_terms, Cases, no_cases, more_cases, var_def, block_of, labeled, assign, return_to, if_then, while_loop, do_while, try_catch, try_finally, throw, match_on, new_object, load_module, store_module, select, select_static, apply, apply_statically, apply_static, unary_op, binary_op, new_array, array_value, array_length, array_select, is_instance_of, as_instance_of, log_line}
 use Rattle.sj_trees.specs.TypeOf.{type_of_term}
 use Rattle.sj_trees.specs.declared.classes.ClassDef.{ClassDef}
 use Rattle.sj_trees.specs.declared.classes.MethodDef.{MethodDef}
 use Rattle.sj_trees.specs.declared.types.IrType.{IrType}
 use Rattle.sj_world.proofs.Searches.{contains_at}
 use Rattle.sj_world.specs.Calls.{receiver_class}
-use Rattle.sj_world.specs.Known.{Name, Classes, class_of}
+use Rattle.sj_world.specs.Known.{Name, Classes}
 use Rattle.sj_world.specs.Members.{IsMethodOf}
 use Rattle.sj_world.specs.declared.facts.Fact.{Fact}
 use Rattle.sj_world.specs.declared.facts.Fact.TheVariants.{Called}

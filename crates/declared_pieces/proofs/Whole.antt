@@ -1,5 +1,5 @@
 -- What the code of the written classes can use has its pieces.
-use Rattle.std.proofs.Common.{◌≡◌, ◌&&◌, ◌||◌, not, Bool, true, false, List, [], ◌∷◌, inl, inr, Option, Some, None, IsTrue, codes, map, refl, sym, ap, subst, ◌∙◌}
+use Rattle.std.proofs.Common.{◌≡◌, ◌&&◌, ◌||◌, not, Bool, true, false, List, inl, inr, Option, Some, None, IsTrue, refl, sym, ap, subst, ◌∙◌}
 use Rattle.std.specs.Prelude.{◌↔◌}
 use Rattle.std.specs.List.{Contains, filter, flat_map, list_any}
 use Rattle.std.proofs.lemmas.Bool.{and_parts, and_from, or_cases, or_left, or_right}
@@ -11,12 +11,10 @@ use Rattle.object_helpers.specs.Accepted.{IsAccepted}
 use Rattle.object_helpers.specs.Bodies.{AreBodies}
 use Rattle.object_helpers.proofs.Plain.{class_found}
 use Rattle.object_helpers.specs.Standing.{call_type}
-use Rattle.object_helpers.proofs.Chains.{byte_not}
-use Rattle.object_helpers.specs.Built.{Usable, has_static, is_static, has_kind, has_no_value}
-use Rattle.file_declarations.proofs.Markers.{marked}
+use Rattle.object_helpers.specs.Built.{Usable, has_static, is_static, has_no_value}
 use Rattle.declared_pieces.proofs.Blocks.{OwnPieces, own_pieces, method_there, helper_there}
 use Rattle.declared_pieces.proofs.Chains.{Stands}
-use Rattle.declared_pieces.proofs.Fields.{field_there, static_there, class_named, fields_kept}
+use Rattle.declared_pieces.proofs.Fields.{static_there, class_named}
 use Rattle.declared_pieces.proofs.HelperNames.{one_helper}
 use Rattle.declared_pieces.proofs.Below.{stands_above}
 use Rattle.declared_pieces.proofs.Live.{classes_kept}
@@ -31,17 +29,16 @@ use Rattle.object_helpers.specs.Entries.{AreEntries, IsLive}
 use Rattle.object_helpers.specs.Targets.{has_hijacked_in}
 use Rattle.ir_mean.specs.Dispatch.{is_ancestor}
 use Rattle.file_listings.specs.Listed.{AreBytes}
-use Rattle.helper_rules.specs.Helpers.{helper_name, helper_item, helper_piece}
-use Rattle.helper_rules.specs.Words.{class_name, bound, all_kinds, helper}
+use Rattle.helper_rules.specs.Helpers.{helper_name, helper_piece}
+use Rattle.helper_rules.specs.Words.{all_kinds, helper}
 use Rattle.helper_rules.specs.declared.kinds.Helper.{Helper}
 use Rattle.helper_rules.specs.declared.kinds.Helper.TheVariants.{TestOf}
-use Rattle.js_tree.specs.Terms.{Item, Piece}
-use Rattle.object_helpers.specs.Pieces.{piece_of_member, pieces_of_block, by_piece, AreLinkedPieces}
+use Rattle.js_tree.specs.Terms.{Piece}
+use Rattle.object_helpers.specs.Pieces.{pieces_of_block, by_piece, AreLinkedPieces}
 use Rattle.object_helpers.proofs.Statics.{static_is}
-use Rattle.object_helpers.specs.Used.{used_of, makes, calls_on, tells_apart, is_among, is_received, is_constructor, is_constructor_without_value, has_static_in, needs_static, is_tested, is_cast}
+use Rattle.object_helpers.specs.Used.{used_of, makes, calls_on, tells_apart, is_among, is_received, is_constructor, has_static_in, needs_static, is_tested, is_cast}
 use Rattle.file_declarations.specs.Settings.{IsStaticField}
 use Rattle.object_helpers.proofs.Made as made
-use Rattle.object_helpers.proofs.ObjectFoldersMethods.{right_method}
 use Rattle.object_helpers.specs.Running.{CanRun}
 use Rattle.file_declarations.specs.Classes.{AreSorted, is_own, HasForm}
 use Rattle.file_declarations.specs.Pieces.{Parts, constants_piece, class_piece, all_statics, variable_piece, setter_piece, test_piece, test_uses, kind_of_class, cast_piece}
@@ -63,17 +60,14 @@ use Rattle.sj_names.specs.declared.references.TypeRef.TheVariants as References
 use Rattle.object_helpers.specs.Emitted.{EmittedMethod}
 use Rattle.object_helpers.proofs.Same.{has_function-is}
 use Rattle.object_helpers.specs.Linked.{has_function}
-use Rattle.sj_emit_expr.specs.Tests.{test_name}
 use Rattle.sj_split.proofs.Members.{into_filter, from_filter}
 use Rattle.sj_trees.specs.declared.classes.FieldDef.{FieldDef}
 use Rattle.sj_trees.specs.declared.classes.ClassDef.{ClassDef}
 use Rattle.sj_trees.specs.declared.types.IrType.{IrType}
 use Rattle.sj_trees.specs.declared.types.IrType.TheVariants.{NoType}
 use Rattle.sj_world.proofs.OnCycles.{among}
-use Rattle.sj_world.specs.Ancestors.{IsNext}
 use Rattle.sj_world.specs.Known.{Name, Classes, class_of, is_hijacked}
 use Rattle.sj_world.specs.Linked.{Linked}
-use Rattle.sj_world.specs.Members.{IsMethodOf}
 use Rattle.sj_world.specs.declared.facts.Fact.{Fact}
 use Rattle.sj_world.specs.declared.facts.Fact.TheVariants.{Needed as NeededClass, NeededField, Body}
 use Rattle.sj_infos.specs.declared.forms.BodyForm.TheVariants as forms

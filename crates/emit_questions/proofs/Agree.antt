@@ -7,17 +7,18 @@ use Rattle.js_tree.specs.declared.operators.HostFunction.TheVariants.{StringFrom
 use Rattle.sj_emit_expr.specs.Lookup.{Lookup}
 use Rattle.sj_emit_expr.specs.Callee.{Callee}
 use Rattle.sj_emit_expr.specs.CalleeVariants as callees
-use Rattle.sj_emit_expr.specs.Terms.{Expression, boxed_char, char_text, value_text, choice_of, static_call, field_of, checked_value, made_of, receiver_call, test_of, cast_of, unary_of, binary_of, Expressions, no_expressions, expression, Statement, constant_of, define_of, declare_of, assign_to, evaluate_of, return_of, log_of, assign_field, assign_static, store_module_of, throw_of, leave_label, break_nearest, if_of, while_of, loop_of, labeled_of, switch_of, try_of, finally_of, Statements, no_statements, statement, Cases, no_cases, switch_case, Method}
+use Rattle.sj_emit_expr.specs.Terms.{Expression, boxed_char, char_text, value_text, choice_of, static_call, field_of, checked_value, made_of, receiver_call, test_of, cast_of, new_array_of, array_of, length_of, element_of, unary_of, binary_of, Expressions, no_expressions, expression, Statement, constant_of, define_of, declare_of, assign_to, evaluate_of, return_of, log_of, assign_field, assign_static, assign_element, store_module_of, throw_of, leave_label, break_nearest, if_of, while_of, loop_of, labeled_of, switch_of, try_of, finally_of, Statements, no_statements, statement, Cases, no_cases, switch_case, Method}
 use Rattle.sj_emit_expr.specs.Members.{function_parameters}
 use Rattle.sj_emit_expr.specs.Names.{variable_name, label_name}
-use Rattle.sj_emit_expr.specs.Templates.{called_member, looked_up_template, call_template, as_text, unary_template, binary_template, is_nonzero_literal, member_name, class_name, property_name, setter_name, store_name, check_name, choice_template, expression_template, expression_templates, statement_template, statement_templates, case_templates}
-use Rattle.sj_emit_expr.specs.Tests.{test_template, cast_template}
-use Rattle.sj_emit_expr.specs.Uses.{looked_up_uses, call_uses, object_binding, function_binding, class_use, setter_use, store_use, helper_of, test_uses, cast_uses, uses_in, uses_in_all, uses_of, uses_of_all, uses_of_cases, once_each}
+use Rattle.sj_emit_expr.specs.Templates.{called_member, looked_up_template, call_template, as_text, unary_template, binary_template, is_nonzero_literal, member_name, class_name, property_name, setter_name, store_name, check_name, zero_template, element_setter, choice_template, expression_template, expression_templates, statement_template, statement_templates, case_templates}
+use Rattle.sj_emit_expr.specs.Tests.{of_array, test_template, cast_template}
+use Rattle.sj_emit_expr.specs.Uses.{looked_up_uses, call_uses, object_binding, function_binding, class_use, setter_use, store_use, helper_of, test_uses, cast_uses, base_uses, type_uses, uses_in, uses_in_all, uses_of, uses_of_all, uses_of_cases, once_each}
 use Rattle.sj_mangling.specs.Bindings.{method_binding}
 use Rattle.sj_mangling.specs.declared.bindings.MethodBinding.TheVariants.{Reflective}
 use Rattle.sj_names.specs.declared.method_names.Member.{Member}
 use Rattle.sj_names.specs.declared.method_names.Namespace.{Namespace}
 use Rattle.sj_names.specs.declared.method_names.Namespace.TheVariants.{Public}
+use Rattle.sj_trees.specs.Types.{element_type}
 use Rattle.emit_questions.specs.declared.Inquiry.{Inquiry}
 use Rattle.emit_questions.specs.declared.Inquiry.TheVariants as inquiries
 use Rattle.emit_questions.specs.Calls.{if_public, own_call, calls_in, calls_in_all, calls_of, calls_of_all, calls_of_cases}
@@ -84,8 +85,15 @@ module _ (f g : Lookup) where
         let y = same_in_all es (back (calls_in e) (calls_in_all es) former) in
         let z = same_names k own in
         (same_call k own _ _ _ _ x.0 y.0, λ i. z i ++ x.1 i ++ y.1 i)
-    same_in (test_of t e) h = let a = same_in e h in (λ i. test_template t (a.0 i), λ i. test_uses t ++ a.1 i)
-    same_in (cast_of t e) h = let a = same_in e h in (λ i. cast_template t (a.0 i), λ i. cast_uses t ++ a.1 i)
+    same_in (test_of t e) h = let a = same_in e h in (λ i. test_template t (a.0 i), λ i. test_uses t ++ a.1 i ++ type_uses t)
+    same_in (cast_of t e) h = let a = same_in e h in (λ i. cast_template t (a.0 i), λ i. cast_uses t ++ a.1 i ++ type_uses t)
+    same_in (new_array_of r e) h = let a = same_in e h in (λ i. call_of (codes "$mk") (of_array r (js.expression (a.0 i) (js.expression (zero_template (element_type r)) js.no_expressions))), λ i. object_binding (codes "$mk") ∷ base_uses r.base ++ a.1 i)
+    same_in (array_of r es) h = let a = same_in_all es h in (λ i. new_of (codes "$A") (of_array r (js.expression (js.list_of (a.0 i)) js.no_expressions)), λ i. object_binding (codes "$A") ∷ base_uses r.base ++ a.1 i)
+    same_in (length_of e) h = let a = same_in e h in (λ i. property_of (property_of (a.0 i) (codes "a")) (codes "length"), a.1)
+    same_in (element_of e d) h =
+        let x = same_in e (front (calls_in e) (calls_in d) h) in
+        let y = same_in d (back (calls_in e) (calls_in d) h) in
+        (λ i. call_of (codes "$get") (js.expression (x.0 i) (js.expression (y.0 i) js.no_expressions)), λ i. object_binding (codes "$get") ∷ x.1 i ++ y.1 i)
     same_in (unary_of o e) h = let a = same_in e h in (λ i. unary_template o (a.0 i), a.1)
     same_in (binary_of o e d) h =
         let x = same_in e (front (calls_in e) (calls_in d) h) in
@@ -123,6 +131,12 @@ module _ (f g : Lookup) where
         let b = same_in d (back (calls_in e) (calls_in d) h) in
         (λ i. assign_property (a.0 i) (property_name c x) (b.0 i), λ i. a.1 i ++ b.1 i)
     same_of (assign_static p c x e) h = let a = same_in e h in (λ i. expression_statement (call_of (setter_name c x) (js.expression (a.0 i) js.no_expressions)), λ i. setter_use c x ∷ a.1 i)
+    same_of (assign_element p t e d g) h =
+        let former = front (calls_in e ++ calls_in d) (calls_in g) h in
+        let x = same_in e (front (calls_in e) (calls_in d) former) in
+        let y = same_in d (back (calls_in e) (calls_in d) former) in
+        let z = same_in g (back (calls_in e ++ calls_in d) (calls_in g) h) in
+        (λ i. expression_statement (call_of (element_setter t) (js.expression (x.0 i) (js.expression (y.0 i) (js.expression (z.0 i) js.no_expressions)))), λ i. object_binding (element_setter t) ∷ x.1 i ++ y.1 i ++ z.1 i)
     same_of (store_module_of p c e) h = let a = same_in e h in (λ i. expression_statement (call_of (store_name c) (js.expression (a.0 i) js.no_expressions)), λ i. store_use c ∷ a.1 i)
     same_of (throw_of p e) h = let a = same_in e h in (λ i. js.throw_of (a.0 i), a.1)
     same_of (leave_label p l) h = (refl, refl)

@@ -4,7 +4,7 @@ use Rattle.emit_questions.specs.declared.Inquiry.{Inquiry}
 use Rattle.emit_questions.specs.declared.Inquiry.TheVariants as inquiries
 use Rattle.sj_emit_expr.specs.Callee.{Callee}
 use Rattle.sj_emit_expr.specs.CalleeVariants as callees
-use Rattle.sj_emit_expr.specs.Terms.{Expression, boxed_char, char_text, value_text, choice_of, static_call, field_of, checked_value, made_of, receiver_call, test_of, cast_of, unary_of, binary_of, Expressions, no_expressions, expression, Statement, constant_of, define_of, declare_of, assign_to, evaluate_of, return_of, log_of, assign_field, assign_static, store_module_of, throw_of, leave_label, break_nearest, if_of, while_of, loop_of, labeled_of, switch_of, try_of, finally_of, Statements, no_statements, statement, Cases, no_cases, switch_case}
+use Rattle.sj_emit_expr.specs.Terms.{Expression, boxed_char, char_text, value_text, choice_of, static_call, field_of, checked_value, made_of, receiver_call, test_of, cast_of, new_array_of, array_of, length_of, element_of, unary_of, binary_of, Expressions, no_expressions, expression, Statement, constant_of, define_of, declare_of, assign_to, evaluate_of, return_of, log_of, assign_field, assign_static, assign_element, store_module_of, throw_of, leave_label, break_nearest, if_of, while_of, loop_of, labeled_of, switch_of, try_of, finally_of, Statements, no_statements, statement, Cases, no_cases, switch_case}
 use Rattle.sj_names.specs.declared.method_names.Member.{Member}
 use Rattle.sj_names.specs.declared.method_names.Namespace.{Namespace}
 use Rattle.sj_names.specs.declared.method_names.Namespace.TheVariants.{Public}
@@ -35,6 +35,10 @@ abbrev mutual
   calls_in (receiver_call k e es) = calls_in e ++ calls_in_all es ++ own_call k
   calls_in (test_of t e) = calls_in e
   calls_in (cast_of t e) = calls_in e
+  calls_in (new_array_of r e) = calls_in e
+  calls_in (array_of r es) = calls_in_all es
+  calls_in (length_of e) = calls_in e
+  calls_in (element_of e i) = calls_in e ++ calls_in i
   calls_in (unary_of o e) = calls_in e
   calls_in (binary_of o e g) = calls_in e ++ calls_in g
   calls_in _ = []
@@ -54,6 +58,7 @@ abbrev mutual
   calls_of (log_of p e) = calls_in e
   calls_of (assign_field p e c f g) = calls_in e ++ calls_in g
   calls_of (assign_static p c f e) = calls_in e
+  calls_of (assign_element p t e i g) = calls_in e ++ calls_in i ++ calls_in g
   calls_of (store_module_of p c e) = calls_in e
   calls_of (throw_of p e) = calls_in e
   calls_of (leave_label p l) = []

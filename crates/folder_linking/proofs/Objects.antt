@@ -26,7 +26,7 @@ use Rattle.sj_names.specs.declared.folders.SourceFile.{SourceFile}
 use Rattle.sj_pieces.specs.Keys.{HasKeys}
 use Rattle.sj_pieces.specs.Owners.{OnObjects, AllOnObjects, CasesOnObjects, BodyOnObjects, FieldsHaveOwners}
 use Rattle.body_soundness.specs.Emitted.{EmittedMethod}
-use Rattle.sj_trees.specs.Term.{Term, Terms, no_terms, more_terms, Cases, no_cases, more_cases, var_def, block_of, labeled, assign, return_to, if_then, while_loop, do_while, throw, try_catch, try_finally, match_on, new_object, store_module, select, select_static, apply, apply_statically, apply_static, unary_op, binary_op, is_instance_of, as_instance_of, var_ref, log_line}
+use Rattle.sj_trees.specs.Term.{Term, Terms, no_terms, more_terms, Cases, no_cases, more_cases, var_def, block_of, labeled, assign, return_to, if_then, while_loop, do_while, throw, try_catch, try_finally, match_on, new_object, store_module, select, select_static, apply, apply_statically, apply_static, unary_op, binary_op, new_array, array_value, array_length, array_select, is_instance_of, as_instance_of, var_ref, log_line}
 use Rattle.sj_trees.specs.TypeOf.{type_of_term}
 use Rattle.sj_trees.specs.Types.{class_type}
 use Rattle.sj_trees.specs.declared.classes.ClassDef.{ClassDef}
@@ -38,12 +38,14 @@ use Rattle.sj_names.specs.WellKnown.{is_hijacked}
 use Rattle.sj_world.specs.Known.{Name, Classes}
 use Rattle.sj_world.specs.Subtypes.{IsSub, hijacked_class}
 use Rattle.sure_receivers.specs.Sure.{is_sure_type}
-use Rattle.body_soundness.specs.TypingRulesRules.{HasFieldType}
+use Rattle.body_soundness.specs.TypingRulesRules.{HasFieldType, IsArray, HasItems}
 use Rattle.folder_judging.specs.Typed.{MeetsThere}
 
--- a field is one of no tree of a primitive type
+-- a field, a length or an item is one of no tree of a primitive type
 abbrev IsOfObject : Term → Type 0
 IsOfObject (select p e c f t) = is_sure_type (type_of_term e) ≡ false
+IsOfObject (array_length p e) = is_sure_type (type_of_term e) ≡ false
+IsOfObject (array_select p e i t) = is_sure_type (type_of_term e) ≡ false
 IsOfObject _ = Unit {0}
 
 abbrev Each : List Term → Type 0
@@ -60,6 +62,11 @@ mutual
       let own = ahead IsOfObject (trees (select q d c f t)) (trees e) both in
       (All-head IsOfObject (select q d c f t) (trees d) own, on_objects d (All-tail IsOfObject (select q d c f t) (trees d) own), on_objects e (after IsOfObject (trees (select q d c f t)) (trees e) both))
   on_objects (assign p (select_static q c f t) e) h = on_objects e (after IsOfObject (trees (select_static q c f t)) (trees e) (All-tail IsOfObject (assign p (select_static q c f t) e) (trees (select_static q c f t) ++ trees e) h))
+  on_objects (assign p (array_select q d i t) e) h =
+      let both = All-tail IsOfObject (assign p (array_select q d i t) e) (trees (array_select q d i t) ++ trees e) h in
+      let own = ahead IsOfObject (trees (array_select q d i t)) (trees e) both in
+      let parts = All-tail IsOfObject (array_select q d i t) (trees d ++ trees i) own in
+      (All-head IsOfObject (array_select q d i t) (trees d ++ trees i) own, on_objects d (ahead IsOfObject (trees d) (trees i) parts), on_objects i (after IsOfObject (trees d) (trees i) parts), on_objects e (after IsOfObject (trees (array_select q d i t)) (trees e) both))
   on_objects (return_to p e l) h = on_objects e (All-tail IsOfObject (return_to p e l) (trees e) h)
   on_objects (if_then p c a b t) h =
       let all = All-tail IsOfObject (if_then p c a b t) ((trees c ++ trees a) ++ trees b) h in
@@ -80,6 +87,12 @@ mutual
   on_objects (apply p e m ts t) h = let all = All-tail IsOfObject (apply p e m ts t) (trees e ++ all_below ts) h in (on_objects e (ahead IsOfObject (trees e) (all_below ts) all), all_on_objects ts (after IsOfObject (trees e) (all_below ts) all))
   on_objects (apply_statically p e c n m ts t) h = let all = All-tail IsOfObject (apply_statically p e c n m ts t) (trees e ++ all_below ts) h in (on_objects e (ahead IsOfObject (trees e) (all_below ts) all), all_on_objects ts (after IsOfObject (trees e) (all_below ts) all))
   on_objects (apply_static p c n m ts t) h = all_on_objects ts (All-tail IsOfObject (apply_static p c n m ts t) (all_below ts) h)
+  on_objects (new_array p r e) h = on_objects e (All-tail IsOfObject (new_array p r e) (trees e) h)
+  on_objects (array_value p r ts) h = all_on_objects ts (All-tail IsOfObject (array_value p r ts) (all_below ts) h)
+  on_objects (array_length p e) h = (All-head IsOfObject (array_length p e) (trees e) h, on_objects e (All-tail IsOfObject (array_length p e) (trees e) h))
+  on_objects (array_select p e i t) h =
+      let parts = All-tail IsOfObject (array_select p e i t) (trees e ++ trees i) h in
+      (All-head IsOfObject (array_select p e i t) (trees e ++ trees i) h, on_objects e (ahead IsOfObject (trees e) (trees i) parts), on_objects i (after IsOfObject (trees e) (trees i) parts))
   on_objects (unary_op p o e) h = on_objects e (All-tail IsOfObject (unary_op p o e) (trees e) h)
   on_objects (is_instance_of p e t) h = on_objects e (All-tail IsOfObject (is_instance_of p e t) (trees e) h)
   on_objects (as_instance_of p e t) h = on_objects e (All-tail IsOfObject (as_instance_of p e t) (trees e) h)
@@ -136,6 +149,15 @@ is_hijacked_class types.NoType h e = absurd (no_name h e)
 is_hijacked_class (types.Class c) h e = absurd (no_name h e)
 is_hijacked_class (types.Array r) h e = absurd (no_name h e)
 
+-- an array is no primitive value
+length_of_object : (t : IrType) → IsArray t → is_sure_type t ≡ false
+length_of_object (types.Array r) h = refl
+length_of_object _ h = absurd h
+
+item_of_object : (t u : IrType) → HasItems t u → is_sure_type t ≡ false
+item_of_object (types.Array r) u h = refl
+item_of_object _ u h = absurd h
+
 module _ (entries : List EntryPoint) (files : List SourceFile) (w : Classes) (bytes : (file : SourceFile) → Contains files file → AreBytes file.bytes) (a : IsAccepted entries files w) where
   kept : AreClassesKept w
   kept = objects.kept entries files w bytes a
@@ -157,6 +179,8 @@ module _ (entries : List EntryPoint) (files : List SourceFile) (w : Classes) (by
   module _ (all : List EmittedMethod) (bodies : AreBodies w entries all) (e : EmittedMethod) (i : Contains all e) where
     tree_of_object : (t : Term) → Stands (MeetsThere w e.definition.namespace) t → IsOfObject t
     tree_of_object (select p d c f t) s = of_object (type_of_term d) c f t s.asked.0 s.asked.1
+    tree_of_object (array_length p d) s = length_of_object (type_of_term d) s.asked
+    tree_of_object (array_select p d n t) s = item_of_object (type_of_term d) t s.asked.0
     tree_of_object t s = tt
 
     -- a needed body

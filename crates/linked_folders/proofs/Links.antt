@@ -1,9 +1,9 @@
 -- What is written of the pieces of an accepted folder can run.
-use Rattle.std.proofs.Common.{◌≡◌, ◌↔◌, ◌⊎◌, ◌++◌, ◌∙◌, ℕ, Bool, true, false, List, [], ◌∷◌, Option, Some, None, inl, inr, refl, sym, subst, map, Contains, codes, if◌then◌else◌}
+use Rattle.std.proofs.Common.{◌≡◌, ◌↔◌, ◌⊎◌, ◌∙◌, ℕ, Bool, true, false, List, [], ◌∷◌, Option, Some, None, inl, inr, refl, sym, subst, map, Contains, codes, if◌then◌else◌}
 use Rattle.std.specs.List.{flat_map, list_any}
 use Rattle.std.specs.Prelude.{not, ◌||◌}
 use Rattle.std.proofs.lemmas.Bool.{and_parts, and_from}
-use Rattle.std.proofs.lemmas.List.Elements.{Contains-append_left, Contains-append_right}
+use Rattle.std.proofs.lemmas.List.Elements.{Contains-append_left}
 use Rattle.declared_pieces.proofs.Calls.{needed, entry}
 use Rattle.declared_pieces.proofs.Members.{defined, has_function-from}
 use Rattle.declared_pieces.proofs.Below.{stands_above, known_class, kind_hijacked, some_below, class_below, told_kind}
@@ -50,7 +50,7 @@ use Rattle.js_tree.specs.Terms.{Piece}
 use Rattle.declared_pieces.specs.Pieces.{piece_of_member, pieces_of_block, by_piece, by_helper, AreLinkedPieces}
 use Rattle.declared_pieces.specs.Used.{used_of, makes, calls_on, tells_apart, is_among, is_cast, is_loaded}
 use Rattle.declared_pieces.proofs.Made as made
-use Rattle.declared_pieces.specs.Running.{CanBeThrown, CanRun}
+use Rattle.declared_pieces.specs.Running.{CanBeThrown, CanRun, makes_array}
 use Rattle.declared_pieces.proofs.Pieces.{of_objects, reached}
 use Rattle.declared_pieces.specs.Helpers.{is_object_helper}
 use Rattle.declared_pieces.specs.ProperPiecesLaws.{AreNamed}
@@ -74,13 +74,14 @@ use Rattle.sj_names.specs.declared.method_names.MethodName.{MethodName}
 use Rattle.declared_pieces.specs.Emitted.{EmittedMethod, initializer_member}
 use Rattle.declared_pieces.specs.Once.{DefinesOnce}
 use Rattle.declared_pieces.specs.Linked.{has_function}
-use Rattle.sj_split.proofs.Members.{at_first, further, cons_cases, into_map}
+use Rattle.sj_split.proofs.Members.{at_first, further, cons_cases}
 use Rattle.sj_trees.specs.Term.{Term}
 use Rattle.sj_trees.specs.declared.classes.ClassDef.{ClassDef}
 use Rattle.sj_trees.specs.declared.classes.MethodDef.{MethodDef}
 use Rattle.sj_world.proofs.OnCycles.{among}
 use Rattle.sj_world.specs.Known.{Name, Classes, class_of, is_hijacked}
 use Rattle.sj_world.specs.Linked.{Linked}
+use Rattle.sj_world.specs.Subtypes.{to_any}
 use Rattle.worklist.proofs.Inserted.{nothing_in}
 use Rattle.sj_world.specs.declared.facts.Fact.{Fact}
 use Rattle.sj_world.specs.declared.facts.Fact.TheVariants.{Needed, Made, Body, Called}
@@ -88,6 +89,12 @@ use Rattle.declared_pieces.proofs.Fields.{class_named}
 use Rattle.declared_pieces.proofs.Live.{classes_kept}
 use Rattle.linked_folders.proofs.Live.{live, are_live}
 use Rattle.linked_folders.specs.Laws.{WrittenPiecesRun}
+
+-- no helper of the forms that are built makes arrays
+makes_none : {A : Type 0} (h : Helper) → is_object_helper h ≡ true → makes_array h ≡ true → A
+makes_none helpers.MakeArray e maker = impossible e
+makes_none helpers.ArrayClass e maker = impossible e
+makes_none _ e maker = impossible maker
 
 pub initializers_among : (id : List ℕ) (es : List EntryPoint) (e : EntryPoint) → Contains (initializers es id) e → Contains es e
 initializers_among id [] e h = nothing_in e h
@@ -117,6 +124,10 @@ covered (helpers.ConstantsOf kinds.Int) e = impossible e
 covered (helpers.ConstantsOf kinds.Long) e = impossible e
 covered (helpers.ConstantsOf kinds.Text) e = impossible e
 covered helpers.ArrayClass e = impossible e
+covered helpers.MakeArray e = impossible e
+covered helpers.Get e = impossible e
+covered helpers.Set e = impossible e
+covered helpers.Put e = impossible e
 covered h e = refl
 
 module _ (entries : List EntryPoint) (files : List SourceFile) (l : Linked) (all : List EmittedMethod) (ps : List Piece) (bytes : (file : SourceFile) → Contains files file → AreBytes file.bytes) (a : IsAccepted entries files l.world) (bodies : AreBodies l.world entries all) (exact : (f : Fact) → Contains l.facts f ↔ Reachable l.world entries f) (objects : (e : EmittedMethod) → Contains all e → is_object_body e.definition e.its_body ≡ true) (p : AreLinkedPieces l all ps) (methods : AreEntries l.world l.facts l.entries) (written : List Name) (owned : IsClosed ps written) where
@@ -246,6 +257,17 @@ module _ (entries : List EntryPoint) (files : List SourceFile) (l : Linked) (all
           answered c m d e there.owner there.target there.here
       by _ (kind_below o d of sub) = let k = told_kind w c free o d of sub in subst (λ (n : Name). Answers w has c n m) k.is (by_kind k.kind k.told k.below)
 
+  -- an array has the target of a method that is called on arrays, where the class of all objects is made
+  on_arrays : (m : MethodName) → has.on_arrays m ≡ true → has.made object ≡ true → Answers w has object object m
+  on_arrays m h is_made =
+      let r = and_parts (is_among written object) (list_any (makes object) l.facts) is_made in
+      let called : Contains l.facts (Called object m) = called_known l.facts object m h in
+      let made_fact : Contains l.facts (Made object) = made_known l.facts object r.1 in
+      let k = live_there object (made_lives entries files l all written ps bytes a bodies p methods exact owned object made_fact) in
+      let e = class_below w object refl object (known_class w object k.0 k.1) (to_any refl (λ e. cc)) in
+      let there = finds entries files l all written ps bytes a bodies p methods exact owned object m called object ((among written object).0 r.0) made_fact (stands_above w object object e) in
+      answered object m object e there.owner there.target there.here
+
   -- a reflective name by which receivers are called has an answer in each class: objects find it by their entries, a primitive value has a case, and where there is no method its exception can be
   -- made
   named_answers : (m : MethodName) → has.reflected m ≡ true → (d : Name) → IsClassBelow w has object d → AnswersByName w has d m
@@ -302,6 +324,8 @@ module _ (entries : List EntryPoint) (files : List SourceFile) (l : Linked) (all
     listed = listed;
     casts = cast_throws;
     loads = loaded;
+    arrays = λ h i maker. makes_none h (of_objects entries files l all ps a bodies holds objects p h i) maker;
+    on_arrays = on_arrays;
     looked = answers;
     reflected = named_answers;
   }

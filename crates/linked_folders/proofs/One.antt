@@ -1,5 +1,5 @@
 -- The classes of an accepted folder have one list of pieces.
-use Rattle.std.proofs.Common.{◌≡◌, ◌↔◌, ℕ, Bool, true, false, List, [], ◌∷◌, ◌++◌, cond, Some, None, refl, sym, ap, subst, ◌∙◌, map, Contains}
+use Rattle.std.proofs.Common.{◌≡◌, ◌↔◌, ℕ, Bool, true, false, List, Some, None, refl, sym, ap, subst, ◌∙◌, Contains}
 use Rattle.std.proofs.lemmas.List.Sorted.{Contains-permutation, IsPermutation-sym}
 use Rattle.ir_mean.specs.World.{member_of}
 use Rattle.js_tree.specs.Rules.{IsModule}
@@ -12,7 +12,7 @@ use Rattle.declared_pieces.proofs.LinkedEntriesOne.{one_method}
 use Rattle.declared_pieces.specs.ToldPieces.{HasOneTarget}
 use Rattle.declared_pieces.specs.LinkedPiecesLaws.{AreAlike}
 use Rattle.declared_pieces.proofs.LinkedEntriesOne.{entries_one}
-use Rattle.declared_pieces.specs.Emitted.{EmittedMethod, call_item_of}
+use Rattle.declared_pieces.specs.Emitted.{EmittedMethod}
 use Rattle.declared_pieces.specs.Files.{HasFunction}
 use Rattle.sj_graph.specs.declared.graphs.Reference.{Reference}
 use Rattle.sj_local.specs.Broken.{FirstBroken}

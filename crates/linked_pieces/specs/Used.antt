@@ -154,7 +154,7 @@ calls_by_name w all written p = is_called_by all p && list_any (uses_reflective 
 
 -- what the code can use, of a world with these facts, methods, live classes and helpers, where the pieces of these classes are written: their members, a call of a public one running
 -- its target, the methods that are called on their objects, where no hijacked class stands there or below or the function that tells primitive receivers apart is written, the reflective names of which the function is written, and their constructors that have no value, their objects, each instance field of the world, their static fields that are needed, those that a body loads as modules or stores, the helpers, and the tests of primitive
--- types and the casts to them that are among them, and those of these classes
+-- types and the casts to them that are among them, and those of these classes; no class is the base of an array yet
 abbrev pub used_of : Classes → List Fact → List EmittedMethod → List Name → List Helper → List Name → Usable
 used_of w facts all live helpers written = record {
   linked = λ m. is_static m.namespace && (is_among written m.class && has_function all m);
@@ -173,6 +173,8 @@ used_of w facts all live helpers written = record {
   stored = λ c. is_among written c && is_stored all c;
   tests = uses_test all helpers written;
   casts = uses_cast all helpers written;
+  bases = λ c. false;
+  on_arrays = λ m. list_any (calls_on object m) facts;
   helper = uses_helper helpers written;
   objects = true;
 }

@@ -8,18 +8,21 @@ use Rattle.running_modules.specs.Typing.{may_check, is_built_with}
 use Rattle.running_modules.proofs.Boxes.{box_used}
 use Rattle.running_modules.proofs.Given.{all_from, completed_uses, in_uses, may_make_those}
 use Rattle.running_modules.proofs.BodyUsesUses.{Gives, GivesReceived, or_first, or_second, tree}
-use Rattle.running_modules.specs.Built.{Usable, can_box, can_look_up, may_make, is_built, body_boxes}
+use Rattle.running_modules.specs.Built.{Usable, can_box, can_look_up, has_base, is_based, may_make, is_built, body_boxes}
 use Rattle.running_modules.specs.BodyUsesLaws.{used_by}
 use Rattle.js_tree.specs.declared.items.Binding.{Binding}
 use Rattle.sj_desugar.specs.Desugar.{desugared_member, body_code, is_mutable_in, result_destination, member}
 use Rattle.sj_emit_expr.specs.Templates.{check_name}
-use Rattle.sj_emit_expr.specs.Uses.{object_binding, function_binding, class_use, static_use, setter_use, load_use, store_use, test_uses, cast_uses, looked_up_uses, call_uses, uses_of_all}
+use Rattle.sj_emit_expr.specs.Uses.{object_binding, function_binding, class_use, static_use, setter_use, load_use, store_use, test_uses, cast_uses, base_uses, type_uses, looked_up_uses, call_uses, uses_of_all}
 use Rattle.sj_desugar.specs.CalleeVariants as callees
 use Rattle.sj_infos.specs.Trees.{trees}
 use Rattle.sj_names.specs.declared.method_names.MethodName.{MethodName}
+use Rattle.sj_names.specs.declared.references.BaseRef.{BaseRef}
+use Rattle.sj_trees.specs.declared.types.IrType.{IrType}
+use Rattle.sj_trees.specs.declared.types.IrType.TheVariants.{Array}
 use Rattle.sj_names.specs.declared.method_names.Namespace.{Namespace}
 use Rattle.sj_names.specs.declared.method_names.Namespace.TheVariants.{Constructor, Public, Private}
-use Rattle.sj_trees.specs.Term.{Term, new_object, load_module, store_module, select, select_static, apply_statically, apply_static, is_instance_of, as_instance_of, binary_op, apply}
+use Rattle.sj_trees.specs.Term.{Term, new_object, new_array, array_value, load_module, store_module, select, select_static, apply_statically, apply_static, is_instance_of, as_instance_of, binary_op, apply}
 use Rattle.sj_trees.specs.declared.classes.MethodDef.{MethodDef}
 use Rattle.sure_receivers.specs.Sure.{is_sure, sure_locals}
 use Rattle.module_uses.specs.Laws.{BodiesUseNoMore, DivisorsFit}
@@ -55,18 +58,29 @@ module _ (has : Usable) (uses : Binding → Bool) where
       go true d u = or_first (here.dispatched m) false (and_from (has.dispatched m) (list_all uses (looked_up_uses true m)) (first (has.dispatched m) d) (all_used (looked_up_uses true m) u))
       go false d u = or_second (here.dispatched m) true refl
 
+  -- a class that can be named as the base of an array
+  base_gives : (b : BaseRef) → has_base has b ≡ true → All IsUsed (base_uses b) → has_base here b ≡ true
+  base_gives (BaseRef.Class c) h u = and_from (has.bases c) (list_all uses (base_uses (BaseRef.Class c))) h (all_used (base_uses (BaseRef.Class c)) u)
+  base_gives _ h u = refl
+
+  type_gives : (t : IrType) → is_based has t ≡ true → All IsUsed (type_uses t) → is_based here t ≡ true
+  type_gives (Array r) h u = base_gives r.base h u
+  type_gives _ h u = refl
+
   module _ (e : Term) (fit : DivisorsFit e) where
     gives : (t : Term) → Contains (trees e) t → Gives IsUsed has.lookup has here t
     gives (apply_static p c n m ts t) i = and_from (has.linked (member c n m)) (uses (function_binding (member c n m)))
-    gives (apply p d m ts t) i = (λ c same. received_gives c Public m, (λ c same. looked_gives c m, (λ h. h, λ n h u. and_from (has.reflected m) (list_all uses (call_uses has.lookup (callees.Reflective m))) h (all_used (call_uses has.lookup (callees.Reflective m)) u))))
+    gives (apply p d m ts t) i = (λ c same. received_gives c Public m, (λ c same. looked_gives c m, (λ same h. h, λ n h u. and_from (has.reflected m) (list_all uses (call_uses has.lookup (callees.Reflective m))) h (all_used (call_uses has.lookup (callees.Reflective m)) u))))
     gives (apply_statically p d c n m ts t) i = received_gives c n m
     gives (new_object p c m ts) i = λ h k f u. (and_from (has.built (member c Constructor m)) (uses (function_binding (member c Constructor m))) k f, and_from (has.made c) (uses (class_use c)) h u)
     gives (select p d c f t) i = λ h. h
     gives (select_static p c f t) i = (and_from (has.static_field c f t) (uses (static_use c f)), and_from (has.static_setter c f t) (uses (setter_use c f)))
     gives (load_module p c) i = and_from (has.modules c) (uses (load_use c))
     gives (store_module p c d) i = and_from (has.stored c) (uses (store_use c))
-    gives (is_instance_of p d t) i = λ h u. and_from (has.tests t) (list_all uses (test_uses t)) h (all_used (test_uses t) u)
-    gives (as_instance_of p d t) i = λ h u. and_from (has.casts t) (list_all uses (cast_uses t)) h (all_used (cast_uses t) u)
+    gives (new_array p r d) i = base_gives r.base
+    gives (array_value p r ts) i = base_gives r.base
+    gives (is_instance_of p d t) i = (λ h u. and_from (has.tests t) (list_all uses (test_uses t)) h (all_used (test_uses t) u), type_gives t)
+    gives (as_instance_of p d t) i = (λ h u. and_from (has.casts t) (list_all uses (cast_uses t)) h (all_used (cast_uses t) u), type_gives t)
     gives (binary_op p o a d) i = λ h. fit p o a d i
     gives t i = tt
 

@@ -5,8 +5,9 @@ use Rattle.running_modules.specs.Built.{Usable}
 use Rattle.js_tree.specs.Terms.{Piece}
 use Rattle.js_tree.specs.declared.items.Binding.{Binding}
 use Rattle.module_rules.specs.Modules.{file_with, is_owned_in, uses_of, called_in}
-use Rattle.sj_emit_expr.specs.Uses.{object_binding, function_binding, class_use, static_use, setter_use, load_use, store_use, test_uses, cast_uses, looked_up_uses, call_uses, is_same_binding}
+use Rattle.sj_emit_expr.specs.Uses.{object_binding, function_binding, class_use, static_use, setter_use, load_use, store_use, test_uses, cast_uses, base_uses, looked_up_uses, call_uses, is_same_binding}
 use Rattle.sj_desugar.specs.CalleeVariants as callees
+use Rattle.sj_names.specs.declared.references.BaseRef.{BaseRef}
 use Rattle.sj_split.specs.Orders.{Bytes}
 use Rattle.sj_split.specs.declared.plans.PlannedModule.{PlannedModule}
 
@@ -29,6 +30,8 @@ restricted has uses = record {
   stored = λ c. has.stored c && uses (store_use c);
   tests = λ t. has.tests t && list_all uses (test_uses t);
   casts = λ t. has.casts t && list_all uses (cast_uses t);
+  bases = λ c. has.bases c && list_all uses (base_uses (BaseRef.Class c));
+  on_arrays = has.on_arrays;
   helper = λ x. has.helper x && uses (object_binding x);
   objects = has.objects;
 }

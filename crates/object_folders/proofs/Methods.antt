@@ -36,7 +36,7 @@ use Rattle.sj_world.specs.Known.{Classes}
 
 module _ (entries : List EntryPoint) (files : List SourceFile) (w : Classes) (bytes : (file : SourceFile) → Contains files file → AreBytes file.bytes) (a : IsAccepted entries files w) where
   -- whatever the method of a member is, it defines no name twice
-  pub once : (m : Member) (d : MethodDef) (e : Term) → member_of w m.class m.namespace m.method ≡ Some d → d.body ≡ Some e → NamesOnce d e
+  abbrev once : (m : Member) (d : MethodDef) (e : Term) → member_of w m.class m.namespace m.method ≡ Some d → d.body ≡ Some e → NamesOnce d e
   once m d e found has_body = let its = owner_of w m d found in methods.names_keep its.owner d e has_body (class-keeps its.owner (judged entries files w bytes a its.owner its.in_world).unbroken d its.listed)
 
   module _ (all : List EmittedMethod) (bodies : AreBodies w entries all) (has : Usable) where
@@ -69,6 +69,7 @@ module _ (entries : List EntryPoint) (files : List SourceFile) (w : Classes) (by
         found = (bodies.found e i).found;
         has_body = (bodies.found e i).has_body;
         rules = subst (λ c. KeepsRules w has c e.definition e.its_body) (sym its.class_is) kept;
+        names = once e.member e.definition e.its_body (bodies.found e i).found (bodies.found e i).has_body;
         parameters = subst (λ (m : MethodName). HaveTypes e.definition.params m.params) (sym its.named) types.0;
         result_is = subst (λ (m : MethodName). e.definition.result ≡ call_type m.result) (sym its.named) types.1;
       }

@@ -1,23 +1,23 @@
 -- What helpers throw can be made, where helpers are written.
-use Rattle.std.proofs.Common.{◌≡◌, Bool, true, false, List, [], ◌∷◌, codes, refl, sym, subst, ◌∙◌, Contains}
+use Rattle.std.proofs.Common.{◌≡◌, ◌⊎◌, inl, inr, Bool, true, false, List, [], ◌∷◌, codes, refl, sym, subst, ◌∙◌, Contains}
 use Rattle.std.specs.List.{list_any}
-use Rattle.std.proofs.lemmas.Bool.{and_parts, and_from}
+use Rattle.std.proofs.lemmas.Bool.{and_parts, and_from, or_cases}
 use Rattle.std.proofs.lemmas.List.Folds.{Any-from_list_any}
 use Rattle.linked_entries.proofs.Members.{has_function-from}
 use Rattle.linked_entries.proofs.Lists.{at_front, further_on}
-use Rattle.linked_entries.specs.BodySoundnessLaws.{null_pointer, arithmetic, class_cast}
-use Rattle.linked_entries.specs.Built.{Usable, divides, has_kind}
+use Rattle.linked_entries.specs.BodySoundnessLaws.{null_pointer, arithmetic, class_cast, out_of_bounds, array_store, negative_size, CanRaise, makes_arrays}
+use Rattle.linked_entries.specs.Built.{Usable, divides, can_put, has_kind}
 use Rattle.helper_rules.specs.Helpers.{helper_name, used_helpers, failure_class}
 use Rattle.helper_rules.specs.declared.kinds.Failure.{Failure}
-use Rattle.helper_rules.specs.declared.kinds.Failure.TheVariants.{NullReceiver, Division, Cast}
+use Rattle.helper_rules.specs.declared.kinds.Failure.TheVariants.{NullReceiver, Division, Cast, Index, Store, Size}
 use Rattle.helper_rules.specs.declared.kinds.Helper.{Helper}
-use Rattle.helper_rules.specs.declared.kinds.Helper.TheVariants.{TestOf, CastTo, ConstantsOf, NotNull, IntQuotient, IntRemainder, LongQuotient, LongRemainder, Throws}
+use Rattle.helper_rules.specs.declared.kinds.Helper.TheVariants.{TestOf, CastTo, ConstantsOf, NotNull, IntQuotient, IntRemainder, LongQuotient, LongRemainder, ArrayClass, MakeArray, CheckIndex, Get, Set, Put, Fits, Throws}
 use Rattle.ir_mean.specs.Meaning.{with_message, without_parameters}
 use Rattle.linked_entries.specs.Files.{HasFunction}
 use Rattle.linked_entries.specs.ReachRulesRules.{plain_constructor}
 use Rattle.linked_entries.proofs.Facts.{made_told}
 use Rattle.linked_entries.specs.Used.{used_of, is_among, makes, uses_helper, is_cast as is_cast_to}
-use Rattle.object_folders.specs.Running.{CanRun, CanBeThrown}
+use Rattle.object_folders.specs.Running.{CanRun, CanBeThrown, makes_array}
 use Rattle.sj_desugar.specs.Desugar.{member}
 use Rattle.sj_emit_expr.specs.Templates.{check_name}
 use Rattle.sj_emit_expr.specs.Tests.{cast_name}
@@ -31,7 +31,7 @@ use Rattle.linked_entries.specs.Linked.{has_function}
 use Rattle.sj_trees.specs.declared.operators.BinaryOp.{BinaryOp}
 use Rattle.sj_trees.specs.declared.operators.BinaryOp.TheVariants.{IntDivide, IntRemainder as IntRest, LongDivide, LongRemainder as LongRest}
 use Rattle.sj_trees.specs.declared.types.IrType.{IrType}
-use Rattle.sj_trees.specs.declared.types.IrType.TheVariants.{Undefined, Boolean, Char, Byte, Short, Int, Long, String, Class as IrClass}
+use Rattle.sj_trees.specs.declared.types.IrType.TheVariants.{Undefined, Boolean, Char, Byte, Short, Int, Long, String, Null, Class as IrClass}
 use Rattle.sj_world.proofs.OnCycles.{among}
 use Rattle.sj_world.specs.Known.{Name, Classes}
 use Rattle.sj_world.specs.declared.facts.Fact.{Fact}
@@ -88,6 +88,70 @@ casts (ConstantsOf k) e = impossible e
 casts (Throws f) e = impossible (sym (no_cast f) ∙ e)
 casts _ e = impossible e
 
+-- the helper that makes arrays of lengths, those that make arrays, and those that read and set items
+abbrev is_sized : Name → Bool
+is_sized = is_same_text (codes "$mk")
+
+abbrev is_maker : Name → Bool
+is_maker x = list_any (is_same_text x) (codes "$mk" ∷ codes "$A" ∷ [])
+
+abbrev is_indexed : Name → Bool
+is_indexed x = list_any (is_same_text x) (codes "$get" ∷ codes "$set" ∷ codes "$put" ∷ [])
+
+abbrev is_put : Name → Bool
+is_put = is_same_text (codes "$put")
+
+not_sized : (f : Failure) → is_sized (helper_name (Throws f)) ≡ false
+not_sized NullReceiver = refl
+not_sized _ = refl
+
+no_maker : (f : Failure) → is_maker (helper_name (Throws f)) ≡ false
+no_maker NullReceiver = refl
+no_maker _ = refl
+
+not_indexed : (f : Failure) → is_indexed (helper_name (Throws f)) ≡ false
+not_indexed NullReceiver = refl
+not_indexed _ = refl
+
+no_put : (f : Failure) → is_put (helper_name (Throws f)) ≡ false
+no_put NullReceiver = refl
+no_put _ = refl
+
+asks_size : (h : Helper) → is_sized (helper_name h) ≡ true → Contains (used_helpers h) (Throws Size)
+asks_size MakeArray e = at_front (Throws Size) (ArrayClass ∷ [])
+asks_size (TestOf k) e = impossible e
+asks_size (CastTo k) e = impossible e
+asks_size (ConstantsOf k) e = impossible e
+asks_size (Throws f) e = impossible (sym (not_sized f) ∙ e)
+asks_size _ e = impossible e
+
+maker : (h : Helper) → is_maker (helper_name h) ≡ true → makes_array h ≡ true
+maker MakeArray e = refl
+maker ArrayClass e = refl
+maker (TestOf k) e = impossible e
+maker (CastTo k) e = impossible e
+maker (ConstantsOf k) e = impossible e
+maker (Throws f) e = impossible (sym (no_maker f) ∙ e)
+maker _ e = impossible e
+
+asks_index : (h : Helper) → is_indexed (helper_name h) ≡ true → Contains (used_helpers h) CheckIndex
+asks_index Get e = at_front CheckIndex []
+asks_index Set e = at_front CheckIndex []
+asks_index Put e = at_front CheckIndex (Fits ∷ Throws Store ∷ [])
+asks_index (TestOf k) e = impossible e
+asks_index (CastTo k) e = impossible e
+asks_index (ConstantsOf k) e = impossible e
+asks_index (Throws f) e = impossible (sym (not_indexed f) ∙ e)
+asks_index _ e = impossible e
+
+asks_store : (h : Helper) → is_put (helper_name h) ≡ true → Contains (used_helpers h) (Throws Store)
+asks_store Put e = further_on CheckIndex (Fits ∷ Throws Store ∷ []) (Throws Store) (further_on Fits (Throws Store ∷ []) (Throws Store) (at_front (Throws Store) []))
+asks_store (TestOf k) e = impossible e
+asks_store (CastTo k) e = impossible e
+asks_store (ConstantsOf k) e = impossible e
+asks_store (Throws f) e = impossible (sym (no_put f) ∙ e)
+asks_store _ e = impossible e
+
 -- the name of the cast to a primitive type
 is_cast_name : (t : IrType) → has_kind t ≡ true → is_cast (cast_name t) ≡ true
 is_cast_name Undefined k = refl
@@ -123,12 +187,21 @@ module _ (w : Classes) (entries : List EntryPoint) (facts : List Fact) (all : Li
   can_make : (c : Name) → CanBeThrown facts all written c → Makes c
   can_make = exception_made w facts all live helpers written
 
-  throwing : (f : Failure) (x : Name) → ((h : Helper) → helper_name h ≡ x → Contains (used_helpers h) (Throws f)) → has.helper x ≡ true → Makes (failure_class f)
-  throwing f x uses h =
+  -- a helper of this name is there, and the helpers are written
+  record Named (x : Name) : Type 0 where
+    named : Helper
+    there : Contains helpers named
+    name_is : x ≡ helper_name named
+    are_written : Contains written object
+
+  found : (x : Name) → has.helper x ≡ true → Named x
+  found x h =
       let p = and_parts (is_among written object) (list_any (λ h. is_same_text x (helper_name h)) helpers) h in
-      let found = Any-from_list_any (λ h. is_same_text x (helper_name h)) helpers p.1 in
-      let listed : Contains helpers found.1 = (found.0, found.2, found.3) in
-      can_make (failure_class f) (run.thrown f (run.closed found.1 (Throws f) listed (uses found.1 (sym (text-same x (helper_name found.1) found.4)))) ((among written object).0 p.0))
+      let it = Any-from_list_any (λ h. is_same_text x (helper_name h)) helpers p.1 in
+      record { named = it.1; there = (it.0, it.2, it.3); name_is = text-same x (helper_name it.1) it.4; are_written = (among written object).0 p.0 }
+
+  throwing : (f : Failure) (x : Name) → ((h : Helper) → helper_name h ≡ x → Contains (used_helpers h) (Throws f)) → has.helper x ≡ true → Makes (failure_class f)
+  throwing f x uses h = let it = found x h in can_make (failure_class f) (run.thrown f (run.closed it.named (Throws f) it.there (uses it.named (sym it.name_is))) it.are_written)
 
   pub exceptions : has.helper check_name ≡ true → Makes null_pointer
   exceptions h = throwing NullReceiver check_name (λ g e. checks g (subst (λ (y : Name). is_check y ≡ true) (sym e) refl)) h
@@ -149,3 +222,44 @@ module _ (w : Classes) (entries : List EntryPoint) (facts : List Fact) (all : Li
   pub cast_throws : (t : IrType) → has.casts t ≡ true → Makes class_cast
   cast_throws (IrClass c) h = let q = and_parts (is_among written c) (is_cast_to all c) h in let k = run.casts c ((among written c).0 q.0) q.1 in can_make class_cast (run.thrown Cast k.1 k.0)
   cast_throws t h = let q = and_parts (has_kind t) (uses_helper helpers written (cast_name t)) h in cast_to_kind t q.0 q.1
+
+  -- a helper that asks for an index asks the one that throws where it is out of bounds
+  indexing : (x : Name) → is_indexed x ≡ true → has.helper x ≡ true → CanRaise has out_of_bounds
+  indexing x is h =
+      let it = found x h in
+      let check = run.closed it.named CheckIndex it.there (asks_index it.named (subst (λ (y : Name). is_indexed y ≡ true) it.name_is is)) in
+      can_make out_of_bounds (run.thrown Index (run.closed CheckIndex (Throws Index) check (at_front (Throws Index) [])) it.are_written)
+
+  pub sizes : has.helper (codes "$mk") ≡ true → CanRaise has negative_size
+  sizes h = throwing Size (codes "$mk") (λ g e. asks_size g (subst (λ (y : Name). is_sized y ≡ true) (sym e) refl)) h
+
+  pub reads : has.helper (codes "$get") ≡ true → CanRaise has out_of_bounds
+  reads h = indexing (codes "$get") refl h
+
+  pub writes : (t : IrType) → can_put has t ≡ true → CanRaise has out_of_bounds
+  writes Undefined h = indexing (codes "$set") refl h
+  writes Boolean h = indexing (codes "$set") refl h
+  writes Char h = indexing (codes "$set") refl h
+  writes Byte h = indexing (codes "$set") refl h
+  writes Short h = indexing (codes "$set") refl h
+  writes Int h = indexing (codes "$set") refl h
+  writes Long h = indexing (codes "$set") refl h
+  writes String h = indexing (codes "$set") refl h
+  writes Null h = indexing (codes "$set") refl h
+  writes _ h = indexing (codes "$put") refl h
+
+  pub stores : has.helper (codes "$put") ≡ true → CanRaise has array_store
+  stores h = throwing Store (codes "$put") (λ g e. asks_store g (subst (λ (y : Name). is_put y ≡ true) (sym e) refl)) h
+
+  -- where a helper makes arrays, their class is made
+  making : (x : Name) → is_maker x ≡ true → has.helper x ≡ true → has.made object ≡ true
+  making x is h =
+      let it = found x h in
+      and_from (is_among written object) (list_any (makes object) facts) ((among written object).1 it.are_written) (made_told facts object (run.arrays it.named it.there (maker it.named (subst (λ (y : Name). is_maker y ≡ true) it.name_is is))))
+
+  pub arrays : makes_arrays has ≡ true → has.made object ≡ true
+  arrays h = go (or_cases (has.helper (codes "$mk")) (has.helper (codes "$A")) h)
+    where
+      go : (has.helper (codes "$mk") ≡ true) ⊎ (has.helper (codes "$A") ≡ true) → has.made object ≡ true
+      go (inl k) = making (codes "$mk") refl k
+      go (inr k) = making (codes "$A") refl k

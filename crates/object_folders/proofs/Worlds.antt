@@ -19,8 +19,8 @@ use Rattle.linked_entries.proofs.Facts.{made_known}
 use Rattle.linked_entries.specs.Used.{used_of, is_among, makes, is_received, is_constructor_without_value, has_static_in, needs_static, is_loaded}
 use Rattle.object_folders.proofs.Fields.{field_there, type_there, static_there, static_type_there}
 use Rattle.object_folders.proofs.Made.{live_free}
-use Rattle.object_folders.proofs.Methods.{once, right_member}
-use Rattle.object_folders.proofs.Throwing.{exceptions, division, cast_throws, module_made}
+use Rattle.object_folders.proofs.Methods.{right_member}
+use Rattle.object_folders.proofs.Throwing.{exceptions, division, cast_throws, arrays, sizes, reads, writes, stores, module_made}
 use Rattle.object_folders.specs.Laws.{AcceptedFoldersCarryObjects, AcceptedFoldersLinkRightMembers}
 use Rattle.object_folders.specs.Running.{CanRun}
 use Rattle.linked_entries.specs.Refusals.{hijacked}
@@ -57,9 +57,9 @@ carry entries files w facts all live helpers written bytes a bodies run = record
   received = member_right entries files w facts all live helpers written bytes a bodies run (λ m. is_received m.namespace);
   targets = λ m h. targets_run w (topped w (plain_world w kept.superclass kept.hijacked)) m;
   looked = run.looked;
+  on_arrays = run.on_arrays;
   reflected = run.reflected;
   built = member_right entries files w facts all live helpers written bytes a bodies run is_constructor_without_value;
-  once = λ receivers. once entries files w bytes a;
   made = λ c h. let p = and_parts (is_among written c) (list_any (makes c) facts) h in live_free w entries a.resolved kept facts run.reached c (record { made = c; is_made = made_known facts c p.1; on_chain = stay });
   primitives = λ h is. objects.write_interfaces entries files w a h (hijacked is);
   fields = field_there w unbroken;
@@ -69,6 +69,11 @@ carry entries files w facts all live helpers written bytes a bodies run = record
   exceptions = exceptions w entries facts all live helpers written run;
   divisions = division w entries facts all live helpers written run;
   casts = cast_throws w entries facts all live helpers written run;
+  arrays = arrays w entries facts all live helpers written run;
+  sizes = sizes w entries facts all live helpers written run;
+  reads = reads w entries facts all live helpers written run;
+  writes = writes w entries facts all live helpers written run;
+  stores = stores w entries facts all live helpers written run;
   modules = λ c h. let q = and_parts (is_among written c) (is_loaded all c) h in module_made w facts all live helpers written c ((among written c).0 q.0) (run.loads c q.1);
 }
   where

@@ -1,6 +1,7 @@
 -- The helpers that the code of a body uses are told by what the body asks for.
 use Rattle.std.proofs.Common.{◌≡◌, ℕ, Bool, true, false, ◌&&◌, List, [], ◌∷◌, Some, None, refl, sym, ap, ◌∙◌, subst, codes, Contains, if◌then◌else◌}
-use Rattle.object_helpers.proofs.WrittenTrees.{each_written}
+use Rattle.object_helpers.proofs.WrittenTrees.{written, each_written}
+use Rattle.object_helpers.proofs.WithoutArrays.{UsesNoArrays, without_arrays}
 use Rattle.sj_core.specs.Lookup.{Lookup}
 use Rattle.sj_core.specs.declared.callees.Callee.{Callee}
 use Rattle.sj_core.specs.declared.callees.Callee.TheVariants as callees
@@ -8,6 +9,7 @@ use Rattle.sj_infos.specs.Receivers.{receiver_class}
 use Rattle.sj_infos.specs.declared.infos.Info.TheVariants as asked_info
 use Rattle.std.specs.Prelude.{not, is_none, ◌++◌}
 use Rattle.std.specs.List.{All, list_any}
+use Rattle.std.proofs.lemmas.Bool.{and_parts}
 use Rattle.std.proofs.lemmas.List.Elements.{All-nil, All-cons, All-head, All-tail, All-contains, Contains-append_right, Contains-append_left}
 use Rattle.body_uses.proofs.Given.{all_from}
 use Rattle.body_uses.proofs.EachTyped.{in_all}
@@ -23,7 +25,7 @@ use Rattle.sj_core.specs.Terms as core
 use Rattle.sj_desugar.specs.Desugar.{member, desugared_member, body_code, completed, is_mutable_in, result_destination, callee_of}
 use Rattle.sj_emit_expr.specs.Templates.{check_name, called_member}
 use Rattle.sj_emit_expr.specs.Tests.{same_name}
-use Rattle.sj_emit_expr.specs.Uses.{object_binding, function_binding, class_use, static_use, setter_use, load_use, store_use, helper_of, test_uses, cast_uses, uses_of_all, is_same_binding, once_each, uses, looked_up_uses, call_uses}
+use Rattle.sj_emit_expr.specs.Uses.{object_binding, function_binding, class_use, static_use, setter_use, load_use, store_use, helper_of, test_uses, cast_uses, base_uses, type_uses, uses_of_all, is_same_binding, once_each, uses, looked_up_uses, call_uses}
 use Rattle.sj_infos.specs.Infos.{asks, asked_in, of_receiver, of_static_call, of_division, of_type, of_cast, is_any, is_other_than_zero, null_pointer, arithmetic, class_cast, of_apply, of_call, no_such_method}
 use Rattle.sj_infos.specs.Infos as infos
 use Rattle.sj_infos.specs.Sure.{sure_among}
@@ -33,6 +35,8 @@ use Rattle.sj_infos.specs.declared.infos.Info.{Info}
 use Rattle.sj_infos.specs.declared.infos.Info.TheVariants.{Field, Throws}
 use Rattle.body_uses.proofs.Found.{here, there}
 use Rattle.body_uses.specs.Kept.{KeepsTreeRules}
+use Rattle.body_uses.specs.Built.{any_object, is_object_body, is_testable, can_cast, has_base, is_based, may_make, is_built, body_boxes}
+use Rattle.sj_names.specs.declared.references.BaseRef.{BaseRef}
 use Rattle.sj_mangling.specs.Bindings.{class_binding, method_binding}
 use Rattle.sj_mangling.specs.declared.bindings.ClassBinding.TheVariants.{IsInstance, AsInstance}
 use Rattle.sj_mangling.specs.declared.bindings.MethodBinding.TheVariants.{Dispatch, Reflective}
@@ -41,7 +45,7 @@ use Rattle.sj_names.specs.declared.method_names.Member.{Member}
 use Rattle.sj_names.specs.declared.method_names.MethodName.{MethodName}
 use Rattle.sj_names.specs.declared.method_names.Namespace.{Namespace}
 use Rattle.sj_names.specs.declared.method_names.Namespace.TheVariants.{Public, PublicStatic, Private, PrivateStatic, Constructor}
-use Rattle.sj_trees.specs.Term.{Term, new_object, load_module, store_module, select, select_static, apply_statically, apply_static, binary_op, is_instance_of, as_instance_of, apply}
+use Rattle.sj_trees.specs.Term.{Term, assign, new_object, new_array, array_value, array_length, array_select, load_module, store_module, select, select_static, apply_statically, apply_static, binary_op, is_instance_of, as_instance_of, apply}
 use Rattle.sj_trees.specs.TypeOf.{type_of_term}
 use Rattle.sj_trees.specs.declared.classes.ClassDef.{ClassDef}
 use Rattle.sj_trees.specs.declared.classes.MethodDef.{MethodDef}
@@ -78,7 +82,7 @@ Only P b = (h : Helper) → b ≡ helper (helper_name h) → P h
 pub only_function : (P : Helper → Type 0) (m : Member) → Only P (function_binding m)
 only_function P m h e = no_helper (function_binding m) 9 (function_rank m.namespace m.class m.method) refl h e
 
-module _ (runs : Lookup) (c : ClassDef) (d : MethodDef) (e : Term) (body : d.body ≡ Some e) (kept : KeepsTreeRules c d) where
+module _ (runs : Lookup) (c : ClassDef) (d : MethodDef) (e : Term) (body : d.body ≡ Some e) (kept : KeepsTreeRules c d) (built : is_object_body d e ≡ true) where
   abbrev asked : List Info
   asked = asked_in e
 
@@ -133,33 +137,42 @@ module _ (runs : Lookup) (c : ClassDef) (d : MethodDef) (e : Term) (body : d.bod
   test_kind : (k : Kind) → All Q (helper (is_name k) ∷ [])
   test_kind k = All-cons Q (helper (is_name k)) [] (λ h same. named_test (UsesIt asked) (λ j. a_test j) k h same) (All-nil Q)
 
-  tested : (t : IrType) → All Q (test_uses t)
-  tested (IrType.Class k) = All-cons Q (bound k (class_binding IsInstance k)) [] (λ h same. no_helper (bound k (class_binding IsInstance k)) 7 refl refl h same) (All-nil Q)
-  tested (IrType.Array r) = All-nil Q
-  tested IrType.Undefined = test_kind kinds.Undefined
-  tested IrType.Boolean = test_kind kinds.Boolean
-  tested IrType.Char = test_kind kinds.Char
-  tested IrType.Byte = test_kind kinds.Byte
-  tested IrType.Short = test_kind kinds.Short
-  tested IrType.Int = test_kind kinds.Int
-  tested IrType.Long = test_kind kinds.Long
-  tested _ = test_kind kinds.Text
+  tested : (t : IrType) → is_testable t ≡ true → All Q (test_uses t)
+  tested (IrType.Class k) h = All-cons Q (bound k (class_binding IsInstance k)) [] (λ h same. no_helper (bound k (class_binding IsInstance k)) 7 refl refl h same) (All-nil Q)
+  tested (IrType.Array r) h = impossible h
+  tested IrType.Undefined h = test_kind kinds.Undefined
+  tested IrType.Boolean h = test_kind kinds.Boolean
+  tested IrType.Char h = test_kind kinds.Char
+  tested IrType.Byte h = test_kind kinds.Byte
+  tested IrType.Short h = test_kind kinds.Short
+  tested IrType.Int h = test_kind kinds.Int
+  tested IrType.Long h = test_kind kinds.Long
+  tested _ h = test_kind kinds.Text
 
   cast_kind : (k : Kind) → Contains asked cast_exception → All Q (helper (as_name k) ∷ [])
   cast_kind k i = All-cons Q (helper (as_name k)) [] (λ h same. named_cast_to (UsesIt asked) (λ j. a_cast j i) k h same) (All-nil Q)
 
-  casted : (t : IrType) → ((is_any t ≡ false) → Contains asked cast_exception) → All Q (cast_uses t)
-  casted IrType.Any f = All-nil Q
-  casted (IrType.Class k) f = All-cons Q (bound k (class_binding AsInstance k)) [] (λ h same. no_helper (bound k (class_binding AsInstance k)) 8 refl refl h same) (All-nil Q)
-  casted (IrType.Array r) f = All-nil Q
-  casted IrType.Undefined f = cast_kind kinds.Undefined (f refl)
-  casted IrType.Boolean f = cast_kind kinds.Boolean (f refl)
-  casted IrType.Char f = cast_kind kinds.Char (f refl)
-  casted IrType.Byte f = cast_kind kinds.Byte (f refl)
-  casted IrType.Short f = cast_kind kinds.Short (f refl)
-  casted IrType.Int f = cast_kind kinds.Int (f refl)
-  casted IrType.Long f = cast_kind kinds.Long (f refl)
-  casted _ f = cast_kind kinds.Text (f refl)
+  casted : (t : IrType) → can_cast any_object t ≡ true → ((is_any t ≡ false) → Contains asked cast_exception) → All Q (cast_uses t)
+  casted IrType.Any k f = All-nil Q
+  casted (IrType.Class k) q f = All-cons Q (bound k (class_binding AsInstance k)) [] (λ h same. no_helper (bound k (class_binding AsInstance k)) 8 refl refl h same) (All-nil Q)
+  casted (IrType.Array r) k f = impossible k
+  casted IrType.Undefined k f = cast_kind kinds.Undefined (f refl)
+  casted IrType.Boolean k f = cast_kind kinds.Boolean (f refl)
+  casted IrType.Char k f = cast_kind kinds.Char (f refl)
+  casted IrType.Byte k f = cast_kind kinds.Byte (f refl)
+  casted IrType.Short k f = cast_kind kinds.Short (f refl)
+  casted IrType.Int k f = cast_kind kinds.Int (f refl)
+  casted IrType.Long k f = cast_kind kinds.Long (f refl)
+  casted _ k f = cast_kind kinds.Text (f refl)
+
+  -- no class is named as the base of an array
+  based : (b : BaseRef) → has_base any_object b ≡ true → All Q (base_uses b)
+  based (BaseRef.Class k) h = impossible h
+  based _ h = All-nil Q
+
+  typed : (t : IrType) → is_based any_object t ≡ true → All Q (type_uses t)
+  typed (IrType.Array r) h = based r.base h
+  typed _ h = All-nil Q
 
   cast_asks : (t : IrType) → is_any t ≡ false → Contains (of_cast t) cast_exception
   cast_asks t n = Contains-append_right (of_type t) (if is_any t then [] else class_cast) cast_exception (subst (λ (b : Bool). Contains (if b then [] else class_cast) cast_exception) (sym n) (here cast_exception []))
@@ -188,19 +201,32 @@ module _ (runs : Lookup) (c : ClassDef) (d : MethodDef) (e : Term) (body : d.bod
       go true = there (asked_info.Reflective m) (of_receiver names r ++ no_such_method) (Throws (codes "java.lang.NullPointerException")) (Contains-append_left (of_receiver names r) no_such_method (Throws (codes "java.lang.NullPointerException")) i)
       go false = Contains-append_right (of_call m (receiver_class (type_of_term r))) (of_receiver names r) (Throws (codes "java.lang.NullPointerException")) i
 
-  brings : (t : Term) → Contains (trees e) t → Brings Q runs box sure t
-  brings (apply_static p k n m ts t) among = only_function (UsesIt asked) (member k n m)
-  brings (apply p r m ts t) among = (callee_good (callee_of (type_of_term r) m), λ u. check (told (apply p r m ts t) among (Throws (codes "java.lang.NullPointerException")) (apply_asks r m (receiver_asks r u))))
-  brings (apply_statically p r k n m ts t) among = (only_function (UsesIt asked) (called_member runs n (member k n m)), λ u. check (told (apply_statically p r k n m ts t) among (Throws (codes "java.lang.NullPointerException")) (Contains-append_right (of_static_call k n m) (of_receiver names r) (Throws (codes "java.lang.NullPointerException")) (receiver_asks r u))))
-  brings (new_object p k m ts) among = (only_function (UsesIt asked) (member k Constructor m), λ h same. no_helper (class_use k) 1 refl refl h same)
-  brings (select p r k f t) among = λ u. check (told (select p r k f t) among (Throws (codes "java.lang.NullPointerException")) (there (Field k f false) (of_receiver names r) (Throws (codes "java.lang.NullPointerException")) (receiver_asks r u)))
-  brings (select_static p k f t) among = (λ h same. no_helper (static_use k f) 2 refl refl h same, λ h same. no_helper (setter_use k f) 3 refl refl h same)
-  brings (load_module p k) among = λ h same. no_helper (load_use k) 5 refl refl h same
-  brings (store_module p k a) among = λ h same. no_helper (store_use k) 6 refl refl h same
-  brings (is_instance_of p a t) among = tested t
-  brings (as_instance_of p a t) among = casted t (λ n. told (as_instance_of p a t) among cast_exception (cast_asks t n))
-  brings (binary_op p o a b) among = (λ n. divided o (binary_op p o a b) a b (λ h. told (binary_op p o a b) among (Throws (codes "java.lang.ArithmeticException")) (division_asks o b h)) n, always o)
-  brings _ among = tt
+  brings : (t : Term) → Contains (trees e) t → UsesNoArrays t → Brings Q runs box sure t
+  brings (apply_static p k n m ts t) among a = only_function (UsesIt asked) (member k n m)
+  brings (apply p r m ts t) among a = (callee_good (callee_of (type_of_term r) m), λ u. check (told (apply p r m ts t) among (Throws (codes "java.lang.NullPointerException")) (apply_asks r m (receiver_asks r u))))
+  brings (apply_statically p r k n m ts t) among a = (only_function (UsesIt asked) (called_member runs n (member k n m)), λ u. check (told (apply_statically p r k n m ts t) among (Throws (codes "java.lang.NullPointerException")) (Contains-append_right (of_static_call k n m) (of_receiver names r) (Throws (codes "java.lang.NullPointerException")) (receiver_asks r u))))
+  brings (new_object p k m ts) among a = (only_function (UsesIt asked) (member k Constructor m), λ h same. no_helper (class_use k) 1 refl refl h same)
+  brings (select p r k f t) among a = λ u. check (told (select p r k f t) among (Throws (codes "java.lang.NullPointerException")) (there (Field k f false) (of_receiver names r) (Throws (codes "java.lang.NullPointerException")) (receiver_asks r u)))
+  brings (select_static p k f t) among a = (λ h same. no_helper (static_use k f) 2 refl refl h same, λ h same. no_helper (setter_use k f) 3 refl refl h same)
+  brings (load_module p k) among a = λ h same. no_helper (load_use k) 5 refl refl h same
+  brings (store_module p k v) among a = λ h same. no_helper (store_use k) 6 refl refl h same
+  brings (assign p (array_select q r i t) v) among a = absurd a
+  brings (new_array p r v) among a = absurd a
+  brings (array_value p r ts) among a = absurd a
+  brings (array_length p r) among a = λ u. check (told (array_length p r) among (Throws (codes "java.lang.NullPointerException")) (receiver_asks r u))
+  brings (array_select p r i t) among a = absurd a
+  brings (is_instance_of p v t) among a = (tested t a.0, typed t a.1)
+  brings (as_instance_of p v t) among a = (casted t a.0 (λ n. told (as_instance_of p v t) among cast_exception (cast_asks t n)), typed t a.1)
+  brings (binary_op p o v b) among a = (λ n. divided o (binary_op p o v b) v b (λ h. told (binary_op p o v b) among (Throws (codes "java.lang.ArithmeticException")) (division_asks o b h)) n, always o)
+  brings _ among a = tt
+
+  -- what each written tree brings
+  each_brings : (ts : List Term) → All (Contains (trees e)) ts → All UsesNoArrays ts → All (Brings Q runs box sure) ts
+  each_brings [] i a = All-nil (Brings Q runs box sure)
+  each_brings (t ∷ ts) i a = All-cons (Brings Q runs box sure) t ts (brings t (All-head (Contains (trees e)) t ts i) (All-head UsesNoArrays t ts a)) (each_brings ts (All-tail (Contains (trees e)) t ts i) (All-tail UsesNoArrays t ts a))
+
+  written_brings : All (Brings Q runs box sure) (written e)
+  written_brings = each_brings (written e) (each_written (Contains (trees e)) e (all_from (Contains (trees e)) (trees e) (λ t i. i))) (without_arrays e (and_parts (may_make any_object (body_boxes d e)) (is_built any_object (λ e. true) e) built).1)
 
   completed_in : (n : Namespace) (ss : core.Statements) → All Q (uses_of_all runs ss) → All Q (uses_of_all runs (completed n ss))
   completed_in Constructor ss h = followed_in Q runs box ss (core.statement (core.return_of None (core.variable_use core.receiver)) core.no_statements) h (All-nil Q)
@@ -210,7 +236,7 @@ module _ (runs : Lookup) (c : ClassDef) (d : MethodDef) (e : Term) (body : d.bod
   completed_in PrivateStatic ss h = h
 
   pub all_used : All Q (uses runs (desugared_member d e).body)
-  all_used = once_in Q [] (uses_of_all runs (desugared_member d e).body) (completed_in d.namespace (body_code (is_mutable_in d e) d.result e) (tree Q runs box sure (is_mutable_in d e) e (each_written (Brings Q runs box sure) e (all_from (Brings Q runs box sure) (trees e) brings)) [] (result_destination d.result) 1))
+  all_used = once_in Q [] (uses_of_all runs (desugared_member d e).body) (completed_in d.namespace (body_code (is_mutable_in d e) d.result e) (tree Q runs box sure (is_mutable_in d e) e written_brings [] (result_destination d.result) 1))
 
 pub used : BodiesUseObjectHelpers
-used runs c d e h body kept i = All-contains (Only (UsesIt (asked_in e))) (uses runs (desugared_member d e).body) (helper (helper_name h)) (all_used runs c d e body kept) i h refl
+used runs c d e h body kept built i = All-contains (Only (UsesIt (asked_in e))) (uses runs (desugared_member d e).body) (helper (helper_name h)) (all_used runs c d e body kept built) i h refl

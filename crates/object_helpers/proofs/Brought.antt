@@ -2,7 +2,6 @@
 use Rattle.object_helpers.proofs.WrittenTrees.{written, written_below, all_written, cases_written}
 use Rattle.sj_core.specs.Lookup.{Lookup}
 use Rattle.sj_core.specs.declared.callees.Callee.TheVariants as callees
-use Rattle.sj_names.specs.declared.method_names.Member.{Member}
 use Rattle.std.proofs.Common.{◌≡◌, ℕ, zero, suc, Bool, true, false, List, [], ◌∷◌, ◌++◌, ◌&&◌, Some, None, refl, sym, ap, ◌∙◌, codes, if◌then◌else◌}
 use Rattle.std.specs.Prelude.{not, pos, negsuc}
 use Rattle.std.specs.List.{All}
@@ -12,26 +11,27 @@ use Rattle.js_tree.specs.declared.items.Binding.{Binding}
 use Rattle.sj_core.specs.Terms as core
 use Rattle.sj_core.specs.Terms.{Expression, followed}
 use Rattle.sj_core.specs.Views.{expressions_of}
-use Rattle.sj_desugar.specs.Coercions.{is_char, coerced, coerced_arguments, coerced_receiver}
-use Rattle.sj_desugar.specs.Desugar.{operand, receiver, received, received_text, into, block, operands, cases, finish, has_no_value, target_of, Targets, expression_of, all_expressions, labeled_code, leaving_code, wrapped, branches, break_unless, switch_code, first_of, second_of, rest_of, member, types_of, callee_of}
+use Rattle.sj_desugar.specs.Coercions.{is_char, coerced, coerced_arguments, coerced_items, coerced_receiver}
+use Rattle.sj_desugar.specs.Desugar.{operand, receiver, received, received_text, into, block, operands, cases, finish, has_no_value, target_of, Targets, expression_of, all_expressions, labeled_code, leaving_code, wrapped, branches, break_unless, switch_code, first_of, second_of, third_of, rest_of, member, types_of, callee_of}
 use Rattle.sj_desugar.specs.Finalizers.{kept, keep_all, give_all_back, finalizer_code}
 use Rattle.sj_desugar.specs.Plain.{is_plain}
 use Rattle.sj_desugar.specs.Spill.{Destination, discard, to_variable, to_result, Code, one, put_first, Operand, all_plain, texts, Spilled, spill, spill_case, then_use}
 use Rattle.sj_desugar.specs.Texts.{text_of, operand_of}
-use Rattle.sj_emit_expr.specs.Templates.{check_name, is_nonzero_literal, called_member}
-use Rattle.sj_emit_expr.specs.Uses.{object_binding, function_binding, class_use, static_use, setter_use, load_use, store_use, helper_of, test_uses, cast_uses, uses_in, uses_in_all, uses_of, uses_of_all, uses_of_cases, call_uses}
+use Rattle.sj_emit_expr.specs.Templates.{check_name, element_setter, is_nonzero_literal, called_member}
+use Rattle.sj_emit_expr.specs.Uses.{object_binding, function_binding, class_use, static_use, setter_use, load_use, store_use, helper_of, test_uses, cast_uses, base_uses, type_uses, uses_in, uses_in_all, uses_of, uses_of_all, uses_of_cases, call_uses}
 use Rattle.sj_infos.specs.Infos.{is_other_than_zero}
 use Rattle.sj_names.proofs.Same.{impossible}
 use Rattle.sj_names.specs.declared.method_names.Namespace.TheVariants.{Constructor}
+use Rattle.sj_names.specs.declared.references.ArrayRef.{ArrayRef}
 use Rattle.sj_names.specs.declared.references.TypeRef.{TypeRef}
-use Rattle.sj_trees.specs.Term.{Term, Terms, no_terms, more_terms, Cases, no_cases, more_cases, var_def, block_of, labeled, assign, return_to, if_then, while_loop, do_while, try_catch, try_finally, match_on, throw, new_object, load_module, store_module, select, select_static, apply_statically, apply_static, unary_op, binary_op, is_instance_of, as_instance_of, undefined_literal, null_literal, boolean_literal, char_literal, byte_literal, short_literal, int_literal, long_literal, string_literal, var_ref, this_ref, log_line, apply}
+use Rattle.sj_trees.specs.Term.{Term, Terms, no_terms, more_terms, Cases, no_cases, more_cases, var_def, block_of, labeled, assign, return_to, if_then, while_loop, do_while, try_catch, try_finally, match_on, throw, new_object, new_array, array_value, array_length, array_select, load_module, store_module, select, select_static, apply_statically, apply_static, unary_op, binary_op, is_instance_of, as_instance_of, undefined_literal, null_literal, boolean_literal, char_literal, byte_literal, short_literal, int_literal, long_literal, string_literal, var_ref, this_ref, log_line, apply}
 use Rattle.sj_trees.specs.TypeOf.{type_of_term, unary_result, binary_result}
-use Rattle.sj_trees.specs.Types.{class_type, reference_type}
+use Rattle.sj_trees.specs.Types.{class_type, reference_type, element_type}
 use Rattle.sj_trees.specs.declared.operators.BinaryOp.{BinaryOp}
 use Rattle.sj_trees.specs.declared.operators.BinaryOp.TheVariants.{StringConcatenate, StrictEqual, StrictNotEqual, IntDivide, IntRemainder, LongDivide, LongRemainder}
 use Rattle.sj_trees.specs.declared.positions.Position.{Position}
 use Rattle.sj_trees.specs.declared.types.IrType.{IrType}
-use Rattle.sj_trees.specs.declared.types.IrType.TheVariants.{Any, Undefined, Null, Boolean, Char, Byte, Short, Int, Long, String}
+use Rattle.sj_trees.specs.declared.types.IrType.TheVariants.{Any, Undefined, Null, Boolean, Char, Byte, Short, Int, Long, String, Array}
 use Rattle.sure_receivers.specs.Sure.{is_sure}
 
 -- a literal other than zero is plain, and its text is one
@@ -137,6 +137,11 @@ module _ (Q : Binding → Type 0) (runs : Lookup) (box : Q (object_binding (code
   arguments_in (r ∷ rs) (t ∷ ts) [] h = none
   arguments_in (r ∷ rs) (t ∷ ts) (e ∷ es) h = join (uses_in runs (coerced (reference_type r) t e)) (uses_in_all runs (expressions_of (coerced_arguments rs ts es))) (coerced_in (reference_type r) t e h.0) (arguments_in rs ts es h.1)
 
+  items_in : (t : IrType) (ts : List IrType) (es : List Expression) → EachIn es → All Q (uses_in_all runs (expressions_of (coerced_items t ts es)))
+  items_in t [] es h = each_in es h
+  items_in t (u ∷ us) [] h = none
+  items_in t (u ∷ us) (e ∷ es) h = join (uses_in runs (coerced t u e)) (uses_in_all runs (expressions_of (coerced_items t us es))) (coerced_in t u e h.0) (items_in t us es h.1)
+
   first_in : (es : List Expression) → EachIn es → In (first_of es)
   first_in [] h = none
   first_in (e ∷ es) h = h.0
@@ -144,6 +149,10 @@ module _ (Q : Binding → Type 0) (runs : Lookup) (box : Q (object_binding (code
   second_in : (es : List Expression) → EachIn es → In (second_of es)
   second_in [] h = none
   second_in (e ∷ es) h = first_in es h.1
+
+  third_in : (es : List Expression) → EachIn es → In (third_of es)
+  third_in [] h = none
+  third_in (e ∷ es) h = second_in es h.1
 
   rest_in : (es : List Expression) → EachIn es → EachIn (rest_of es)
   rest_in [] h = tt
@@ -165,8 +174,13 @@ module _ (Q : Binding → Type 0) (runs : Lookup) (box : Q (object_binding (code
     Brings (select_static p c f t) = Q (static_use c f) × Q (setter_use c f)
     Brings (load_module p c) = Q (load_use c)
     Brings (store_module p c e) = Q (store_use c)
-    Brings (is_instance_of p e t) = All Q (test_uses t)
-    Brings (as_instance_of p e t) = All Q (cast_uses t)
+    Brings (assign p (array_select q d i t) e) = Q (object_binding (element_setter t))
+    Brings (new_array p r e) = Q (object_binding (codes "$mk")) × All Q (base_uses r.base)
+    Brings (array_value p r ts) = Q (object_binding (codes "$A")) × All Q (base_uses r.base)
+    Brings (array_length p e) = is_sure sure e ≡ false → Q (object_binding check_name)
+    Brings (array_select p e i t) = Q (object_binding (codes "$get")) × (is_sure sure e ≡ false → Q (object_binding check_name))
+    Brings (is_instance_of p e t) = All Q (test_uses t) × All Q (type_uses t)
+    Brings (as_instance_of p e t) = All Q (cast_uses t) × All Q (type_uses t)
     Brings (binary_op p o e d) = (is_other_than_zero d ≡ false → All Q (helper_of false o)) × All Q (helper_of true o)
     Brings _ = Unit {0}
 
@@ -216,6 +230,14 @@ module _ (Q : Binding → Type 0) (runs : Lookup) (box : Q (object_binding (code
         let helper = helper_of (is_nonzero_literal right) o in
         join (helper ++ uses_in runs left) (uses_in runs right) (join helper (uses_in runs left) (helper_in o d y text brought.0 brought.1) (operand_in o (type_of_term e) x h)) (operand_in o (type_of_term d) y k)
 
+    -- what makes an array, in front of what is in it
+    array_in : (x : List ℕ) (r : ArrayRef) (inside : List Binding) → Q (object_binding x) × All Q (base_uses r.base) → All Q inside → All Q (object_binding x ∷ base_uses r.base ++ inside)
+    array_in x r inside h k = All-cons Q (object_binding x) (base_uses r.base ++ inside) h.0 (join (base_uses r.base) inside h.1 k)
+
+    -- what a test or a cast calls, and what names the base of its type
+    typed_in : (t : IrType) (names inside : List Binding) → All Q names × All Q (type_uses t) → All Q inside → All Q (names ++ inside ++ type_uses t)
+    typed_in t names inside h k = join (names ++ inside) (type_uses t) (join names inside h.0 k) h.1
+
     mutual
       expression_in : (t : Term) → Each (written t) → In (expression_of sure t)
       expression_in (if_then p c a b t) g =
@@ -247,8 +269,17 @@ module _ (Q : Binding → Type 0) (runs : Lookup) (box : Q (object_binding (code
       expression_in (select_static p c f t) g = All-cons Q (static_use c f) [] (own (select_static p c f t) g).0 none
       expression_in (load_module p c) g = All-cons Q (load_use c) [] (own (load_module p c) g) none
       expression_in (unary_op p o e) g = expression_in e (inner (unary_op p o e) g)
-      expression_in (is_instance_of p e t) g = join (test_uses t) (uses_in runs (coerced Any (type_of_term e) (expression_of sure e))) (own (is_instance_of p e t) g) (coerced_in Any (type_of_term e) (expression_of sure e) (expression_in e (inner (is_instance_of p e t) g)))
-      expression_in (as_instance_of p e t) g = join (cast_uses t) (uses_in runs (coerced Any (type_of_term e) (expression_of sure e))) (own (as_instance_of p e t) g) (coerced_in Any (type_of_term e) (expression_of sure e) (expression_in e (inner (as_instance_of p e t) g)))
+      expression_in (new_array p r e) g = array_in (codes "$mk") r (uses_in runs (expression_of sure e)) (own (new_array p r e) g) (expression_in e (inner (new_array p r e) g))
+      expression_in (array_value p r ts) g = array_in (codes "$A") r (uses_in_all runs (expressions_of (coerced_items (element_type r) (types_of ts) (all_expressions sure ts)))) (own (array_value p r ts) g) (items_in (element_type r) (types_of ts) (all_expressions sure ts) (expressions_in ts (inner (array_value p r ts) g)))
+      expression_in (array_length p e) g = received_in (is_sure sure e) (expression_of sure e) (own (array_length p e) g) (expression_in e (inner (array_length p e) g))
+      expression_in (array_select p e i t) g =
+          let tree = array_select p e i t in
+          let g0 = two e i (inner tree g) in
+          let array = uses_in runs (received_text (is_sure sure e) (expression_of sure e)) in
+          let index = uses_in runs (expression_of sure i) in
+          All-cons Q (object_binding (codes "$get")) (array ++ index) (own tree g).0 (join array index (received_in (is_sure sure e) (expression_of sure e) (own tree g).1 (expression_in e g0.0)) (expression_in i g0.1))
+      expression_in (is_instance_of p e t) g = typed_in t (test_uses t) (uses_in runs (coerced Any (type_of_term e) (expression_of sure e))) (own (is_instance_of p e t) g) (coerced_in Any (type_of_term e) (expression_of sure e) (expression_in e (inner (is_instance_of p e t) g)))
+      expression_in (as_instance_of p e t) g = typed_in t (cast_uses t) (uses_in runs (coerced Any (type_of_term e) (expression_of sure e))) (own (as_instance_of p e t) g) (coerced_in Any (type_of_term e) (expression_of sure e) (expression_in e (inner (as_instance_of p e t) g)))
       expression_in (binary_op p o e d) g = let g0 = two e d (inner (binary_op p o e d) g) in binary_in o e d (expression_of sure e) (expression_of sure d) (own (binary_op p o e d) g) (λ h. refl) (expression_in e g0.0) (expression_in d g0.1)
       expression_in _ g = none
 
@@ -385,6 +416,17 @@ module _ (Q : Binding → Type 0) (runs : Lookup) (box : Q (object_binding (code
             let os : List Operand = receiver_for ts d ∷ operand_for ts e ∷ [] in
             let xs = (spill os j).expressions in
             use_in os (target_in d (own target g0.0) gd (tree d gd) ts, (part_in e g0.1 (tree e g0.1) ts, tt)) j (λ es. one (core.assign_field (Some p) (first_of es) c f (coerced t (type_of_term e) (second_of es)))) (λ i r. alone (core.assign_field (Some p) (first_of xs) c f (coerced t (type_of_term e) (second_of xs))) (join (uses_in runs (first_of xs)) (uses_in runs (coerced t (type_of_term e) (second_of xs))) (first_in xs r) (coerced_in t (type_of_term e) (second_of xs) (second_in xs r))))
+        tree (assign p (array_select q d x t) e) g ts k j =
+            let target = array_select q d x t in
+            let whole = assign p target e in
+            let g0 = two target e (inner whole g) in
+            let gd = two d x (inner target g0.0) in
+            let os : List Operand = receiver_for ts d ∷ operand_for ts x ∷ operand_for ts e ∷ [] in
+            let xs = (spill os j).expressions in
+            let array = uses_in runs (first_of xs) in
+            let index = uses_in runs (second_of xs) in
+            let value = uses_in runs (coerced t (type_of_term e) (third_of xs)) in
+            use_in os (target_in d (own target g0.0).1 gd.0 (tree d gd.0) ts, (part_in x gd.1 (tree x gd.1) ts, (part_in e g0.1 (tree e g0.1) ts, tt))) j (λ es. one (core.assign_element (Some p) t (first_of es) (second_of es) (coerced t (type_of_term e) (third_of es)))) (λ i r. alone (core.assign_element (Some p) t (first_of xs) (second_of xs) (coerced t (type_of_term e) (third_of xs))) (All-cons Q (object_binding (element_setter t)) (array ++ index ++ value) (own whole g) (join (array ++ index) value (join array index (first_in xs r) (second_in xs r)) (coerced_in t (type_of_term e) (third_of xs) (third_in xs r)))))
         tree (assign p (select_static q c f t) e) g ts k j = let g0 = two (select_static q c f t) e (inner (assign p (select_static q c f t) e) g) in act_in e g0.1 (tree e g0.1) ts j (λ es. one (core.assign_static (Some p) c f (coerced t (type_of_term e) (first_of es)))) (λ x i r. alone (core.assign_static (Some p) c f (coerced t (type_of_term e) (first_of x))) (All-cons Q (setter_use c f) (uses_in runs (coerced t (type_of_term e) (first_of x))) (own (select_static q c f t) g0.0).1 (coerced_in t (type_of_term e) (first_of x) r)))
         tree (return_to p e l) g ts k j = leaving_in (target_of ts l) p l (into is_mutable sure ts (target_of ts l) j e) (tree e (inner (return_to p e l) g) ts (target_of ts l) j)
         tree (if_then p c a b t) g ts k j = let g0 = three c a b (inner (if_then p c a b t) g) in act_in c g0.0 (tree c g0.0) ts j (λ es j. branches p (first_of es) (into is_mutable sure ts k j a) (λ j. into is_mutable sure ts k j b)) (λ x i f. branch_in p (first_of x) (into is_mutable sure ts k i a).statements (into is_mutable sure ts k (into is_mutable sure ts k i a).next b).statements f (tree a g0.1.0 ts k i) (tree b g0.1.1 ts k (into is_mutable sure ts k i a).next))
@@ -444,12 +486,32 @@ module _ (Q : Binding → Type 0) (runs : Lookup) (box : Q (object_binding (code
         tree (this_ref p t) g ts k j = finish_in k p t true (core.variable_use core.receiver) j none
         tree (throw p e) g ts k j = let i0 = inner (throw p e) g in act_in e i0 (tree e i0) ts j (λ es. one (core.throw_of (Some p) (coerced Any (type_of_term e) (first_of es)))) (λ x i f. alone (core.throw_of (Some p) (coerced Any (type_of_term e) (first_of x))) (coerced_in Any (type_of_term e) (first_of x) f))
         tree (unary_op p o e) g ts k j = let i0 = inner (unary_op p o e) g in act_in e i0 (tree e i0) ts j (λ es. finish k p (unary_result o) false (core.unary_of o (first_of es))) (λ x i f. finish_in k p (unary_result o) false (core.unary_of o (first_of x)) i f)
+        tree (new_array p r e) g ts k j = let i0 = inner (new_array p r e) g in act_in e i0 (tree e i0) ts j (λ es. finish k p (Array r) false (core.new_array_of r (first_of es))) (λ x i f. finish_in k p (Array r) false (core.new_array_of r (first_of x)) i (array_in (codes "$mk") r (uses_in runs (first_of x)) (own (new_array p r e) g) f))
+        tree (array_value p r es) g ts k j =
+            let own_tree = array_value p r es in
+            let os : List Operand = operands is_mutable sure ts es in
+            let xs = (spill os j).expressions in
+            let items = expressions_of (coerced_items (element_type r) (types_of es) xs) in
+            use_in os (operands_in es (inner own_tree g) ts) j (λ xs. finish k p (Array r) false (core.array_of r (expressions_of (coerced_items (element_type r) (types_of es) xs)))) (λ i h. finish_in k p (Array r) false (core.array_of r items) i (array_in (codes "$A") r (uses_in_all runs items) (own own_tree g) (items_in (element_type r) (types_of es) xs h)))
+        tree (array_length p e) g ts k j =
+            let i0 = inner (array_length p e) g in
+            let os : List Operand = receiver_for ts e ∷ [] in
+            let xs = (spill os j).expressions in
+            use_in os (target_in e (own (array_length p e) g) i0 (tree e i0) ts, tt) j (λ xs. finish k p Int false (core.length_of (first_of xs))) (λ i r. finish_in k p Int false (core.length_of (first_of xs)) i (first_in xs r))
+        tree (array_select p e x t) g ts k j =
+            let own_tree = array_select p e x t in
+            let g0 = two e x (inner own_tree g) in
+            let os : List Operand = receiver_for ts e ∷ operand_for ts x ∷ [] in
+            let xs = (spill os j).expressions in
+            let array = uses_in runs (first_of xs) in
+            let index = uses_in runs (second_of xs) in
+            use_in os (target_in e (own own_tree g).1 g0.0 (tree e g0.0) ts, (part_in x g0.1 (tree x g0.1) ts, tt)) j (λ xs. finish k p t false (core.element_of (first_of xs) (second_of xs))) (λ i r. finish_in k p t false (core.element_of (first_of xs) (second_of xs)) i (All-cons Q (object_binding (codes "$get")) (array ++ index) (own own_tree g).0 (join array index (first_in xs r) (second_in xs r))))
         tree (is_instance_of p e t) g ts k j =
             let i0 = inner (is_instance_of p e t) g in
-            act_in e i0 (tree e i0) ts j (λ es. finish k p Boolean false (core.test_of t (coerced Any (type_of_term e) (first_of es)))) (λ x i f. finish_in k p Boolean false (core.test_of t (coerced Any (type_of_term e) (first_of x))) i (join (test_uses t) (uses_in runs (coerced Any (type_of_term e) (first_of x))) (own (is_instance_of p e t) g) (coerced_in Any (type_of_term e) (first_of x) f)))
+            act_in e i0 (tree e i0) ts j (λ es. finish k p Boolean false (core.test_of t (coerced Any (type_of_term e) (first_of es)))) (λ x i f. finish_in k p Boolean false (core.test_of t (coerced Any (type_of_term e) (first_of x))) i (typed_in t (test_uses t) (uses_in runs (coerced Any (type_of_term e) (first_of x))) (own (is_instance_of p e t) g) (coerced_in Any (type_of_term e) (first_of x) f)))
         tree (as_instance_of p e t) g ts k j =
             let i0 = inner (as_instance_of p e t) g in
-            act_in e i0 (tree e i0) ts j (λ es. finish k p t false (core.cast_of t (coerced Any (type_of_term e) (first_of es)))) (λ x i f. finish_in k p t false (core.cast_of t (coerced Any (type_of_term e) (first_of x))) i (join (cast_uses t) (uses_in runs (coerced Any (type_of_term e) (first_of x))) (own (as_instance_of p e t) g) (coerced_in Any (type_of_term e) (first_of x) f)))
+            act_in e i0 (tree e i0) ts j (λ es. finish k p t false (core.cast_of t (coerced Any (type_of_term e) (first_of es)))) (λ x i f. finish_in k p t false (core.cast_of t (coerced Any (type_of_term e) (first_of x))) i (typed_in t (cast_uses t) (uses_in runs (coerced Any (type_of_term e) (first_of x))) (own (as_instance_of p e t) g) (coerced_in Any (type_of_term e) (first_of x) f)))
         tree (binary_op p o e d) g ts k j =
             let g0 = two e d (inner (binary_op p o e d) g) in
             let os : List Operand = operand_for ts e ∷ operand_for ts d ∷ [] in

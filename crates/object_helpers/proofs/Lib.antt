@@ -3,6 +3,7 @@ pub mod Brought
 pub mod Named
 pub mod Pieces
 pub mod Sures
+pub mod WithoutArrays
 pub mod WrittenTrees
 pub use Rattle.body_uses.proofs.Direct
 pub use Rattle.body_uses.proofs.Given

@@ -9,6 +9,7 @@ use Rattle.body_uses.proofs.Calls.{needed}
 use Rattle.body_uses.proofs.Members.{defined}
 use Rattle.body_uses.specs.Accepted.{IsAccepted}
 use Rattle.body_uses.specs.Bodies.{AreBodies}
+use Rattle.body_uses.specs.Built.{is_object_body}
 use Rattle.body_uses.proofs.Uses.{combine}
 use Rattle.body_uses.proofs.EachTyped.{in_all}
 use Rattle.body_uses.proofs.Undenied.{first_or_later}
@@ -177,7 +178,7 @@ exception_asked p = calls_ask p method_exception (λ names m e same. there (Refl
 pub name_asked : (p : MethodName) (body : Option Term) → Contains (forms_by_body body) (forms.Reflective p) → Contains (asked_by_body body) (Reflective p)
 name_asked p = calls_ask p (Reflective p) (λ names m e same. subst (λ (x : MethodName). Contains (asked_by_name names m e) (Reflective x)) same (here (Reflective m) (infos.of_receiver names e ++ infos.no_such_method)))
 
-module _ (entries : List EntryPoint) (files : List SourceFile) (l : Linked) (all : List EmittedMethod) (accepted : IsAccepted entries files l.world) (bodies : AreBodies l.world entries all) (reached : (f : Fact) → Contains l.facts f → Reachable l.world entries f) where
+module _ (entries : List EntryPoint) (files : List SourceFile) (l : Linked) (all : List EmittedMethod) (accepted : IsAccepted entries files l.world) (bodies : AreBodies l.world entries all) (reached : (f : Fact) → Contains l.facts f → Reachable l.world entries f) (objects : (e : EmittedMethod) → Contains all e → is_object_body e.definition e.its_body ≡ true) where
   abbrev Asked : Name → Type 0
   Asked c = Reads l.world entries (Reachable l.world entries) (Throws c)
 
@@ -297,7 +298,7 @@ module _ (entries : List EntryPoint) (files : List SourceFile) (l : Linked) (all
       let o = owner_of l.world e.member e.definition (bodies.found e i).found in
       let among = Contains-permutation l.world accepted.classes o.owner (IsPermutation-sym accepted.classes l.world accepted.world.sorted.same) o.in_world in
       let kept = class-keeps o.owner (accepted.kept o.owner among) e.definition o.listed in
-      weaken (piece_of_member l.world e).uses (all_used (lookup_in l.world) o.owner e.definition e.its_body (bodies.found e i).has_body kept)
+      weaken (piece_of_member l.world e).uses (all_used (lookup_in l.world) o.owner e.definition e.its_body (bodies.found e i).has_body kept (objects e i))
     where
       weaken : (bs : List Binding) → All (Only (UsesIt (asked_in e.its_body))) bs → All Q bs
       weaken bs h = All-weaker (Only (UsesIt (asked_in e.its_body))) Q (λ b f k same. of_body e i k (f k same)) bs h
@@ -428,7 +429,7 @@ module _ (entries : List EntryPoint) (files : List SourceFile) (l : Linked) (all
   thrown failures.Method r = of_thrown (codes "java.lang.NoSuchMethodException") r
 
 pub of_objects : HelpersAreOfObjects
-of_objects entries files l all ps accepted bodies reached objects p h i = good_helper entries files l all accepted bodies reached h (linked_good entries files l all accepted bodies reached ps p h i)
+of_objects entries files l all ps accepted bodies reached objects p h i = good_helper entries files l all accepted bodies reached objects h (linked_good entries files l all accepted bodies reached objects ps p h i)
 
 pub reached : ThrownClassesAreReached
-reached entries files l all ps accepted bodies known objects p f i = thrown entries files l all accepted bodies known f (linked_good entries files l all accepted bodies known ps p (helpers.Throws f) i)
+reached entries files l all ps accepted bodies known objects p f i = thrown entries files l all accepted bodies known objects f (linked_good entries files l all accepted bodies known objects ps p (helpers.Throws f) i)

@@ -4,7 +4,7 @@ use Rattle.std.specs.List.{All}
 use Rattle.std.proofs.lemmas.List.Elements.{All-nil, All-cons, All-head, All-tail}
 use Rattle.body_uses.proofs.Uses.{ahead, after, combine}
 use Rattle.sj_infos.specs.Trees.{trees, below, all_below, cases_below}
-use Rattle.sj_trees.specs.Term.{Term, Terms, no_terms, more_terms, Cases, no_cases, more_cases, var_def, block_of, labeled, assign, return_to, if_then, while_loop, do_while, try_catch, try_finally, match_on, throw, new_object, store_module, select, apply, apply_statically, apply_static, unary_op, binary_op, is_instance_of, as_instance_of, log_line}
+use Rattle.sj_trees.specs.Term.{Term, Terms, no_terms, more_terms, Cases, no_cases, more_cases, var_def, block_of, labeled, assign, return_to, if_then, while_loop, do_while, try_catch, try_finally, match_on, throw, new_object, new_array, array_value, array_length, array_select, store_module, select, apply, apply_statically, apply_static, unary_op, binary_op, is_instance_of, as_instance_of, log_line}
 
 abbrev mutual
   -- the written trees in a tree
@@ -29,6 +29,10 @@ abbrev mutual
   written_below (apply_static p c n m ts t) = all_written ts
   written_below (unary_op p o e) = e ∷ written_below e
   written_below (binary_op p o a b) = (a ∷ written_below a) ++ (b ∷ written_below b)
+  written_below (new_array p r e) = e ∷ written_below e
+  written_below (array_value p r ts) = all_written ts
+  written_below (array_length p e) = e ∷ written_below e
+  written_below (array_select p a b t) = (a ∷ written_below a) ++ (b ∷ written_below b)
   written_below (is_instance_of p e t) = e ∷ written_below e
   written_below (as_instance_of p e t) = e ∷ written_below e
   written_below (log_line p e) = e ∷ written_below e
@@ -77,6 +81,10 @@ module _ (P : Term → Type 0) where
     each_below (apply_static p c n m ts t) h = each_of_all ts h
     each_below (unary_op p o e) h = under e (each_below e) h
     each_below (binary_op p o a b) h = two (trees a) (trees b) (written a) (written b) (under a (each_below a)) (under b (each_below b)) h
+    each_below (new_array p r e) h = under e (each_below e) h
+    each_below (array_value p r ts) h = each_of_all ts h
+    each_below (array_length p e) h = under e (each_below e) h
+    each_below (array_select p a b t) h = two (trees a) (trees b) (written a) (written b) (under a (each_below a)) (under b (each_below b)) h
     each_below (is_instance_of p e t) h = under e (each_below e) h
     each_below (as_instance_of p e t) h = under e (each_below e) h
     each_below (log_line p e) h = under e (each_below e) h

@@ -1,6 +1,5 @@
 -- Laws of the helpers that the pieces of a linked world use.
 use Rattle.sj_core.specs.Lookup.{Lookup}
-use Rattle.sj_names.specs.declared.method_names.Member.{Member}
 use Rattle.std.specs.Prelude.{◌≡◌, true, List, Some, Contains}
 use Rattle.body_uses.specs.Accepted.{IsAccepted}
 use Rattle.body_uses.specs.Bodies.{AreBodies}
@@ -29,11 +28,12 @@ use Rattle.sj_world.specs.declared.facts.Fact.{Fact}
 use Rattle.sj_world.specs.declared.facts.Fact.TheVariants.{Made, Body}
 use Rattle.object_helpers.specs.Helpers.{is_object_helper, UsesIt}
 
--- a helper that the code of a body uses, in a method that keeps the local rules, is one that what the body asks for allows
+-- a helper that the code of a body of these forms uses, in a method that keeps the local rules, is one that what the body asks for allows
 abbrev pub BodiesUseObjectHelpers : Type 0
 BodiesUseObjectHelpers = (runs : Lookup) (c : ClassDef) (d : MethodDef) (e : Term) (h : Helper)
     → d.body ≡ Some e
     → KeepsTreeRules c d
+    → is_object_body d e ≡ true
     → Contains (uses runs (desugared_member d e).body) (helper (helper_name h))
     → UsesIt (asked_in e) h
 

@@ -5,7 +5,7 @@
 
 ghost use Rattle.object_helpers.specs.Laws.{BodiesUseObjectHelpers, HelpersAreOfObjects, ThrownClassesAreReached};
 
-/// The emitted code of a body uses the check of null, divisions and boxed chars of all helpers, and a check or a division only where the body asks for the exception
+/// The emitted code of a body of these forms uses the check of null, divisions and boxed chars of all helpers, and a check or a division only where the body asks for the exception
 /// that it throws.
 pub fn bodies_use_object_helpers()
     ensures { BodiesUseObjectHelpers }

@@ -1,7 +1,7 @@
 -- The pieces of a class, but for the functions of its methods.
-use Rattle.std.specs.Prelude.{Bool, ◌||◌, List, [], ◌∷◌, true, false, ◌++◌, Option, Some, None, map, pos, codes, if◌then◌else◌, is_none}
+use Rattle.std.specs.Prelude.{Bool, ◌||◌, List, [], ◌∷◌, true, false, ◌++◌, Option, Some, None, map, codes, if◌then◌else◌, is_none}
 use Rattle.std.specs.List.{flat_map}
-use Rattle.js_tree.specs.Terms.{Name, Expression, no_expressions, expression, null_literal, boolean_literal, undefined_literal, number_literal, big_literal, text_literal, name_use, this_use, property_of, call_of, method_call_of, new_of, binary_of, conditional_of, Statement, Statements, no_statements, statement, const_of, assign_name, assign_property, super_call, return_of, if_only, Member, constructor_of, method_of, Item, object_item, let_item, function_item, class_item, subclass_item, Piece}
+use Rattle.js_tree.specs.Terms.{Name, Expression, no_expressions, expression, null_literal, text_literal, name_use, this_use, property_of, call_of, method_call_of, new_of, binary_of, conditional_of, Statement, Statements, no_statements, statement, const_of, assign_name, assign_property, super_call, return_of, if_only, Member, constructor_of, method_of, Item, object_item, let_item, function_item, class_item, subclass_item, Piece}
 use Rattle.js_tree.specs.Views.{statements_of}
 use Rattle.js_tree.specs.declared.operators.BinaryOperator.TheVariants.{In}
 use Rattle.js_tree.specs.declared.items.Binding.{Binding}
@@ -15,10 +15,9 @@ use Rattle.sj_names.specs.declared.references.TypeRef.TheVariants as References
 use Rattle.sj_trees.specs.declared.classes.ClassDef.{ClassDef}
 use Rattle.sj_trees.specs.declared.classes.FieldDef.{FieldDef}
 use Rattle.sj_trees.specs.declared.types.IrType.{IrType}
-use Rattle.sj_trees.specs.declared.types.IrType.TheVariants as Types
 use Rattle.entry_rules.specs.MethodEntry.{MethodEntry}
 use Rattle.entry_rules.specs.Known.{is_same}
-use Rattle.sj_emit_expr.specs.Templates.{member_name}
+use Rattle.sj_emit_expr.specs.Templates.{member_name, zero_template}
 use Rattle.sj_emit_expr.specs.Uses.{once_each}
 use Rattle.helper_rules.specs.Helpers.{constants}
 use Rattle.helper_rules.specs.Words.{kind_class, is_name, all_kinds, units_of, constants_name, class_name, marker, entry_name, parameters_of, uses, x, call1, only_return, not_null, is_null, has_word, both, either, bound, helper}
@@ -81,15 +80,7 @@ uses_of_entries = flat_map entry_uses
 
 -- the value that a field or a variable of a type begins with
 abbrev pub zero_of : IrType → Expression
-zero_of Types.Boolean = boolean_literal false
-zero_of Types.Char = number_literal (pos 0)
-zero_of Types.Byte = number_literal (pos 0)
-zero_of Types.Short = number_literal (pos 0)
-zero_of Types.Int = number_literal (pos 0)
-zero_of Types.Long = big_literal (pos 0)
-zero_of Types.String = text_literal []
-zero_of Types.Undefined = undefined_literal
-zero_of _ = null_literal
+zero_of = zero_template
 
 abbrev pub field_start : Name → FieldDef → Statement
 field_start c f = assign_property this_use (field_binding FieldProperty c f.name) (zero_of f.tpe)

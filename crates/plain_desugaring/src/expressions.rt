@@ -7,22 +7,26 @@ ghost use Rattle.sj_desugar.specs.Plain as plain;
 ghost use Rattle.sj_desugar.specs.Texts as texts;
 ghost use Rattle.plain_desugaring.specs.Arguments as arguments;
 ghost use Rattle.sj_trees.specs.TypeOf.{type_of_term};
+ghost use Rattle.sj_trees.specs.Types.{element_type};
 ghost use Rattle.sj_trees.specs.View.{view, terms_view};
 ghost use Rattle.sj_core.specs.Terms as terms;
 ghost use Rattle.sj_core.specs.Views as core;
 ghost use Rattle.sj_names.specs.declared.method_names.Namespace.TheVariants.{Constructor};
 ghost use Rattle.sure_receivers.specs.Sure as receivers;
 
+use crate::arrays::{array_of, element_of, length_of, new_array};
 use crate::callees::{callee_on, member_called};
 use crate::coercions::{coerced, coerced_argument};
 use crate::sure::is_sure;
 use crate::texts::operand_of;
 use sj_core::{Callee, CoreExpression, CoreVariable};
-use sj_names::{ClassName, FieldName, LocalName, Member, MethodName, Namespace, NoMemory, TypeRef};
+use sj_names::{
+    ArrayRef, ClassName, FieldName, LocalName, Member, MethodName, Namespace, NoMemory, TypeRef,
+};
 use sj_trees::{BinaryOp, IrType, Tree, type_of};
 use std::alloc::Global;
 
-/// A plain tree as an expression, in a body whose locals `sure` are never null. A form that isn't built stands as undefined.
+/// A plain tree as an expression, in a body whose locals `sure` are never null. Any other stands as undefined.
 #[cycle(expression)]
 pub fn expression_of(
     alloc: Global,
@@ -79,6 +83,13 @@ pub fn expression_of(
             let value = branch(alloc, sure, &IrType::Any, value)?;
             cast(tpe, value)
         }
+        Tree::NewArray(_, array, length) => array_sized(alloc, sure, array, length),
+        Tree::ArrayValue(_, array, trees) => array_with(alloc, sure, array, trees),
+        Tree::ArrayLength(_, array) => length_at(alloc, sure, array),
+        Tree::ArraySelect(_, array, index, _) => {
+            let index = expression_of(alloc, sure, index)?;
+            element_at(alloc, sure, array, index)
+        }
         Tree::Null(_) => Ok(CoreExpression::Null),
         Tree::BooleanLiteral(_, value) => Ok(CoreExpression::Boolean(*value)),
         Tree::CharLiteral(_, unit) => Ok(CoreExpression::Number(i32::from(*unit))),
@@ -101,10 +112,6 @@ pub fn expression_of(
         | Tree::Throw(_, _)
         | Tree::Match(_, _, _, _, _)
         | Tree::StoreModule(_, _, _)
-        | Tree::NewArray(_, _, _)
-        | Tree::ArrayValue(_, _, _)
-        | Tree::ArrayLength(_, _)
-        | Tree::ArraySelect(_, _, _, _)
         | Tree::Undefined(_)
         | Tree::Log(_, _) => Ok(CoreExpression::Undefined),
     }
@@ -180,9 +187,91 @@ fn branch(
 ) -> Result<Box<CoreExpression>, NoMemory>
     ensures { IfOk result (λ e. expression_view e.value ≡ coercions.coerced tpe.now (type_of_term (view tree.now)) (desugar.expression_of (plain.is_among sure.now) (view tree.now))) }
 {
+    Ok(Box::new(alloc, value_as(alloc, sure, tpe, tree)?)?)
+}
+
+// A tree where a value of this type is expected.
+#[cycle(expression)]
+fn value_as(
+    alloc: Global,
+    sure: &[LocalName],
+    tpe: &IrType,
+    tree: &Tree,
+) -> Result<CoreExpression, NoMemory>
+    ensures { IfOk result (λ e. expression_view e ≡ coercions.coerced tpe.now (type_of_term (view tree.now)) (desugar.expression_of (plain.is_among sure.now) (view tree.now))) }
+{
     let own = type_of(alloc, tree)?;
     let expression = expression_of(alloc, sure, tree)?;
-    Ok(Box::new(alloc, coerced(alloc, tpe, &own, expression)?)?)
+    coerced(alloc, tpe, &own, expression)
+}
+
+// A new array of this type and length.
+#[cycle(expression)]
+fn array_sized(
+    alloc: Global,
+    sure: &[LocalName],
+    array: &ArrayRef,
+    length: &Tree,
+) -> Result<CoreExpression, NoMemory>
+    ensures { IfOk result (λ e. expression_view e ≡ terms.new_array_of array.now (desugar.expression_of (plain.is_among sure.now) (view length.now))) }
+{
+    let length = boxed_expression(alloc, sure, length)?;
+    new_array(array, length)
+}
+
+// A new array of this type with these items.
+#[cycle(expression)]
+fn array_with(
+    alloc: Global,
+    sure: &[LocalName],
+    array: &ArrayRef,
+    trees: &[Tree],
+) -> Result<CoreExpression, NoMemory>
+    ensures { IfOk result (λ e. expression_view e ≡ terms.array_of array.now (core.expressions_of (coercions.coerced_items (element_type array.now) (desugar.types_of (terms_view trees.now)) (desugar.all_expressions (plain.is_among sure.now) (terms_view trees.now))))) }
+{
+    let tpe = IrType::of_items(array)?;
+    let items = items_of(alloc, sure, &tpe, trees)?;
+    array_of(array, items)
+}
+
+// The length of an array.
+#[cycle(expression)]
+fn length_at(alloc: Global, sure: &[LocalName], array: &Tree) -> Result<CoreExpression, NoMemory>
+    ensures { IfOk result (λ e. expression_view e ≡ terms.length_of (desugar.received_text (receivers.is_sure (plain.is_among sure.now) (view array.now)) (desugar.expression_of (plain.is_among sure.now) (view array.now)))) }
+{
+    let array = received(alloc, sure, array)?;
+    length_of(alloc, array)
+}
+
+// The element of an array at an index.
+#[cycle(expression)]
+fn element_at(
+    alloc: Global,
+    sure: &[LocalName],
+    array: &Tree,
+    index: CoreExpression,
+) -> Result<CoreExpression, NoMemory>
+    ensures { IfOk result (λ e. expression_view e ≡ terms.element_of (desugar.received_text (receivers.is_sure (plain.is_among sure.now) (view array.now)) (desugar.expression_of (plain.is_among sure.now) (view array.now))) (expression_view index)) }
+{
+    let array = received(alloc, sure, array)?;
+    element_of(alloc, array, index)
+}
+
+// The items of an array with elements of this type.
+#[cycle(expression)]
+fn items_of(
+    alloc: Global,
+    sure: &[LocalName],
+    tpe: &IrType,
+    trees: &[Tree],
+) -> Result<Vec<CoreExpression>, NoMemory>
+    ensures { IfOk result (λ es. map expression_view es.items ≡ coercions.coerced_items tpe.now (desugar.types_of (terms_view trees.now)) (desugar.all_expressions (plain.is_among sure.now) (terms_view trees.now))) }
+{
+    let mut items = Vec::new(alloc);
+    for each in trees {
+        items.push(value_as(alloc, sure, tpe, each)?)?;
+    }
+    Ok(items)
 }
 
 // The arguments of a call whose parameters have these references.
@@ -355,7 +444,7 @@ pub fn static_field(class: &ClassName, field: &FieldName) -> Result<CoreExpressi
     Ok(CoreExpression::StaticField(class, field.copied()?))
 }
 
-/// The one object of a class.
+/// The one object of a class. Want of memory is the only error.
 pub fn module_of(class: &ClassName) -> Result<CoreExpression, NoMemory>
     ensures { IfOk result (λ e. expression_view e ≡ terms.module_of class.now) }
 {

@@ -4,6 +4,7 @@
 //! `sj_desugar` and `sure_receivers` define them.
 #![tactic(auto)]
 
+mod arrays;
 mod callees;
 mod coercions;
 mod expressions;
@@ -13,6 +14,7 @@ mod positions;
 mod sure;
 mod texts;
 
+pub use arrays::{array_of, element_of, length_of, new_array};
 pub use callees::{callee_on, member_called};
 pub use coercions::{coerced, coerced_argument};
 pub use expressions::{

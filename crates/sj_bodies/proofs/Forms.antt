@@ -157,7 +157,7 @@ module _ (z : Setting) (lawful : Lawful z) where
   log_acts w env sc own y _ _ s u g (one_more _ v x _ _ _ a no_values) same = by v x a.stands
     where
       by : (v : ir.Value) (x : js.Value) → Stands y (is_char own) v x → Sim z.direction (Valued z.place w env NoType) (ir_meaning.log (v ∷ []) env s) (js_meaning.log (x ∷ []) sc u)
-      by _ _ (same_text us) = sim_says z.direction (Valued z.place w env NoType) us (ir.ends (ir.gives ir.undefined) env s) (js.gives js.undefined u) (valued y ir.undefined js.undefined s u g (record { stands = same_undefined; suits = refl }) same)
+      by _ _ (same_text us) = sim_says z.direction (Valued z.place w env NoType) us (ir.ends (ir.gives ir.undefined) env s) (js.gives js.undefined u) (valued y ir.undefined js.undefined s u g (record { stands = same_undefined; suits = refl; shaped = tt }) same)
       by _ _ _ = sim_wrong z.direction (Valued z.place w env NoType) _
 
   pub log_final : (c : Context) (p : Position) (j : ℕ) (own : IrType) → (w : World) (sc : js.Scope) → OneFinal c discard w sc j own ir_meaning.log (λ es. one (core.log_of (Some p) (first_of es)))

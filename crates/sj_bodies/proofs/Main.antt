@@ -1,7 +1,7 @@
 -- The theorem on trees: one induction, both directions.
 use Rattle.sj_proper.specs.Standing.{call_type, types_referred, MayStand}
-use Rattle.std.specs.Prelude.{ℤ, pos, ◌&&◌, ◌||◌, not}
-use Rattle.std.proofs.Common.{Option, ◌≡◌, ℕ, Bool, true, false, List, [], ◌∷◌, Some, refl, sym, ap, ◌∙◌, subst, ◌⊎◌, inl, inr, ⊎_elim}
+use Rattle.std.specs.Prelude.{ℤ, pos, ◌&&◌, ◌||◌, ◌^◌, not}
+use Rattle.std.proofs.Common.{Option, ◌≡◌, ℕ, Bool, true, false, List, [], ◌∷◌, length, codes, Some, refl, sym, ap, ◌∙◌, subst, ◌⊎◌, inl, inr, ⊎_elim}
 use mathlib.Core.Path.{fun_ext}
 use Rattle.outcomes.specs.Outcome.{done}
 use Rattle.outcomes.specs.Agreement.{Sim}
@@ -16,13 +16,13 @@ use Rattle.sj_core.specs.Views.{expressions_of}
 use Rattle.sj_proper.specs.Coercions.{is_char, coerced, coerced_arguments, coerced_receiver}
 use Rattle.sj_proper.specs.Desugar.{target_of, member, types_of, into, block, receiver, operands, first_of, second_of, rest_of, finish, branches, cases, switch_code, callee_of}
 use Rattle.sj_proper.specs.Spill.{Destination, discard, to_variable, to_result, Code, one, spill, then_use}
-use Rattle.sj_trees.specs.Term.{Term, Terms, no_terms, more_terms, Cases, no_cases, more_cases, var_def, skip, block_of, labeled, assign, return_to, if_then, while_loop, do_while, throw, try_catch, try_finally, match_on, new_object, select, select_static, apply, apply_statically, this_ref, apply_static, unary_op, binary_op, is_instance_of, as_instance_of, undefined_literal, null_literal, boolean_literal, char_literal, byte_literal, short_literal, int_literal, long_literal, string_literal, var_ref, log_line, load_module, store_module}
+use Rattle.sj_trees.specs.Term.{Term, Terms, no_terms, more_terms, Cases, no_cases, more_cases, var_def, skip, block_of, labeled, assign, return_to, if_then, while_loop, do_while, throw, try_catch, try_finally, match_on, new_object, new_array, array_value, array_length, array_select, select, select_static, apply, apply_statically, this_ref, apply_static, unary_op, binary_op, is_instance_of, as_instance_of, undefined_literal, null_literal, boolean_literal, char_literal, byte_literal, short_literal, int_literal, long_literal, string_literal, var_ref, log_line, load_module, store_module}
 use Rattle.sj_trees.specs.TypeOf.{type_of_term, type_of_last, unary_result, binary_result}
 use Rattle.sj_trees.specs.declared.operators.BinaryOp.{BinaryOp}
 use Rattle.sj_trees.specs.declared.operators.UnaryOp.{UnaryOp}
 use Rattle.sj_trees.specs.declared.positions.Position.{Position}
 use Rattle.sj_trees.specs.declared.types.IrType.{IrType}
-use Rattle.sj_proper.specs.Rules.{left_operand, unary_operand}
+use Rattle.sj_proper.specs.Rules.{AllFit, left_operand, unary_operand}
 use Rattle.sj_proper.specs.Operators.{Operates, DividesBy}
 use Rattle.sj_proper.specs.Locals.{Scope, Mutable, with_local, parameters_of, HasValue, Own, OwnAll, OwnCases}
 use Rattle.sj_proper.specs.Texts.{operand_of}
@@ -37,32 +37,36 @@ use Rattle.sj_proper.proofs.BuiltFormsStatics.{read_static, set_static}
 use Rattle.sj_proper.proofs.Targets.{target_goal}
 use Rattle.sj_proper.specs.Finalizers.{finalizer_code}
 use Rattle.sj_proper.proofs.Good.{finalizer-good}
-use Rattle.sj_proper.specs.Boxes.{given_up as given_up_goal, Goal, goal_of, goals_of, is_boxed, any_is_boxed, operands_are_boxed, is_boxed_at, boxes_as_text, boxes, last_boxes, operand_boxes, operands_box, cases_box}
-use Rattle.sj_proper.specs.Built.{can_box, may_make, can_cast}
+use Rattle.sj_proper.specs.Boxes.{given_up as given_up_goal, Goal, goal_of, goals_of, is_boxed, any_is_boxed, any_item_boxed, operands_are_boxed, is_boxed_at, boxes_as_text, boxes, last_boxes, operand_boxes, operands_box, cases_box}
+use Rattle.sj_proper.specs.Built.{can_box, can_put, may_make, can_cast, is_based, has_base, are_countable}
 use Rattle.std.proofs.lemmas.Bool.{and_parts}
 use Rattle.sure_receivers.specs.Sure.{is_sure}
 use Rattle.sj_names.specs.declared.method_names.MethodName.{MethodName}
 use Rattle.sj_names.specs.declared.method_names.Namespace.{Namespace}
 use Rattle.sj_names.specs.declared.method_names.Namespace.TheVariants.{Public, Private, Constructor}
-use Rattle.sj_proper.specs.Typing.{Scene, catching, in_label, Typed, TypedBlock, TypedAll, TypedCases, may_check}
+use Rattle.sj_proper.specs.Typing.{Scene, AreDimensions, catching, in_label, Typed, TypedBlock, TypedAll, TypedCases, may_check}
+use Rattle.sj_proper.proofs.Arrays.{ItemsOf, items-of, element-value, array-below, items-below, below-is}
 use Rattle.sj_proper.proofs.Direct.{Direct, ByLookup, OnArray, ByName, Applied, directly, by_lookup, on_array, by_name, applied}
 use Rattle.sj_proper.proofs.BuiltFormsDirect.{array_valued, IsLookedUp}
 use Rattle.sj_plain.proofs.HijackedCalls.{hijacked_call, takes_any}
 use Rattle.sj_plain.proofs.LookedUpCalls.{calls_instance, takes_instances}
 use Rattle.sj_plain.proofs.Received.{looked_stand}
-use Rattle.sj_bodies.proofs.ArrayTrees.{array_called}
+use Rattle.sj_bodies.proofs.ArrayTrees.{new_array_does, array_value_does, length_does, item_does, item_set_does}
+use Rattle.sj_plain.proofs.Arrays.{StandForEach, stand-for-each, any_test_alike, any_cast_alike}
 use Rattle.sj_bodies.proofs.LookedTrees.{looked_up}
+use Rattle.sj_plain.proofs.Instances.{OnInstances, by_class, by_array}
 use Rattle.sj_plain.proofs.Looked.{as_instances}
 use Rattle.sj_proper.proofs.Mutable.{of_first, of_second, of_definition, front, front_cases}
 use Rattle.sj_plain.specs.Conditions.{IsNoConstruction, Plain}
-use Rattle.sj_proper.specs.Plain.{is_plain, mutable_in, mutable_in_all, mutable_in_cases}
+use Rattle.sj_proper.specs.Plain.{is_no_type, is_plain, mutable_in, mutable_in_all, mutable_in_cases}
 use Rattle.sj_bodies.proofs.Parts.{plain_at, tree_in, operand_in, operand_by, amid-behind, amid-inside, one_mutable, other_mutable, given_up, fits, fits-value, yields, asks-left, asks-right}
-use Rattle.sj_proper.proofs.Fitting.{fits-unary, fits-dividend, operates, unary-value, binary-value, cast-value, unary-operand-value, left-operand-value}
+use Rattle.sj_proper.proofs.Fitting.{fits-lowest, fits-unary, fits-dividend, operates, unary-value, binary-value, cast-value, unary-operand-value, left-operand-value}
 use Rattle.sj_proper.proofs.Locals.{there, typed-there, local-value}
 use Rattle.sj_proper.proofs.RulesGive.{Takes, FitsType, ArgumentsFit, class_has_value, each_made, fits_there, arguments_there, operation, result_is}
+use Rattle.sj_names.specs.declared.references.ArrayRef.{ArrayRef}
 use Rattle.sj_names.specs.declared.references.TypeRef.{TypeRef}
-use Rattle.sj_trees.specs.Types.{class_type, reference_type}
-use Rattle.sj_trees.specs.declared.types.IrType.TheVariants.{Any, NoType, Undefined, Null, Boolean, Char, Byte, Short, Int, Long, String}
+use Rattle.sj_trees.specs.Types.{class_type, reference_type, element_type}
+use Rattle.sj_trees.specs.declared.types.IrType.TheVariants.{Any, NoType, Undefined, Null, Boolean, Char, Byte, Short, Int, Long, String, Array}
 use Rattle.sj_plain.specs.Known.{object}
 use Rattle.sj_plain.specs.Subtypes.{IsSub, to_any}
 use Rattle.sj_bodies.proofs.Forms.{of_operands, one_final, two_final, silent, assign_final, log_final, if_final, came-narrow, rebased, ahead-later, OneFinal, TwoFinal}
@@ -272,19 +276,22 @@ module _ (z : Setting) (lawful : Lawful z) (low : LowAlike z) where
       by (inl h) = of_operands z lawful c k (piece z lawful low c.targets e ∷ piece z lawful low c.targets d ∷ []) j (ir_meaning.binary z.place.classes z.low o) (λ es. finish k p (binary_result o) false (core.binary_of o (operand_of o (type_of_term e) (first_of es)) (operand_of o (type_of_term d) (second_of es)))) sound ahead (operand_does z lawful low c j e does_e out_e (operand_by z.place.classes lawful.base.ordered z.is_mutable (usable z) z.code c.scope (around c) fine.scene fine.amid e (one_mutable z.is_mutable e d fine.written) (λ y. asks-left z.place.classes lawful.base.ordered (usable z) y o e d h) fine.typed.1 both.0 fine.around fine.once.0), (operand_does z lawful low c j d does_d out_d (operand_by z.place.classes lawful.base.ordered z.is_mutable (usable z) z.code c.scope (around c) fine.scene fine.amid d (other_mutable z.is_mutable e d fine.written) (λ y. asks-right z.place.classes lawful.base.ordered (usable z) y o e d h) fine.typed.2 both.1 fine.around fine.once.1), tt)) (two_final z lawful c k j (type_of_term e) (type_of_term d) (ir_meaning.binary z.place.classes z.low o) (λ es. finish k p (binary_result o) false (core.binary_of o (operand_of o (type_of_term e) (first_of es)) (operand_of o (type_of_term d) (second_of es)))) (binary_final p o (type_of_term e) (type_of_term d) c k j (operates z.place.classes lawful.base.ordered (usable z) o e d own.1 h) sound wr fits_here))
       by (inr h) = division_does z lawful low p c k j o e d h.0 (fits-dividend z.place.classes lawful.base.ordered o d (type_of_term e) h.0 h.1) sound ahead wr fits_here (operand_does z lawful low c j e does_e out_e (part_of c fine.scene fine.amid e (one_mutable z.is_mutable e d fine.written) (left_operand o) h.1 (left-operand-value o) fine.typed.1 both.0 fine.around fine.once.0))
 
-  test_final : (p : Position) (own t : IrType) (c : Context) (k : Destination) (j : ℕ) → (usable z).tests t ≡ true → StandsFor z Any own → Sound z.is_mutable c → Writes c.written k → FitsIn (usable z) k Boolean → (w : World) (sc : js.Scope) → OneFinal z lawful c k w sc j own (ir_meaning.test z.place.classes t) (λ es. finish k p Boolean false (core.test_of t (coerced Any own (first_of es))))
-  test_final p own t c k j has f sound wr fits from before i r e w env s sc u ahead l g ready ks same operand = finish_alike z lawful c k p Boolean (core.test_of t (coerced Any own e)) i sound wr fits w from before env (ir_meaning.in_order (r ∷ []) (ir_meaning.test z.place.classes t) env s) sc u g ks ready s same (test_alike z lawful t (stood Any own f.0) has (stood-fits Any own f.0) r (coerced Any own e) w env s sc u ready.sees.inside (operand_stood z lawful.base w env sc ready.sees.inside Any own f.0 f.1 r e operand) same)
+  test_final : (p : Position) (own t : IrType) (c : Context) (k : Destination) (j : ℕ) → AreDimensions t → (usable z).tests t ≡ true → is_based (usable z) t ≡ true → StandsFor z Any own → Sound z.is_mutable c → Writes c.written k → FitsIn (usable z) k Boolean → (w : World) (sc : js.Scope) → OneFinal z lawful c k w sc j own (ir_meaning.test z.place.classes t) (λ es. finish k p Boolean false (core.test_of t (coerced Any own (first_of es))))
+  test_final p own t c k j d has based f sound wr fits from before i r e w env s sc u ahead l g ready ks same operand = finish_alike z lawful c k p Boolean (core.test_of t (coerced Any own e)) i sound wr fits w from before env (ir_meaning.in_order (r ∷ []) (ir_meaning.test z.place.classes t) env s) sc u g ks ready s same (any_test_alike z lawful t (stood Any own f.0) d has based (stood-fits Any own f.0) r (coerced Any own e) w env s sc u ready.sees.inside (operand_stood z lawful.base w env sc ready.sees.inside Any own f.0 f.1 r e operand) same)
 
-  cast_final : (p : Position) (own t : IrType) (c : Context) (k : Destination) (j : ℕ) → can_cast (usable z) t ≡ true → StandsFor z Any own → Sound z.is_mutable c → Writes c.written k → FitsIn (usable z) k t → (w : World) (sc : js.Scope) → OneFinal z lawful c k w sc j own (ir_meaning.cast z.place.classes z.low t) (λ es. finish k p t false (core.cast_of t (coerced Any own (first_of es))))
-  cast_final p own t c k j has f sound wr fits from before i r e w env s sc u ahead l g ready ks same operand = finish_alike z lawful c k p t (core.cast_of t (coerced Any own e)) i sound wr fits w from before env (ir_meaning.in_order (r ∷ []) (ir_meaning.cast z.place.classes z.low t) env s) sc u g ks ready s same (cast_alike z lawful t (stood Any own f.0) has (stood-fits Any own f.0) r (coerced Any own e) w env s sc u ready.sees.inside (operand_stood z lawful.base w env sc ready.sees.inside Any own f.0 f.1 r e operand) same)
+  cast_final : (p : Position) (own t : IrType) (c : Context) (k : Destination) (j : ℕ) → AreDimensions t → can_cast (usable z) t ≡ true → is_based (usable z) t ≡ true → StandsFor z Any own → Sound z.is_mutable c → Writes c.written k → FitsIn (usable z) k t → (w : World) (sc : js.Scope) → OneFinal z lawful c k w sc j own (ir_meaning.cast z.place.classes z.low t) (λ es. finish k p t false (core.cast_of t (coerced Any own (first_of es))))
+  cast_final p own t c k j d has based f sound wr fits from before i r e w env s sc u ahead l g ready ks same operand = finish_alike z lawful c k p t (core.cast_of t (coerced Any own e)) i sound wr fits w from before env (ir_meaning.in_order (r ∷ []) (ir_meaning.cast z.place.classes z.low t) env s) sc u g ks ready s same (any_cast_alike z lawful t (stood Any own f.0) d has based (stood-fits Any own f.0) r (coerced Any own e) w env s sc u ready.sees.inside (operand_stood z lawful.base w env sc ready.sees.inside Any own f.0 f.1 r e operand) same)
 
   -- the operand of a test or a cast, which is brought to any
   any_operand : (e : Term) → TreeDoes z lawful low e → (c : Context) (j : ℕ) → Outside c (Own e) → (s : Scene) → AmidHere c s → Mutable z.is_mutable (mutable_in e) → IsSub z.place.classes (type_of_term e) Any → Typed z.place.classes (usable z) s e → Makes (operand_boxes (goals_of c.targets) e) → (labels : List (List ℕ)) → Placed c.reaches c.tries labels e → OperandsDo z lawful c j (piece z lawful low c.targets e ∷ [])
   any_operand e does c j out s amid written below typed boxed labels once = (operand_does z lawful low c j e does out (part_of c s amid e written Any below refl typed boxed labels once), tt)
 
   test_does : (p : Position) (e : Term) (t : IrType) → TreeDoes z lawful low e → TreeDoes z lawful low (is_instance_of p e t)
-  test_does p e t does c k j sound ahead out wr fine = of_operands z lawful c k (piece z lawful low c.targets e ∷ []) j (ir_meaning.test z.place.classes t) (λ es. finish k p Boolean false (core.test_of t (coerced Any (type_of_term e) (first_of es)))) sound ahead (any_operand e does c j out fine.scene fine.amid fine.written fine.typed.0.meets.1 fine.typed.1 operand.1 fine.around fine.once) (one_final z lawful c k j (type_of_term e) (ir_meaning.test z.place.classes t) (λ es. finish k p Boolean false (core.test_of t (coerced Any (type_of_term e) (first_of es)))) (test_final p (type_of_term e) t c k j fine.typed.0.built (stands-for z lawful Any (type_of_term e) fine.typed.0.meets.1 operand.0) sound wr (fits-value z.place.classes lawful.base.ordered (usable z) k Boolean fine.asks refl parts.0)))
+  test_does p e t does c k j sound ahead out wr fine = of_operands z lawful c k (piece z lawful low c.targets e ∷ []) j (ir_meaning.test z.place.classes t) (λ es. finish k p Boolean false (core.test_of t (coerced Any (type_of_term e) (first_of es)))) sound ahead (any_operand e does c j out fine.scene fine.amid fine.written fine.typed.0.meets.1 fine.typed.1 operand.1 fine.around fine.once) (one_final z lawful c k j (type_of_term e) (ir_meaning.test z.place.classes t) (λ es. finish k p Boolean false (core.test_of t (coerced Any (type_of_term e) (first_of es)))) (test_final p (type_of_term e) t c k j fine.typed.0.finds its.0 its.1 (stands-for z lawful Any (type_of_term e) fine.typed.0.meets.1 operand.0) sound wr (fits-value z.place.classes lawful.base.ordered (usable z) k Boolean fine.asks refl parts.0)))
     where
+      its : ((usable z).tests t ≡ true) × (is_based (usable z) t ≡ true)
+      its = and_parts ((usable z).tests t) (is_based (usable z) t) fine.typed.0.built
+
       parts : Makes (is_boxed_at (goal_of k) Boolean) × Makes (is_boxed Any e || operand_boxes (goals_of c.targets) e)
       parts = each (is_boxed_at (goal_of k) Boolean) (is_boxed Any e || operand_boxes (goals_of c.targets) e) fine.boxed
 
@@ -292,8 +299,11 @@ module _ (z : Setting) (lawful : Lawful z) (low : LowAlike z) where
       operand = each (is_boxed Any e) (operand_boxes (goals_of c.targets) e) parts.1
 
   cast_does : (p : Position) (e : Term) (t : IrType) → TreeDoes z lawful low e → TreeDoes z lawful low (as_instance_of p e t)
-  cast_does p e t does c k j sound ahead out wr fine = of_operands z lawful c k (piece z lawful low c.targets e ∷ []) j (ir_meaning.cast z.place.classes z.low t) (λ es. finish k p t false (core.cast_of t (coerced Any (type_of_term e) (first_of es)))) sound ahead (any_operand e does c j out fine.scene fine.amid fine.written fine.typed.0.meets.1 fine.typed.1 operand.1 fine.around fine.once) (one_final z lawful c k j (type_of_term e) (ir_meaning.cast z.place.classes z.low t) (λ es. finish k p t false (core.cast_of t (coerced Any (type_of_term e) (first_of es)))) (cast_final p (type_of_term e) t c k j fine.typed.0.built (stands-for z lawful Any (type_of_term e) fine.typed.0.meets.1 operand.0) sound wr (fits-value z.place.classes lawful.base.ordered (usable z) k t fine.asks (cast-value t fine.typed.0.meets.0) parts.0)))
+  cast_does p e t does c k j sound ahead out wr fine = of_operands z lawful c k (piece z lawful low c.targets e ∷ []) j (ir_meaning.cast z.place.classes z.low t) (λ es. finish k p t false (core.cast_of t (coerced Any (type_of_term e) (first_of es)))) sound ahead (any_operand e does c j out fine.scene fine.amid fine.written fine.typed.0.meets.1 fine.typed.1 operand.1 fine.around fine.once) (one_final z lawful c k j (type_of_term e) (ir_meaning.cast z.place.classes z.low t) (λ es. finish k p t false (core.cast_of t (coerced Any (type_of_term e) (first_of es)))) (cast_final p (type_of_term e) t c k j fine.typed.0.finds its.0 its.1 (stands-for z lawful Any (type_of_term e) fine.typed.0.meets.1 operand.0) sound wr (fits-value z.place.classes lawful.base.ordered (usable z) k t fine.asks (cast-value t fine.typed.0.meets.0) parts.0)))
     where
+      its : (can_cast (usable z) t ≡ true) × (is_based (usable z) t ≡ true)
+      its = and_parts (can_cast (usable z) t) (is_based (usable z) t) fine.typed.0.built
+
       parts : Makes (is_boxed_at (goal_of k) t) × Makes (is_boxed Any e || operand_boxes (goals_of c.targets) e)
       parts = each (is_boxed_at (goal_of k) t) (is_boxed Any e || operand_boxes (goals_of c.targets) e) fine.boxed
 
@@ -306,6 +316,13 @@ module _ (z : Setting) (lawful : Lawful z) (low : LowAlike z) where
   arguments_do : (t : Term) (ts : Terms) → TreeDoes z lawful low t → OperandsFine ts → OperandsFine (more_terms t ts)
   arguments_do t ts does others c j out s amid mut [] fit typed boxed labels once = absurd fit
   arguments_do t ts does others c j out s amid mut (q ∷ rs) fit typed boxed labels once = let parts = each (operand_boxes (goals_of c.targets) t) (operands_box (goals_of c.targets) ts) boxed in (operand_does z lawful low c j t does (outside-part c (OwnAll (more_terms t ts)) (Own t) (λ x o. inl o) out) (part_of c s amid t (of_first z.is_mutable (mutable_in t) (mutable_in_all ts) (front t) mut) (reference_type q) fit.0.0 fit.1 typed.0 parts.0 labels once.0), others c j (outside-part c (OwnAll (more_terms t ts)) (OwnAll ts) (λ x o. inr o) out) s amid (of_second z.is_mutable (mutable_in t) (mutable_in_all ts) (front t) mut) rs fit.2 typed.1 parts.1 labels once.1)
+
+  -- items, each of one type that has values
+  abbrev ItemsFine : Terms → Type 1
+  ItemsFine ts = (c : Context) (j : ℕ) → Outside c (OwnAll ts) → (s : Scene) → AmidHere c s → Mutable z.is_mutable (mutable_in_all ts) → (t : IrType) → HasValue t → AllFit z.place.classes ts t → TypedAll z.place.classes (usable z) s ts → Makes (operands_box (goals_of c.targets) ts) → (labels : List (List ℕ)) → PlacedAll c.reaches c.tries labels ts → OperandsDo z lawful c j (list_of z lawful low c.targets ts)
+
+  item_and_rest : (e : Term) (ts : Terms) → TreeDoes z lawful low e → ItemsFine ts → ItemsFine (more_terms e ts)
+  item_and_rest e ts does others c j out s amid mut t value fit typed boxed labels once = let parts = each (operand_boxes (goals_of c.targets) e) (operands_box (goals_of c.targets) ts) boxed in (operand_does z lawful low c j e does (outside-part c (OwnAll (more_terms e ts)) (Own e) (λ x o. inl o) out) (part_of c s amid e (of_first z.is_mutable (mutable_in e) (mutable_in_all ts) (front e) mut) t fit.0 value typed.0 parts.0 labels once.0), others c j (outside-part c (OwnAll (more_terms e ts)) (OwnAll ts) (λ x o. inr o) out) s amid (of_second z.is_mutable (mutable_in e) (mutable_in_all ts) (front e) mut) t value fit.1 typed.1 parts.1 labels once.1)
 
   last_does : (t : Term) → TreeDoes z lawful low t → BlockDoes (more_terms t no_terms)
   last_does t does c k j sound ahead out wr scene amid mut i asks typed boxed labels once w env s sc u r same = subst (λ o. Ends z lawful c c.scope k w sc o (into z.is_mutable z.code.sure c.targets k j t).statements sc u) (sym (ap (ir.go_on (ir_meaning.step z.place.classes z.low t env s)) (fun_ext (λ v. refl)) ∙ go_on-given (ir_meaning.step z.place.classes z.low t env s))) (does c k j sound ahead (outside-part c (OwnAll (more_terms t no_terms)) (Own t) (λ x o. inl o) out) wr (tree c scene amid k t mut asks typed boxed labels once.0) w env s sc u r same)
@@ -389,6 +406,74 @@ module _ (z : Setting) (lawful : Lawful z) (low : LowAlike z) where
       by : FineOperand z.place.classes z.is_mutable (usable z) z.code c.scope e (λ y. FineHere z lawful low c (to_variable y (type_of_term e)) e) → Does z lawful c discard j (assign p (select q o d f t) e)
       by (inl h) = set_does z lawful low p q c j o d f t e sound ahead there.0 fit h.plain h object
       by (inr h) = set_spilled z lawful low p q c j o d f t e sound ahead there.0 fit h.0 object (operand_does z lawful low c j e does_e (outside-part c (Own (assign p (select q o d f t) e)) (Own e) (λ x i. inr i) out) (inr h))
+
+  -- arrays
+  new_array_by : (p : Position) (r : ArrayRef) (e : Term) → TreeDoes z lawful low e → TreeDoes z lawful low (new_array p r e)
+  new_array_by p r e does_e c k j sound ahead out wr fine = new_array_does z lawful low p c k j r e sound ahead wr (fits-value z.place.classes lawful.base.ordered (usable z) k (Array r) fine.asks refl (none_at k (Array r) refl)) fine.typed.0.finds its.0 its.1 (fits-lowest z.place.classes lawful.base.ordered Int (type_of_term e) refl fine.typed.0.meets) (operand_does z lawful low c j e does_e out (part_of c fine.scene fine.amid e fine.written Int fine.typed.0.meets refl fine.typed.1 fine.boxed fine.around fine.once))
+    where
+      its : ((usable z).helper (codes "$mk") ≡ true) × (has_base (usable z) r.base ≡ true)
+      its = and_parts ((usable z).helper (codes "$mk")) (has_base (usable z) r.base) fine.typed.0.built
+
+  array_by : (p : Position) (r : ArrayRef) (ts : Terms) → ItemsFine ts → TreeDoes z lawful low (array_value p r ts)
+  array_by p r ts do_all c k j sound ahead out wr fine = array_value_does z lawful low p c k j r ts sound ahead wr (fits-value z.place.classes lawful.base.ordered (usable z) k (Array r) fine.asks refl (none_at k (Array r) refl)) fine.typed.0.finds its.0 more.0 (below-is (length (types_of ts)) (2 ^ 31) more.1) (stand-for-each z lawful ts (element_type r) parts.0 fine.typed.0.meets) (do_all c j out fine.scene fine.amid fine.written (element_type r) (element-value r) fine.typed.0.meets fine.typed.1 parts.1 fine.around fine.once)
+    where
+      its : ((usable z).helper (codes "$A") ≡ true) × ((has_base (usable z) r.base && are_countable ts) ≡ true)
+      its = and_parts ((usable z).helper (codes "$A")) (has_base (usable z) r.base && are_countable ts) fine.typed.0.built
+
+      more : (has_base (usable z) r.base ≡ true) × (are_countable ts ≡ true)
+      more = and_parts (has_base (usable z) r.base) (are_countable ts) its.1
+
+      parts : Makes (any_item_boxed (element_type r) ts) × Makes (operands_box (goals_of c.targets) ts)
+      parts = each (any_item_boxed (element_type r) ts) (operands_box (goals_of c.targets) ts) fine.boxed
+
+  -- a receiver of a type with values, by what is known of it
+  receiver_below : (c : Context) (j : ℕ) (e : Term) (own : List ℕ → Type 0) → ((x : List ℕ) → Own e x → own x) → TreeDoes z lawful low e → Outside c own → (scene : Scene) → AmidHere c scene → Mutable z.is_mutable (mutable_in e) → IsSub z.place.classes (type_of_term e) Any → may_check (usable z) scene.sure e ≡ true → Typed z.place.classes (usable z) scene e → Makes (operand_boxes (goals_of c.targets) e) → (labels : List (List ℕ)) → Placed c.reaches c.tries labels e → OperandDoes z lawful c j (receiver_piece z lawful low c.targets e)
+  receiver_below c j e own part does out scene amid mut sub may typed boxed labels once = receiver_of c j e object own part does out scene amid mut sub may typed boxed labels once
+
+  length_by : (p : Position) (e : Term) → TreeDoes z lawful low e → TreeDoes z lawful low (array_length p e)
+  length_by p e does_e c k j sound ahead out wr fine = length_does z lawful low p c k j e sound ahead wr (fits-value z.place.classes lawful.base.ordered (usable z) k Int fine.asks refl (none_at k Int refl)) (receiver_below c j e (Own e) (λ x o. o) does_e out fine.scene fine.amid fine.written (array-below z.place.classes (type_of_term e) fine.typed.0.meets) fine.typed.0.built fine.typed.1 fine.boxed fine.around fine.once)
+
+  item_by : (p : Position) (e i : Term) (t : IrType) → TreeDoes z lawful low e → TreeDoes z lawful low i → TreeDoes z lawful low (array_select p e i t)
+  item_by p e i t does_e does_i c k j sound ahead out wr fine = item_does z lawful low p c k j e i t sound ahead wr (fits-value z.place.classes lawful.base.ordered (usable z) k t fine.asks (subst HasValue its.element (element-value its.reference)) parts.0) built.0 its (fits-lowest z.place.classes lawful.base.ordered Int (type_of_term i) refl fine.typed.0.meets.1) (receiver_below c j e (Own (array_select p e i t)) (λ x o. inl o) does_e out fine.scene fine.amid (one_mutable z.is_mutable e i fine.written) (items-below z.place.classes (type_of_term e) t fine.typed.0.meets.0) built.1 fine.typed.1 both.0 fine.around fine.once.0) (operand_does z lawful low c j i does_i (outside-part c (Own (array_select p e i t)) (Own i) (λ x o. inr o) out) (part_of c fine.scene fine.amid i (other_mutable z.is_mutable e i fine.written) Int fine.typed.0.meets.1 refl fine.typed.2 both.1 fine.around fine.once.1))
+    where
+      built : ((usable z).helper (codes "$get") ≡ true) × (may_check (usable z) fine.scene.sure e ≡ true)
+      built = and_parts ((usable z).helper (codes "$get")) (may_check (usable z) fine.scene.sure e) fine.typed.0.built
+
+      its : ItemsOf (type_of_term e) t
+      its = items-of (type_of_term e) t fine.typed.0.finds fine.typed.0.meets.0
+
+      parts : Makes (is_boxed_at (goal_of k) t) × Makes (operand_boxes (goals_of c.targets) e || operand_boxes (goals_of c.targets) i)
+      parts = each (is_boxed_at (goal_of k) t) (operand_boxes (goals_of c.targets) e || operand_boxes (goals_of c.targets) i) fine.boxed
+
+      both : Makes (operand_boxes (goals_of c.targets) e) × Makes (operand_boxes (goals_of c.targets) i)
+      both = each (operand_boxes (goals_of c.targets) e) (operand_boxes (goals_of c.targets) i) parts.1
+
+  item_set_by : (p q : Position) (d i : Term) (t : IrType) (e : Term) → TreeDoes z lawful low d → TreeDoes z lawful low i → TreeDoes z lawful low e → (c : Context) (k : Destination) (j : ℕ) → Sound z.is_mutable c → Ahead c j → Outside c (Own (assign p (array_select q d i t) e)) → FineHere z lawful low c k (assign p (array_select q d i t) e) → IsDiscard k → Does z lawful c k j (assign p (array_select q d i t) e)
+  item_set_by p q d i t e does_d does_i does_e c _ j sound ahead out fine is_discard = item_set_does z lawful low p q c j d i t e sound ahead built.0 its (fits-lowest z.place.classes lawful.base.ordered Int (type_of_term i) refl fine.typed.1.1) (stands-for z lawful t (type_of_term e) own.0 own.1) (receiver_below c j d all (λ x o. inl o) does_d out fine.scene fine.amid (one_mutable z.is_mutable d i pair) (items-below z.place.classes (type_of_term d) t fine.typed.1.0) built.1 fine.typed.2 both.0 fine.around fine.once.0) (operand_does z lawful low c j i does_i (outside-part c all (Own i) (λ x o. inr (inl o)) out) (part_of c fine.scene fine.amid i (other_mutable z.is_mutable d i pair) Int fine.typed.1.1 refl fine.typed.3 last.0 fine.around fine.once.1)) (operand_does z lawful low c j e does_e (outside-part c all (Own e) (λ x o. inr (inr o)) out) (part_of c fine.scene fine.amid e (of_second z.is_mutable (mutable_in (array_select q d i t)) (mutable_in e) (front (array_select q d i t)) fine.written) t own.0 (subst HasValue its.element (element-value its.reference)) fine.typed.4 last.1 fine.around fine.once.2))
+    where
+      all : List ℕ → Type 0
+      all = Own (assign p (array_select q d i t) e)
+
+      pair : Mutable z.is_mutable (mutable_in (array_select q d i t))
+      pair = of_first z.is_mutable (mutable_in (array_select q d i t)) (mutable_in e) (front (array_select q d i t)) fine.written
+
+      built : (can_put (usable z) t ≡ true) × (may_check (usable z) fine.scene.sure d ≡ true)
+      built = and_parts (can_put (usable z) t) (may_check (usable z) fine.scene.sure d) fine.typed.0.built
+
+      its : ItemsOf (type_of_term d) t
+      its = items-of (type_of_term d) t fine.typed.0.finds fine.typed.1.0
+
+      parts : Makes (is_boxed t e) × Makes (operand_boxes (goals_of c.targets) d || (operand_boxes (goals_of c.targets) i || operand_boxes (goals_of c.targets) e))
+      parts = each (is_boxed t e) (operand_boxes (goals_of c.targets) d || (operand_boxes (goals_of c.targets) i || operand_boxes (goals_of c.targets) e)) fine.boxed
+
+      both : Makes (operand_boxes (goals_of c.targets) d) × Makes (operand_boxes (goals_of c.targets) i || operand_boxes (goals_of c.targets) e)
+      both = each (operand_boxes (goals_of c.targets) d) (operand_boxes (goals_of c.targets) i || operand_boxes (goals_of c.targets) e) parts.1
+
+      last : Makes (operand_boxes (goals_of c.targets) i) × Makes (operand_boxes (goals_of c.targets) e)
+      last = each (operand_boxes (goals_of c.targets) i) (operand_boxes (goals_of c.targets) e) both.1
+
+      own : FitsType z.place.classes (usable z) e t
+      own = fits_there z.place.classes (usable z) e t parts.0 fine.typed.0.meets.1
 
   static_by : (p : Position) (d f : List ℕ) (t : IrType) → TreeDoes z lawful low (select_static p d f t)
   static_by p d f t c k j sound ahead out wr fine w env s sc u r same = finish_alike z lawful c k p t (core.static_of d f) j sound wr (fits-value z.place.classes lawful.base.ordered (usable z) k t fine.asks (lawful.base.statics d f t (read_static (usable z) d f t fine.typed.built)).value fine.boxed) w w sc env (ir_meaning.value_or_wrong (s.statics d f) env s) sc u (grows-refl w) (keeps-refl z c.kept sc) r s same (static_alike z lawful.base d f t fine.typed.built w env s sc u r.sees.inside same)
@@ -481,15 +566,12 @@ module _ (z : Setting) (lawful : Lawful z) (low : LowAlike z) where
       same_code : into z.is_mutable z.code.sure c.targets k j (apply p e m ts t) ≡ into z.is_mutable z.code.sure c.targets k j (apply_statically p e d.is.direct.class Public m ts t)
       same_code = ap (λ q. then_use (spill (receiver z.is_mutable z.code.sure e (λ k j. into z.is_mutable z.code.sure c.targets k j e) ∷ operands z.is_mutable z.code.sure c.targets ts) j) (λ es. finish k p t false (core.receiver_call q (coerced_receiver (type_of_term e) (first_of es)) (expressions_of (coerced_arguments m.params (types_of ts) (rest_of es)))))) d.is.callee
 
-  -- one of a method that is looked up
-  looked_does : (p : Position) (e : Term) (m : MethodName) (ts : Terms) (t : IrType) → TreeDoes z lawful low e → OperandsFine ts → (c : Context) (k : Destination) (j : ℕ) → Sound z.is_mutable c → Ahead c j → Outside c (Own (apply p e m ts t)) → Writes c.written k → (fine : FineHere z lawful low c k (apply p e m ts t)) → ByLookup z.place.classes (usable z) fine.scene e m → Does z lawful c k j (apply p e m ts t)
-  looked_does p e m ts t does_e do_all c k j sound ahead out wr fine d w env s sc u r same = subst (λ i. Goal received_run called_so (text_by (callee_of (type_of_term e) m)) i) (sym fine.typed.0.meets.1) (subst (λ q. Goal received_run called_so (text_by q) (call_type m.result)) (sym d.is.callee) (subst (λ run. Goal run called_so (text_by (callees.LookedUp l.class m)) (call_type m.result)) (sym (takes_instances z.place.classes (type_of_term e) m l.class l.receiver l.free d.is.result d.is.named (received env.sure))) (subst (λ a. Goal (taken env.sure) a (text_by (callees.LookedUp l.class m)) (call_type m.result)) (sym (calls_instance z.place.classes (type_of_term e) m l.class l.receiver l.free d.is.result d.is.named z.low)) (subst (λ q. Goal (taken q) act (text_by (callees.LookedUp l.class m)) (call_type m.result)) (sym r.sees.sure) (subst (λ os. Ends z lawful c c.scope k w sc (ir_meaning.in_order (taken z.code.sure ∷ ir_meaning.operands z.place.classes z.low ts) act env s) (then_use (spill ((receiver_piece z lawful low c.targets e).here ∷ os) j) (λ es. finish k p (call_type m.result) false (text_by (callees.LookedUp l.class m) es))).statements sc u) (sym (operands-list z lawful low c.targets ts)) (subst (λ rs. Ends z lawful c c.scope k w sc (ir_meaning.in_order (taken z.code.sure ∷ rs) act env s) (then_use (spill (operands_in z lawful (receiver_piece z lawful low c.targets e ∷ list_of z lawful low c.targets ts)) j) (λ es. finish k p (call_type m.result) false (text_by (callees.LookedUp l.class m) es))).statements sc u) (sym (runs-list z lawful low c.targets ts)) (looked_up z lawful low l.class m l.free l.there e ts on fit c k p sound wr (subst (FitsIn (usable z) k) fine.typed.0.meets.1 (fits z.place.classes lawful.base.ordered (usable z) k t fine.asks (result_is m.result t fine.typed.0.meets.1) makes.0)) j ahead ds w env s sc u r same)))))))
+  -- one on an instance of a class
+  instance_does : (p : Position) (e : Term) (m : MethodName) (ts : Terms) (t : IrType) → TreeDoes z lawful low e → OperandsFine ts → (c : Context) (k : Destination) (j : ℕ) → Sound z.is_mutable c → Ahead c j → Outside c (Own (apply p e m ts t)) → Writes c.written k → (fine : FineHere z lawful low c k (apply p e m ts t)) → OnInstances z lawful fine.scene e m → Does z lawful c k j (apply p e m ts t)
+  instance_does p e m ts t does_e do_all c k j sound ahead out wr fine d w env s sc u r same = subst (λ i. Goal received_run called_so (text_by (callee_of (type_of_term e) m)) i) (sym fine.typed.0.meets.1) (subst (λ q. Goal received_run called_so (text_by q) (call_type m.result)) (sym d.called) (subst (λ run. Goal run called_so (text_by d.way.callee) (call_type m.result)) (sym (d.takes (received env.sure))) (subst (λ a. Goal (taken env.sure) a (text_by d.way.callee) (call_type m.result)) (sym d.runs) (subst (λ q. Goal (taken q) act (text_by d.way.callee) (call_type m.result)) (sym r.sees.sure) (subst (λ os. Ends z lawful c c.scope k w sc (ir_meaning.in_order (taken z.code.sure ∷ ir_meaning.operands z.place.classes z.low ts) act env s) (then_use (spill ((receiver_piece z lawful low c.targets e).here ∷ os) j) (λ es. finish k p (call_type m.result) false (text_by d.way.callee es))).statements sc u) (sym (operands-list z lawful low c.targets ts)) (subst (λ rs. Ends z lawful c c.scope k w sc (ir_meaning.in_order (taken z.code.sure ∷ rs) act env s) (then_use (spill (operands_in z lawful (receiver_piece z lawful low c.targets e ∷ list_of z lawful low c.targets ts)) j) (λ es. finish k p (call_type m.result) false (text_by d.way.callee es))).statements sc u) (sym (runs-list z lawful low c.targets ts)) (looked_up z lawful low fine.scene e m d ts fit c k p sound wr (subst (FitsIn (usable z) k) fine.typed.0.meets.1 (fits z.place.classes lawful.base.ordered (usable z) k t fine.asks (result_is m.result t fine.typed.0.meets.1) makes.0)) j ahead ds w env s sc u r same)))))))
     where
-      l : IsLookedUp (usable z) (type_of_term e) m
-      l = d.is.lookup
-
       act : List ir.Value → ir.Run
-      act = ir_meaning.call_instance z.place.classes z.low l.class m
+      act = ir_meaning.call_instance z.place.classes z.low d.class m
 
       called_so : List ir.Value → ir.Run
       called_so = ir_meaning.call_method z.place.classes z.low (type_of_term e) m m.result
@@ -501,7 +583,7 @@ module _ (z : Setting) (lawful : Lawful z) (low : LowAlike z) where
       received_run = ir_meaning.taking z.place.classes (ir_meaning.class_looked_up (type_of_term e) m.result) (received env.sure)
 
       taken : (List ℕ → Bool) → ir.Run
-      taken q = λ env' s'. ir.go_on (received q env' s') (ir_meaning.only_instance z.place.classes l.class)
+      taken q = as_instances z d.class (received q)
 
       text_by : Callee → List core.Expression → core.Expression
       text_by q es = core.receiver_call q (coerced_receiver (type_of_term e) (first_of es)) (expressions_of (coerced_arguments m.params (types_of ts) (rest_of es)))
@@ -512,45 +594,14 @@ module _ (z : Setting) (lawful : Lawful z) (low : LowAlike z) where
       makes : Makes (is_boxed_at (goal_of k) t) × Makes (is_boxed Any e || any_is_boxed m.params ts) × Makes (operand_boxes (goals_of c.targets) e) × Makes (operands_box (goals_of c.targets) ts)
       makes = called e m ts t c k fine.boxed
 
-      may : MayStand (usable z) (class_type l.class) (type_of_term e) × ArgumentsFit z.place.classes (usable z) ts m.params
-      may = looked_stand z.place.classes (usable z) e l.class m ts makes.1 fine.typed.0.finds fine.typed.0.meets.2
-
-      on : StandsFor z (class_type l.class) (type_of_term e)
-      on = stands-for z lawful (class_type l.class) (type_of_term e) (l.below z.place.classes) may.0
+      arguments : ArgumentsFit z.place.classes (usable z) ts m.params
+      arguments = (looked_stand z.place.classes (usable z) e d.class m ts makes.1 fine.typed.0.finds fine.typed.0.meets.2).1
 
       fit : StandForAll z (types_referred m.params) (types_of ts)
-      fit = stand-for-all z lawful ts m.params may.1
+      fit = stand-for-all z lawful ts m.params arguments
 
       ds : OperandsDo z lawful c j (receiver_piece z lawful low c.targets e ∷ list_of z lawful low c.targets ts)
-      ds = (receiver_of c j e l.class (Own (apply p e m ts t)) (λ x o. inl o) does_e out fine.scene fine.amid (of_first z.is_mutable (mutable_in e) (mutable_in_all ts) (front e) fine.written) (l.below z.place.classes) d.checked fine.typed.1 makes.2 fine.around fine.once.0, do_all c j (outside-part c (Own (apply p e m ts t)) (OwnAll ts) (λ x o. inr o) out) fine.scene fine.amid (of_second z.is_mutable (mutable_in e) (mutable_in_all ts) (front e) fine.written) m.params may.1 fine.typed.2 makes.3 fine.around fine.once.1)
-
-  -- one of a method of an array
-  array_does : (p : Position) (e : Term) (m : MethodName) (ts : Terms) (t : IrType) → TreeDoes z lawful low e → OperandsFine ts → (c : Context) (k : Destination) (j : ℕ) → Sound z.is_mutable c → Ahead c j → Outside c (Own (apply p e m ts t)) → Writes c.written k → (fine : FineHere z lawful low c k (apply p e m ts t)) → OnArray z.place.classes (usable z) fine.scene e m → Does z lawful c k j (apply p e m ts t)
-  array_does p e m ts t does_e do_all c k j sound ahead out wr fine d w env s sc u r same = subst (λ q. Goal received_run (text_by q)) (sym d.is.callee) (subst (λ run. Goal run (text_by (callees.OfArray m))) (sym (takes_instances z.place.classes (type_of_term e) m object d.array.receiver refl d.is.result d.is.named (received env.sure))) (subst (λ q. Goal (as_instances z object (received q)) (text_by (callees.OfArray m))) (sym r.sees.sure) (subst (λ os. Ends z lawful c c.scope k w sc (ir_meaning.in_order (as_instances z object (received z.code.sure) ∷ ir_meaning.operands z.place.classes z.low ts) act env s) (then_use (spill ((receiver_piece z lawful low c.targets e).here ∷ os) j) (λ es. finish k p t false (text_by (callees.OfArray m) es))).statements sc u) (sym (operands-list z lawful low c.targets ts)) (subst (λ rs. Ends z lawful c c.scope k w sc (ir_meaning.in_order (as_instances z object (received z.code.sure) ∷ rs) act env s) (then_use (spill (operands_in z lawful (receiver_piece z lawful low c.targets e ∷ list_of z lawful low c.targets ts)) j) (λ es. finish k p t false (text_by (callees.OfArray m) es))).statements sc u) (sym (runs-list z lawful low c.targets ts)) (array_called z lawful low d.array.reference m e d.array.is ts t act c k p sound wr (fits z.place.classes lawful.base.ordered (usable z) k t fine.asks (result_is m.result t fine.typed.0.meets.1) makes.0) j ahead ds w env s sc u r same)))))
-    where
-      act : List ir.Value → ir.Run
-      act = ir_meaning.call_method z.place.classes z.low (type_of_term e) m m.result
-
-      received : (List ℕ → Bool) → ir.Run
-      received q = ir_meaning.receiving z.place.classes (is_sure q e) z.low (ir_meaning.step z.place.classes z.low e)
-
-      received_run : ir.Run
-      received_run = ir_meaning.taking z.place.classes (ir_meaning.class_looked_up (type_of_term e) m.result) (received env.sure)
-
-      text_by : Callee → List core.Expression → core.Expression
-      text_by q es = core.receiver_call q (coerced_receiver (type_of_term e) (first_of es)) (expressions_of (coerced_arguments m.params (types_of ts) (rest_of es)))
-
-      Goal : ir.Run → (List core.Expression → core.Expression) → Type 0
-      Goal run text = Ends z lawful c c.scope k w sc (ir_meaning.in_order (run ∷ ir_meaning.operands z.place.classes z.low ts) act env s) (then_use (spill (receiver z.is_mutable z.code.sure e (λ k j. into z.is_mutable z.code.sure c.targets k j e) ∷ operands z.is_mutable z.code.sure c.targets ts) j) (λ es. finish k p t false (text es))).statements sc u
-
-      makes : Makes (is_boxed_at (goal_of k) t) × Makes (is_boxed Any e || any_is_boxed m.params ts) × Makes (operand_boxes (goals_of c.targets) e) × Makes (operands_box (goals_of c.targets) ts)
-      makes = called e m ts t c k fine.boxed
-
-      arguments : ArgumentsFit z.place.classes (usable z) ts m.params
-      arguments = (looked_stand z.place.classes (usable z) e object m ts makes.1 fine.typed.0.finds fine.typed.0.meets.2).1
-
-      ds : OperandsDo z lawful c j (receiver_piece z lawful low c.targets e ∷ list_of z lawful low c.targets ts)
-      ds = (receiver_of c j e object (Own (apply p e m ts t)) (λ x o. inl o) does_e out fine.scene fine.amid (of_first z.is_mutable (mutable_in e) (mutable_in_all ts) (front e) fine.written) (to_any refl (array_valued (type_of_term e) d.array)) d.checked fine.typed.1 makes.2 fine.around fine.once.0, do_all c j (outside-part c (Own (apply p e m ts t)) (OwnAll ts) (λ x o. inr o) out) fine.scene fine.amid (of_second z.is_mutable (mutable_in e) (mutable_in_all ts) (front e) fine.written) m.params arguments fine.typed.2 makes.3 fine.around fine.once.1)
+      ds = (receiver_of c j e d.class (Own (apply p e m ts t)) (λ x o. inl o) does_e out fine.scene fine.amid (of_first z.is_mutable (mutable_in e) (mutable_in_all ts) (front e) fine.written) d.below d.checked fine.typed.1 makes.2 fine.around fine.once.0, do_all c j (outside-part c (Own (apply p e m ts t)) (OwnAll ts) (λ x o. inr o) out) fine.scene fine.amid (of_second z.is_mutable (mutable_in e) (mutable_in_all ts) (front e) fine.written) m.params arguments fine.typed.2 makes.3 fine.around fine.once.1)
 
   -- one by a reflective name
   named_does : (p : Position) (e : Term) (m : MethodName) (ts : Terms) (t : IrType) → TreeDoes z lawful low e → OperandsFine ts → (c : Context) (k : Destination) (j : ℕ) → Sound z.is_mutable c → Ahead c j → Outside c (Own (apply p e m ts t)) → Writes c.written k → (fine : FineHere z lawful low c k (apply p e m ts t)) → ByName z.place.classes (usable z) fine.scene e m → Does z lawful c k j (apply p e m ts t)
@@ -580,8 +631,8 @@ module _ (z : Setting) (lawful : Lawful z) (low : LowAlike z) where
       by : Applied z.place.classes (usable z) fine.scene p e m ts t → Does z lawful c k j (apply p e m ts t)
       by (directly d) = directly_does p e m ts t does_e do_all c k j sound ahead out wr fine d
       by (by_name d) = named_does p e m ts t does_e do_all c k j sound ahead out wr fine d
-      by (on_array d) = array_does p e m ts t does_e do_all c k j sound ahead out wr fine d
-      by (by_lookup d) = looked_does p e m ts t does_e do_all c k j sound ahead out wr fine d
+      by (on_array d) = instance_does p e m ts t does_e do_all c k j sound ahead out wr fine (by_array z lawful fine.scene e m d)
+      by (by_lookup d) = instance_does p e m ts t does_e do_all c k j sound ahead out wr fine (by_class z lawful fine.scene e m d (looked_stand z.place.classes (usable z) e d.is.lookup.class m ts (called e m ts t c k fine.boxed).1 fine.typed.0.finds fine.typed.0.meets.2).0)
 
   mutual
     pub does : (t : Term) → TreeDoes z lawful low t
@@ -591,6 +642,7 @@ module _ (z : Setting) (lawful : Lawful z) (low : LowAlike z) where
     does (labeled p l t e) = labeled_does p l t e (does e)
     does (assign p (var_ref q x t) e) = λ c k j sound ahead out wr fine. assign_by p q x t e (does e) c k j sound ahead out fine (given_up z.place.classes lawful.base.ordered k fine.asks)
     does (assign p (select q o d f t) e) = λ c k j sound ahead out wr fine. set_by p q o d f t e (does o) (does e) c k j sound ahead out fine (given_up z.place.classes lawful.base.ordered k fine.asks)
+    does (assign p (array_select q d i t) e) = λ c k j sound ahead out wr fine. item_set_by p q d i t e (does d) (does i) (does e) c k j sound ahead out fine (given_up z.place.classes lawful.base.ordered k fine.asks)
     does (assign p (select_static q d f t) e) = λ c k j sound ahead out wr fine. set_static_by p q d f t e (does e) c k j sound ahead out fine (given_up z.place.classes lawful.base.ordered k fine.asks)
     does (return_to p e l) = return_does p e l (does e)
     does (try_catch p e x d t) = try_does p e x d t (does e) (does d)
@@ -615,6 +667,10 @@ module _ (z : Setting) (lawful : Lawful z) (low : LowAlike z) where
         call_does z lawful low p c k j m cn n ts t sound ahead wr (fits z.place.classes lawful.base.ordered (usable z) k t fine.asks (result_is m.result t fine.typed.0.meets.1) parts.0) fine.typed.0.built fine.typed.0.meets.1 (stand-for-all z lawful ts m.params arguments) (operands_do ts c j out fine.scene fine.amid fine.written m.params arguments fine.typed.1 passed.1 fine.around fine.once)
     does (unary_op p o e) = unary_does p o e (does e)
     does (binary_op p o e d) = binary_does p o e d (does e) (does d)
+    does (new_array p r e) = new_array_by p r e (does e)
+    does (array_value p r ts) = array_by p r ts (items_do ts)
+    does (array_length p e) = length_by p e (does e)
+    does (array_select p e i t) = item_by p e i t (does e) (does i)
     does (is_instance_of p e t) = test_does p e t (does e)
     does (as_instance_of p e t) = cast_does p e t (does e)
     does (undefined_literal p) = λ c k j sound ahead out wr fine. quiet z lawful low (undefined_literal p) c k p core.undefined_value j (λ env. ir.undefined) sound wr (fits-value z.place.classes lawful.base.ordered (usable z) k Undefined fine.asks refl (none_at k Undefined refl)) (plain_here c k fine none_made refl tt) refl (λ w env s sc r. refl)
@@ -639,6 +695,10 @@ module _ (z : Setting) (lawful : Lawful z) (low : LowAlike z) where
     operands_do : (ts : Terms) → OperandsFine ts
     operands_do no_terms = λ c j out s amid mut rs fit typed boxed labels once. tt
     operands_do (more_terms t ts) = arguments_do t ts (does t) (operands_do ts)
+
+    items_do : (ts : Terms) → ItemsFine ts
+    items_do no_terms = λ c j out s amid mut t value fit typed boxed labels once. tt
+    items_do (more_terms t ts) = item_and_rest t ts (does t) (items_do ts)
 
     cases_do : (cs : Cases) → CasesDo cs
     cases_do no_cases = λ c k j sound ahead out wr scene amid mut i asks typed boxed labels once. no_case

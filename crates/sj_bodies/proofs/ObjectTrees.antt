@@ -127,7 +127,7 @@ module _ (z : Setting) (lawful : Lawful z) (low : LowAlike z) where
   receiver_does c j e = receiver_by (is_sure z.code.sure e) c j e
 
   -- the receivers that the IR takes for sure are those of the code
-  sure_run : (e : Term) (act : List ir.Value → ir.Run) (rs : List ir.Run) (w : World) (env : ir.Env) (s : ir.State) (sc : js.Scope) (scope : Scope) → Sees z.place z.code scope w env sc → ir_meaning.in_order (ir_meaning.receiving z.place.classes (is_sure env.sure e) z.low (ir_meaning.step z.place.classes z.low e) ∷ rs) act env s ≡ ir_meaning.in_order (ir_meaning.receiving z.place.classes (is_sure z.code.sure e) z.low (ir_meaning.step z.place.classes z.low e) ∷ rs) act env s
+  pub sure_run : (e : Term) (act : List ir.Value → ir.Run) (rs : List ir.Run) (w : World) (env : ir.Env) (s : ir.State) (sc : js.Scope) (scope : Scope) → Sees z.place z.code scope w env sc → ir_meaning.in_order (ir_meaning.receiving z.place.classes (is_sure env.sure e) z.low (ir_meaning.step z.place.classes z.low e) ∷ rs) act env s ≡ ir_meaning.in_order (ir_meaning.receiving z.place.classes (is_sure z.code.sure e) z.low (ir_meaning.step z.place.classes z.low e) ∷ rs) act env s
   sure_run e act rs w env s sc scope sees = ap (λ (q : List ℕ → Bool). ir_meaning.in_order (ir_meaning.receiving z.place.classes (is_sure q e) z.low (ir_meaning.step z.place.classes z.low e) ∷ rs) act env s) sees.sure
 
   -- a field of an object

@@ -8,7 +8,7 @@ use Rattle.sj_bodies.specs.Placed.{Placed, PlacedAll, PlacedCases, with_reach}
 use Rattle.sj_proper.specs.Finalizers.{holds_finally, hold_finally, cases_hold_finally, left_labels, all_left_labels, cases_left_labels, if_outside}
 use Rattle.sj_proper.specs.Once.{Once, OnceAll, OnceCases}
 use Rattle.sj_proper.specs.Plain.{is_among}
-use Rattle.sj_trees.specs.Term.{Term, Terms, no_terms, more_terms, Cases, no_cases, more_cases, var_def, block_of, labeled, assign, return_to, if_then, while_loop, do_while, throw, try_catch, try_finally, match_on, new_object, select, apply, apply_statically, apply_static, unary_op, binary_op, is_instance_of, as_instance_of, log_line, store_module}
+use Rattle.sj_trees.specs.Term.{Term, Terms, no_terms, more_terms, Cases, no_cases, more_cases, var_def, block_of, labeled, assign, return_to, if_then, while_loop, do_while, throw, try_catch, try_finally, match_on, new_object, new_array, array_value, array_length, array_select, select, apply, apply_statically, apply_static, unary_op, binary_op, is_instance_of, as_instance_of, log_line, store_module}
 
 mutual
   pub once_of : (to : List ℕ → Type 0) (may : Type 0) (ls : List (List ℕ)) (t : Term) → Placed to may ls t → Once ls t
@@ -16,6 +16,7 @@ mutual
   once_of to may ls (block_of p ts) h = once_of_all to may ls ts h
   once_of to may ls (labeled p l t e) h = (h.0, once_of (with_reach l to) may (l ∷ ls) e h.1)
   once_of to may ls (assign p (select q d c f t) e) h = (once_of to may ls d h.0, once_of to may ls e h.1, h.2)
+  once_of to may ls (assign p (array_select q d i t) e) h = (once_of to may ls d h.0, once_of to may ls i h.1, once_of to may ls e h.2, h.3, h.4)
   once_of to may ls (assign p d e) h = once_of to may ls e h
   once_of to may ls (throw p e) h = once_of to may ls e h
   once_of to may ls (store_module p c e) h = once_of to may ls e h
@@ -32,6 +33,10 @@ mutual
   once_of to may ls (apply_statically p e c n m ts t) h = (once_of to may ls e h.0, once_of_all to may ls ts h.1, h.2)
   once_of to may ls (apply_static p c n m ts t) h = once_of_all to may ls ts h
   once_of to may ls (unary_op p o e) h = once_of to may ls e h
+  once_of to may ls (new_array p r e) h = once_of to may ls e h
+  once_of to may ls (array_value p r ts) h = once_of_all to may ls ts h
+  once_of to may ls (array_length p e) h = once_of to may ls e h
+  once_of to may ls (array_select p e i t) h = (once_of to may ls e h.0, once_of to may ls i h.1, h.2)
   once_of to may ls (is_instance_of p e t) h = once_of to may ls e h
   once_of to may ls (as_instance_of p e t) h = once_of to may ls e h
   once_of to may ls (binary_op p o e d) h = (once_of to may ls e h.0, once_of to may ls d h.1, h.2)
@@ -104,6 +109,13 @@ mutual
   narrowed from to may now inner ls (block_of p ts) within left tries h = narrowed_all from to may now inner ls ts within left tries h
   narrowed from to may now inner ls (labeled p l t e) within left tries h = (h.0, narrowed (with_reach l from) (with_reach l to) may now (l ∷ inner) (l ∷ ls) e (further_inside inner to l within) (further_left (left_labels (l ∷ inner) e) from to l left) tries h.1)
   narrowed from to may now inner ls (assign p (select q d c f t) e) within left tries h = (narrowed from to may now inner ls d within (λ m i. left m (among_front (left_labels inner d) (left_labels inner e) m i)) (λ i. tries (or_first (holds_finally d) (holds_finally e) i)) h.0, narrowed from to may now inner ls e within (λ m i. left m (among_behind (left_labels inner d) (left_labels inner e) m i)) (λ i. tries (or_later (holds_finally d) (holds_finally e) i)) h.1, h.2)
+  narrowed from to may now inner ls (assign p (array_select q d i t) e) within left tries h = (
+    narrowed from to may now inner ls d within (λ m k. left m (among_front (left_labels inner d ++ left_labels inner i) (left_labels inner e) m (among_front (left_labels inner d) (left_labels inner i) m k))) (λ k. tries (or_first (holds_finally d || holds_finally i) (holds_finally e) (or_first (holds_finally d) (holds_finally i) k))) h.0,
+    narrowed from to may now inner ls i within (λ m k. left m (among_front (left_labels inner d ++ left_labels inner i) (left_labels inner e) m (among_behind (left_labels inner d) (left_labels inner i) m k))) (λ k. tries (or_first (holds_finally d || holds_finally i) (holds_finally e) (or_later (holds_finally d) (holds_finally i) k))) h.1,
+    narrowed from to may now inner ls e within (λ m k. left m (among_behind (left_labels inner d ++ left_labels inner i) (left_labels inner e) m k)) (λ k. tries (or_later (holds_finally d || holds_finally i) (holds_finally e) k)) h.2,
+    h.3,
+    h.4,
+  )
   narrowed from to may now inner ls (assign p d e) within left tries h = narrowed from to may now inner ls e within (λ m i. left m (among_behind (left_labels inner d) (left_labels inner e) m i)) (λ i. tries (or_later (holds_finally d) (holds_finally e) i)) h
   narrowed from to may now inner ls (throw p e) within left tries h = narrowed from to may now inner ls e within left tries h
   narrowed from to may now inner ls (store_module p c e) within left tries h = narrowed from to may now inner ls e within left tries h
@@ -120,6 +132,10 @@ mutual
   narrowed from to may now inner ls (apply_statically p e c n m ts t) within left tries h = (narrowed from to may now inner ls e within (λ m i. left m (among_front (left_labels inner e) (all_left_labels inner ts) m i)) (λ i. tries (or_first (holds_finally e) (hold_finally ts) i)) h.0, narrowed_all from to may now inner ls ts within (λ m i. left m (among_behind (left_labels inner e) (all_left_labels inner ts) m i)) (λ i. tries (or_later (holds_finally e) (hold_finally ts) i)) h.1, h.2)
   narrowed from to may now inner ls (apply_static p c n m ts t) within left tries h = narrowed_all from to may now inner ls ts within left tries h
   narrowed from to may now inner ls (unary_op p o e) within left tries h = narrowed from to may now inner ls e within left tries h
+  narrowed from to may now inner ls (new_array p r e) within left tries h = narrowed from to may now inner ls e within left tries h
+  narrowed from to may now inner ls (array_value p r ts) within left tries h = narrowed_all from to may now inner ls ts within left tries h
+  narrowed from to may now inner ls (array_length p e) within left tries h = narrowed from to may now inner ls e within left tries h
+  narrowed from to may now inner ls (array_select p e i t) within left tries h = (narrowed from to may now inner ls e within (λ m k. left m (among_front (left_labels inner e) (left_labels inner i) m k)) (λ k. tries (or_first (holds_finally e) (holds_finally i) k)) h.0, narrowed from to may now inner ls i within (λ m k. left m (among_behind (left_labels inner e) (left_labels inner i) m k)) (λ k. tries (or_later (holds_finally e) (holds_finally i) k)) h.1, h.2)
   narrowed from to may now inner ls (is_instance_of p e t) within left tries h = narrowed from to may now inner ls e within left tries h
   narrowed from to may now inner ls (as_instance_of p e t) within left tries h = narrowed from to may now inner ls e within left tries h
   narrowed from to may now inner ls (binary_op p o e d) within left tries h = (narrowed from to may now inner ls e within (λ m i. left m (among_front (left_labels inner e) (left_labels inner d) m i)) (λ i. tries (or_first (holds_finally e) (holds_finally d) i)) h.0, narrowed from to may now inner ls d within (λ m i. left m (among_behind (left_labels inner e) (left_labels inner d) m i)) (λ i. tries (or_later (holds_finally e) (holds_finally d) i)) h.1, h.2)
@@ -141,6 +157,7 @@ mutual
   anywhere to may ls any m (block_of p ts) h = all_anywhere to may ls any m ts h
   anywhere to may ls any m (labeled p l t e) h = (h.0, anywhere (with_reach l to) may (l ∷ ls) (λ n. inr (any n)) m e h.1)
   anywhere to may ls any m (assign p (select q d c f t) e) h = (anywhere to may ls any m d h.0, anywhere to may ls any m e h.1, h.2)
+  anywhere to may ls any m (assign p (array_select q d i t) e) h = (anywhere to may ls any m d h.0, anywhere to may ls any m i h.1, anywhere to may ls any m e h.2, h.3, h.4)
   anywhere to may ls any m (assign p d e) h = anywhere to may ls any m e h
   anywhere to may ls any m (throw p e) h = anywhere to may ls any m e h
   anywhere to may ls any m (store_module p c e) h = anywhere to may ls any m e h
@@ -157,6 +174,10 @@ mutual
   anywhere to may ls any m (apply_statically p e c n g ts t) h = (anywhere to may ls any m e h.0, all_anywhere to may ls any m ts h.1, h.2)
   anywhere to may ls any m (apply_static p c n g ts t) h = all_anywhere to may ls any m ts h
   anywhere to may ls any m (unary_op p o e) h = anywhere to may ls any m e h
+  anywhere to may ls any m (new_array p r e) h = anywhere to may ls any m e h
+  anywhere to may ls any m (array_value p r ts) h = all_anywhere to may ls any m ts h
+  anywhere to may ls any m (array_length p e) h = anywhere to may ls any m e h
+  anywhere to may ls any m (array_select p e i t) h = (anywhere to may ls any m e h.0, anywhere to may ls any m i h.1, h.2)
   anywhere to may ls any m (is_instance_of p e t) h = anywhere to may ls any m e h
   anywhere to may ls any m (as_instance_of p e t) h = anywhere to may ls any m e h
   anywhere to may ls any m (binary_op p o e d) h = (anywhere to may ls any m e h.0, anywhere to may ls any m d h.1, h.2)

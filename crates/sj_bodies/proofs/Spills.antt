@@ -33,7 +33,7 @@ use Rattle.sj_trees.specs.TypeOf.{type_of_term}
 use Rattle.sj_plain.proofs.Orders.{text_of, OperandAlike, OperandsAlike, no_operands, more_operands}
 use Rattle.sj_bodies.proofs.Contexts.{Context, Sound, Ahead, IsOpen, Ready, ready-lift, Keeps, Less, less-trans, keeps-refl, keeps-trans, keeps-fewer, stored, Came, gave, left, threw, stopped, started-here, started-ready, started-keeps}
 use Rattle.sj_bodies.proofs.Statements.{run-followed, leaves_on, ThrowsOn, throws-on, Ends}
-use Rattle.sj_plain.proofs.Worlds.{World, Grows, grows-refl, grows-trans, SameValue, Stands, same_undefined, same_null, same_boolean, same_char, same_number, same_long, same_text, value-lift}
+use Rattle.sj_plain.proofs.Worlds.{World, Grows, Shaped, grows-refl, grows-trans, SameValue, Stands, same_undefined, same_null, same_boolean, same_char, same_number, same_long, same_text, value-lift}
 
 -- a context in which further variables keep what they hold, and one in which one more may be written
 abbrev pub keeping : Context → (core.Variable → Type 0) → Context
@@ -90,11 +90,11 @@ module _ (z : Setting) (lawful : Lawful z) where
   not_mutable true h = impossible h
   not_mutable false h = refl
 
-  value_fixed : (p : core.Variable → Type 0) (w : World) (env : ir.Env) (sc : js.Scope) (t : Term) (v : ir.Value) (x : js.Value) → Stands w (is_char (type_of_term t)) v x → suits (type_of_term t) v ≡ true → ((s : ir.State) → ir_meaning.step z.place.classes z.low t env s ≡ done (ir.ends (ir.gives v) env s)) → ((later : js.Scope) (u : js.State) → shown z (expression_of z.code.sure t) later u ≡ done (js.gives x u)) → FixedTree p w env sc t
-  value_fixed p w env sc t v x a k g h = record { value = v; js_value = x; gives = g; alike = record { stands = a; suits = k }; goes_on = λ later u ks. h later u }
+  value_fixed : (p : core.Variable → Type 0) (w : World) (env : ir.Env) (sc : js.Scope) (t : Term) (v : ir.Value) (x : js.Value) → Stands w (is_char (type_of_term t)) v x → suits (type_of_term t) v ≡ true → Shaped w v (type_of_term t) → ((s : ir.State) → ir_meaning.step z.place.classes z.low t env s ≡ done (ir.ends (ir.gives v) env s)) → ((later : js.Scope) (u : js.State) → shown z (expression_of z.code.sure t) later u ≡ done (js.gives x u)) → FixedTree p w env sc t
+  value_fixed p w env sc t v x a k r g h = record { value = v; js_value = x; gives = g; alike = record { stands = a; suits = k; shaped = r }; goes_on = λ later u ks. h later u }
 
-  number_fixed : (p : core.Variable → Type 0) (w : World) (env : ir.Env) (sc : js.Scope) (t : Term) (v : ir.Value) (n : ℤ) → FitsSigned w32 n → Stands w (is_char (type_of_term t)) v (js.number n) → suits (type_of_term t) v ≡ true → ((s : ir.State) → ir_meaning.step z.place.classes z.low t env s ≡ done (ir.ends (ir.gives v) env s)) → ((later : js.Scope) (u : js.State) → shown z (expression_of z.code.sure t) later u ≡ js_meaning.literal n later u) → FixedTree p w env sc t
-  number_fixed p w env sc t v n f a k g h = value_fixed p w env sc t v (js.number n) a k g (λ later u. h later u ∙ ap (λ (b : Bool). if b then done (js.gives (js.number n) u) else wrong) (fits-exact n f))
+  number_fixed : (p : core.Variable → Type 0) (w : World) (env : ir.Env) (sc : js.Scope) (t : Term) (v : ir.Value) (n : ℤ) → FitsSigned w32 n → Stands w (is_char (type_of_term t)) v (js.number n) → suits (type_of_term t) v ≡ true → Shaped w v (type_of_term t) → ((s : ir.State) → ir_meaning.step z.place.classes z.low t env s ≡ done (ir.ends (ir.gives v) env s)) → ((later : js.Scope) (u : js.State) → shown z (expression_of z.code.sure t) later u ≡ js_meaning.literal n later u) → FixedTree p w env sc t
+  number_fixed p w env sc t v n f a k r g h = value_fixed p w env sc t v (js.number n) a k r g (λ later u. h later u ∙ ap (λ (b : Bool). if b then done (js.gives (js.number n) u) else wrong) (fits-exact n f))
 
   -- or it is wrong
   abbrev pub FixedOrWrong : (p : core.Variable → Type 0) (w : World) (env : ir.Env) (sc : js.Scope) (t : IrType) (r : ir.Run) (e : core.Expression) → Type 0
@@ -111,15 +111,15 @@ module _ (z : Setting) (lawful : Lawful z) where
   })
 
   pub fixed_run : (c : Context) (p : core.Variable → Type 0) (t : Term) → Sound z.is_mutable (keeping c p) → is_fixed z.is_mutable t ≡ true → Plain z.place.classes (usable z) z.code c.scope t → (w : World) (env : ir.Env) (sc : js.Scope) → Sees z.place z.code c.scope w env sc → FixedOrWrong p w env sc (type_of_term t) (ir_meaning.step z.place.classes z.low t) (expression_of z.code.sure t)
-  fixed_run c p (undefined_literal q) sound e h w env sc sees = inl (value_fixed p w env sc (undefined_literal q) ir.undefined js.undefined same_undefined refl (λ s. refl) (λ later u. refl))
-  fixed_run c p (null_literal q) sound e h w env sc sees = inl (value_fixed p w env sc (null_literal q) ir.null js.null same_null refl (λ s. refl) (λ later u. refl))
-  fixed_run c p (boolean_literal q b) sound e h w env sc sees = inl (value_fixed p w env sc (boolean_literal q b) (ir.boolean b) (js.boolean b) (same_boolean b) refl (λ s. refl) (λ later u. refl))
-  fixed_run c p (string_literal q us) sound e h w env sc sees = inl (value_fixed p w env sc (string_literal q us) (ir.text us) (js.text us) (same_text us) refl (λ s. refl) (λ later u. refl))
-  fixed_run c p (char_literal q n) sound e h w env sc sees = inl (number_fixed p w env sc (char_literal q n) (ir.char n) (pos n) (unit_is_int n h.typed.finds) (same_char refl n h.typed.finds) refl (λ s. refl) (λ later u. refl))
-  fixed_run c p (byte_literal q n) sound e h w env sc sees = inl (number_fixed p w env sc (byte_literal q n) (ir.number n) n h.typed.finds (same_number n h.typed.finds) refl (λ s. refl) (λ later u. refl))
-  fixed_run c p (short_literal q n) sound e h w env sc sees = inl (number_fixed p w env sc (short_literal q n) (ir.number n) n h.typed.finds (same_number n h.typed.finds) refl (λ s. refl) (λ later u. refl))
-  fixed_run c p (int_literal q n) sound e h w env sc sees = inl (number_fixed p w env sc (int_literal q n) (ir.number n) n h.typed.finds (same_number n h.typed.finds) refl (λ s. refl) (λ later u. refl))
-  fixed_run c p (long_literal q n) sound e h w env sc sees = inl (value_fixed p w env sc (long_literal q n) (ir.long n) (js.big_int n) (same_long n h.typed.finds) refl (λ s. refl) (λ later u. ap (λ (b : Bool). if b then done (js.gives (js.big_int n) u) else wrong) (in_range-fits n h.typed.finds)))
+  fixed_run c p (undefined_literal q) sound e h w env sc sees = inl (value_fixed p w env sc (undefined_literal q) ir.undefined js.undefined same_undefined refl tt (λ s. refl) (λ later u. refl))
+  fixed_run c p (null_literal q) sound e h w env sc sees = inl (value_fixed p w env sc (null_literal q) ir.null js.null same_null refl tt (λ s. refl) (λ later u. refl))
+  fixed_run c p (boolean_literal q b) sound e h w env sc sees = inl (value_fixed p w env sc (boolean_literal q b) (ir.boolean b) (js.boolean b) (same_boolean b) refl tt (λ s. refl) (λ later u. refl))
+  fixed_run c p (string_literal q us) sound e h w env sc sees = inl (value_fixed p w env sc (string_literal q us) (ir.text us) (js.text us) (same_text us) refl tt (λ s. refl) (λ later u. refl))
+  fixed_run c p (char_literal q n) sound e h w env sc sees = inl (number_fixed p w env sc (char_literal q n) (ir.char n) (pos n) (unit_is_int n h.typed.finds) (same_char refl n h.typed.finds) refl tt (λ s. refl) (λ later u. refl))
+  fixed_run c p (byte_literal q n) sound e h w env sc sees = inl (number_fixed p w env sc (byte_literal q n) (ir.number n) n h.typed.finds (same_number n h.typed.finds) refl tt (λ s. refl) (λ later u. refl))
+  fixed_run c p (short_literal q n) sound e h w env sc sees = inl (number_fixed p w env sc (short_literal q n) (ir.number n) n h.typed.finds (same_number n h.typed.finds) refl tt (λ s. refl) (λ later u. refl))
+  fixed_run c p (int_literal q n) sound e h w env sc sees = inl (number_fixed p w env sc (int_literal q n) (ir.number n) n h.typed.finds (same_number n h.typed.finds) refl tt (λ s. refl) (λ later u. refl))
+  fixed_run c p (long_literal q n) sound e h w env sc sees = inl (value_fixed p w env sc (long_literal q n) (ir.long n) (js.big_int n) (same_long n h.typed.finds) refl tt (λ s. refl) (λ later u. ap (λ (b : Bool). if b then done (js.gives (js.big_int n) u) else wrong) (in_range-fits n h.typed.finds)))
   fixed_run c p (var_ref q x t) sound e h w env sc sees = inl (local_fixed p w env sc q x t (sound.constant x t (h.seen x t (there h.scene x t h.typed.finds)) (not_mutable (z.is_mutable x) e)) (env.locals x) (sc.bindings (z.place.name (core.named x))) (sees.locals x t (h.seen x t (there h.scene x t h.typed.finds))) refl refl)
   fixed_run c p (this_ref q t) sound e h w env sc sees = this_fixed p w env sc q t (h.typed.finds.1 ∙ ap class_type h.owned) sound.receiver env.this_value (sc.bindings (z.place.name core.receiver)) sees.this refl refl
   fixed_run c p _ sound e h w env sc sees = impossible e

@@ -3,7 +3,7 @@
 use Rattle.std.specs.Prelude.{◌≡◌, ℕ, List, ◌∷◌, ◌⊎◌}
 use Rattle.sj_proper.specs.Locals.{Own, OwnAll, OwnCases}
 use Rattle.sj_proper.specs.Once.{IsAmong, Apart}
-use Rattle.sj_trees.specs.Term.{Term, Terms, no_terms, more_terms, Cases, no_cases, more_cases, var_def, block_of, labeled, assign, return_to, if_then, while_loop, do_while, throw, try_catch, try_finally, match_on, new_object, select, apply, apply_statically, apply_static, unary_op, binary_op, is_instance_of, as_instance_of, log_line, store_module}
+use Rattle.sj_trees.specs.Term.{Term, Terms, no_terms, more_terms, Cases, no_cases, more_cases, var_def, block_of, labeled, assign, return_to, if_then, while_loop, do_while, throw, try_catch, try_finally, match_on, new_object, new_array, array_value, array_length, array_select, select, apply, apply_statically, apply_static, unary_op, binary_op, is_instance_of, as_instance_of, log_line, store_module}
 
 -- those to which a tree may leave, and one more
 abbrev pub with_reach : List ℕ → (List ℕ → Type 0) → List ℕ → Type 0
@@ -16,6 +16,7 @@ abbrev mutual
   Placed to may ls (block_of p ts) = PlacedAll to may ls ts
   Placed to may ls (labeled p l t e) = (IsAmong ls l → ⊥) × Placed (with_reach l to) may (l ∷ ls) e
   Placed to may ls (assign p (select q d c f t) e) = Placed to may ls d × Placed to may ls e × Apart (Own d) (Own e)
+  Placed to may ls (assign p (array_select q d i t) e) = Placed to may ls d × Placed to may ls i × Placed to may ls e × Apart (Own d) (λ x. Own i x ⊎ Own e x) × Apart (Own i) (Own e)
   Placed to may ls (assign p d e) = Placed to may ls e
   Placed to may ls (throw p e) = Placed to may ls e
   Placed to may ls (store_module p c e) = Placed to may ls e
@@ -32,6 +33,10 @@ abbrev mutual
   Placed to may ls (apply_statically p e c n m ts t) = Placed to may ls e × PlacedAll to may ls ts × Apart (Own e) (OwnAll ts)
   Placed to may ls (apply_static p c n m ts t) = PlacedAll to may ls ts
   Placed to may ls (unary_op p o e) = Placed to may ls e
+  Placed to may ls (new_array p r e) = Placed to may ls e
+  Placed to may ls (array_value p r ts) = PlacedAll to may ls ts
+  Placed to may ls (array_length p e) = Placed to may ls e
+  Placed to may ls (array_select p e i t) = Placed to may ls e × Placed to may ls i × Apart (Own e) (Own i)
   Placed to may ls (is_instance_of p e t) = Placed to may ls e
   Placed to may ls (as_instance_of p e t) = Placed to may ls e
   Placed to may ls (binary_op p o e d) = Placed to may ls e × Placed to may ls d × Apart (Own e) (Own d)

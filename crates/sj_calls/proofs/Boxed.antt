@@ -10,7 +10,9 @@ use Rattle.js_mean.specs.States as js
 use Rattle.js_tree.specs.Terms.{Name}
 use Rattle.sj_names.proofs.Same.{impossible, text-refl}
 use Rattle.sj_names.specs.Same.{is_same_text}
-use Rattle.sj_bodies.specs.Settings.{Place, SameState, SameStored, same_object, link_of, box_link}
+use Rattle.sj_bodies.specs.Settings.{Place, SameState, SameStored, same_object, same_array, link_of, links_of, box_link, array_link, array_links}
+use Rattle.sj_bodies.specs.Worlds.{ArrayAt}
+use Rattle.array_code.specs.Words.{object_class}
 use Rattle.sj_bodies.proofs.Worlds.{World, IsBox, Stands, same_undefined, same_null, same_boolean, same_char, same_box, same_number, same_long, same_text, same_reference}
 
 -- the value is a char
@@ -31,6 +33,9 @@ module _ (p : Place) where
   links_apart [] = refl
   links_apart (c ∷ cs) = ap (λ b. b || is_below (map (link_of p) cs) boxes) (and-false (is_same_text (link_of p c).file (box_link p).file)) ∙ links_apart cs
 
+  arrays_apart : is_below (array_links p) boxes ≡ false
+  arrays_apart = ap (λ b. b || is_below (links_of p object_class) boxes) (and-false (is_same_text (array_link p).file (box_link p).file)) ∙ links_apart (chain_of p.classes object_class)
+
   box_itself : is_same_class (box_link p) (box_link p) ≡ true
   box_itself = and_from (is_same_text (box_link p).file (box_link p).file) (is_same_text (box_link p).name (box_link p).name) (text-refl (box_link p).file) (text-refl (box_link p).name)
 
@@ -47,10 +52,11 @@ module _ (p : Place) where
     box_below c a b = ap (λ o. stored_below o boxes) (box_there c a b) ∙ ap (λ t. t || false) box_itself
 
     pub object_apart : (i a : ℕ) → w.place i ≡ Some a → stored_below (slice_get u.heap a) boxes ≡ false
-    object_apart i a e = let h = same.heaps.objects i a e in by h.class (slice_get s.heap i) (slice_get u.heap a) h.alike
+    object_apart i a e = let h = same.heaps.objects i a e in by h.class (w.arrays i) (slice_get s.heap i) (slice_get u.heap a) h.alike
       where
-        by : (c : List ℕ) (o : Option ir.Stored) (q : Option js.Stored) → SameStored p w c o q → stored_below q boxes ≡ false
-        by _ _ _ (same_object c fields properties told bare fs) = links_apart (chain_of p.classes c)
+        by : (c : List ℕ) (k : Option ArrayAt) (o : Option ir.Stored) (q : Option js.Stored) → SameStored p w c k o q → stored_below q boxes ≡ false
+        by _ _ _ _ (same_object c fields properties told bare fs) = links_apart (chain_of p.classes c)
+        by _ _ _ _ (same_array k items properties told bare array) = arrays_apart
 
     pub told_boxed : (v : ir.Value) (x : js.Value) → Stands w false v x → is_instance u x (js.class boxes) ≡ Some (is_unit v)
     told_boxed _ _ same_undefined = refl

@@ -16,7 +16,7 @@ use Rattle.outcomes.specs.Agreement.{Direction, forward, backward, Sim}
 use Rattle.outcomes.specs.Outcome.{Out, done, going, then_do}
 use Rattle.outcomes.proofs.Simulation.{sim_done, sim_going}
 use Rattle.sj_bodies.specs.Coercions.{is_char}
-use Rattle.sj_bodies.specs.Settings.{Place, Setting, a_helper, box_link, HoldsCharConstants, SameState, Valued, valued, BoxesAlike}
+use Rattle.sj_bodies.specs.Settings.{Place, Setting, a_helper, box_link, HoldsKindConstants, SameState, Valued, valued, BoxesAlike}
 use Rattle.sj_bodies.specs.SjPlainStanding.{suits}
 use Rattle.sj_bodies.proofs.Boxes.{more_owned, state-owns, grows-owned, owned-there}
 use Rattle.sj_bodies.proofs.Heaps.{owned-still}
@@ -58,9 +58,9 @@ makes_box p low c u = js_meaning.construct p.program low (box_link p ∷ []) (bo
 
 module _ (p : Place) (stands : BoxStands p) where
   made_whole : (d : Direction) (t : IrType) (c : ℕ) (w : World) (env : ir.Env) (s : ir.State) (u : js.State) (n : ℕ) → is_char t ≡ false → suits t (ir.char c) ≡ true → c < 2 ^ 16 → SameState p w s u → Boxed d p t c w env s (makes_box p (js_meaning.below p.program (suc n)) c u)
-  made_whole d t c w env s u n other suited below same = subst (Boxed d p t c w env s) (sym (box_made p.program (p.home (a_helper BoxedChar)) stands.members_are (box_link p ∷ []) (js.number (pos c)) u held.address true n there)) (sim_done d (Valued p w env t) (ir.ends (ir.gives (ir.char c)) env s) (js.gives (js.object (next_address u)) (with_stored box u)) (valued (more_owned p w s u same box) (ir.char c) (js.object (next_address u)) s (with_stored box u) (grows-owned p w s u same box) (record { stands = same_box other c (next_address u) below holds_it; suits = suited }) (state-owns p w s u same box (λ constants e. cc))))
+  made_whole d t c w env s u n other suited below same = subst (Boxed d p t c w env s) (sym (box_made p.program (p.home (a_helper BoxedChar)) stands.members_are (box_link p ∷ []) (js.number (pos c)) u held.address true n there)) (sim_done d (Valued p w env t) (ir.ends (ir.gives (ir.char c)) env s) (js.gives (js.object (next_address u)) (with_stored box u)) (valued (more_owned p w s u same box) (ir.char c) (js.object (next_address u)) s (with_stored box u) (grows-owned p w s u same box) (record { stands = same_box other c (next_address u) below holds_it; suits = suited; shaped = tt }) (state-owns p w s u same box (λ constants e. cc))))
     where
-      held : HoldsCharConstants w.owned (u.tops (p.home (a_helper (ConstantsOf kinds.Char))) (helper_name (ConstantsOf kinds.Char)))
+      held : HoldsKindConstants w.owned kinds.Char (u.tops (p.home (a_helper (ConstantsOf kinds.Char))) (helper_name (ConstantsOf kinds.Char)))
       held = same.tops stands.user (a_helper (ConstantsOf kinds.Char)) stands.usable
 
       there : js_meaning.top_cell (owner p.program (p.home (a_helper BoxedChar)) (helper_name (ConstantsOf kinds.Char))) (helper_name (ConstantsOf kinds.Char)) u ≡ js.holds true (js.object held.address)

@@ -127,7 +127,7 @@ body-fine w has file c d e r = record {
 
 -- the end of a body is the end of its call
 pub comes_back : (d : Direction) (p : Place) (file : Code) (t : IrType) (k : Destination) → Way t k → (c : Context) (scope : Scope) (w : World) (before : js.Scope) (env : ir.Env) (a : ir.Ended) (b : js.StatementEnd) → Came p file c scope k w before a b → Sim d (Valued p w env t) (ir_meaning.returned t env a) (js_meaning.returned b)
-comes_back d p file _ _ gives_up c scope w before env _ _ (gave y v inner s sc u _ g let_go r ks same) = sim_done d (Valued p w env NoType) (ir.ends (ir.gives ir.undefined) env s) (js.gives js.undefined u) (valued y ir.undefined js.undefined s u g (record { stands = same_undefined; suits = refl }) same)
+comes_back d p file _ _ gives_up c scope w before env _ _ (gave y v inner s sc u _ g let_go r ks same) = sim_done d (Valued p w env NoType) (ir.ends (ir.gives ir.undefined) env s) (js.gives js.undefined u) (valued y ir.undefined js.undefined s u g (record { stands = same_undefined; suits = refl; shaped = tt }) same)
 comes_back d p file _ _ (hands_on t h) c scope w before env _ _ (gave y v inner s sc u _ g (returned _ j a) r ks same) = subst (λ x. Sim d (Valued p w env t) (ir.given x env s) (done (js.gives j u))) (sym (result-same t v h)) (sim_done d (Valued p w env t) (ir.ends (ir.gives v) env s) (js.gives j u) (valued y v j s u g a same))
 comes_back d p file t k i c scope w before env _ _ (left y l v inner s sc u e reach g a r ks same) = sim_wrong d (Valued p w env t) (js_meaning.returned (js.ends e sc u))
 comes_back d p file t k i c scope w before env _ _ (threw y v x inner s sc u g a r ks same) = sim_done d (Valued p w env t) (ir.ends (ir.throws v) env s) (js.throws x u) (thrown y v x s u g a same)

@@ -11,6 +11,7 @@ use Rattle.array_code.specs.Kinds as casts
 use Rattle.array_code.specs.Kinds.{CastStands, passes, unboxed_value}
 use Rattle.array_code.specs.Helpers.{helper_name, init_name, kind_word, raise}
 use Rattle.array_code.specs.Words.{class_name}
+use Rattle.sj_bodies.specs.Standing.{is_array_type}
 use Rattle.array_code.specs.FailureVariants.{Cast}
 use Rattle.array_code.specs.HelperVariants.{CastTo, Throws}
 use Rattle.array_code.specs.Kind.{Kind}
@@ -30,7 +31,7 @@ use Rattle.dispatch_laws.specs.Tests.{cast_name}
 use Rattle.sj_names.proofs.Same.{impossible}
 use Rattle.sj_bodies.specs.Settings.{Place, SameState, Valued, valued, thrown, a_cast, a_helper, top_function, top_call}
 use Rattle.sj_bodies.specs.SjPlainStanding.{suits}
-use Rattle.sj_bodies.proofs.Worlds.{World, grows-refl, SameValue, Stands, same_undefined, same_null, same_boolean, same_char, same_box, same_number, same_long, same_text, same_reference}
+use Rattle.sj_bodies.proofs.Worlds.{World, grows-refl, shaped-other, SameValue, Stands, same_undefined, same_null, same_boolean, same_char, same_box, same_number, same_long, same_text, same_reference}
 use Rattle.sj_trees.specs.declared.types.IrType.{IrType}
 use Rattle.sj_trees.specs.declared.types.IrType.TheVariants.{Any, Undefined, Boolean, Char, Byte, Short, Int, Long, String, Nothing}
 use Rattle.sj_calls.specs.Helpers.{HelperStands, Failed, failed_so, failing_code, helper_code, kind_of}
@@ -47,6 +48,9 @@ cast_exception = codes "java.lang.ClassCastException"
 -- the cast to a primitive type has the name of its helper; what it gives of null is the zero of the type; and what it shows where it fails is the word of the type
 pub cast_named : (t : IrType) (k : Kind) → kind_of t ≡ Some k → cast_name t ≡ helper_name (CastTo k)
 cast_named = each_kind (λ t k. cast_name t ≡ helper_name (CastTo k)) refl refl refl refl refl refl refl refl
+
+kind-no-array : (t : IrType) (k : Kind) → kind_of t ≡ Some k → is_array_type t ≡ false
+kind-no-array = each_kind (λ t k. is_array_type t ≡ false) refl refl refl refl refl refl refl refl
 
 zero_named : (t : IrType) (k : Kind) → kind_of t ≡ Some k → zero_value t ≡ casts.zero_value k
 zero_named = each_kind (λ t k. zero_value t ≡ casts.zero_value k) refl refl refl refl refl refl refl refl
@@ -180,7 +184,7 @@ module _ (p : Place) (w : World) (s : ir.State) (u : js.State) (same : SameState
 
       module _ (m : ℕ) (fails : FailsOn d p low (suc m) (Throws Cast) (js.text (kind_word can.kind) ∷ []) cast_exception (kind_word can.kind)) where
         given_cast : (v : ir.Value) (x : js.Value) → Stands w false v x → passes u (boxes p) can.kind x ≡ true → Alike (ir.given v env s) (suc (suc m)) x
-        given_cast v x a h = let g = kind_given t can.kind can.its_kind v x a h in subst (Sim d (Valued p w env t) (ir.given v env s)) (sym (casts_tell.of_kind p.program m file (boxes p) u can.kind x g.value uses_stand h g.is)) (sim_done d (Valued p w env t) (ir.ends (ir.gives v) env s) (js.gives g.value u) (valued w v g.value s u (grows-refl w) (record { stands = g.stands; suits = g.suits_it }) same))
+        given_cast v x a h = let g = kind_given t can.kind can.its_kind v x a h in subst (Sim d (Valued p w env t) (ir.given v env s)) (sym (casts_tell.of_kind p.program m file (boxes p) u can.kind x g.value uses_stand h g.is)) (sim_done d (Valued p w env t) (ir.ends (ir.gives v) env s) (js.gives g.value u) (valued w v g.value s u (grows-refl w) (record { stands = g.stands; suits = g.suits_it; shaped = shaped-other w t v (kind-no-array t can.kind can.its_kind) }) same))
 
         failed_cast : (x : js.Value) → (x ≡ js.null → ⊥) → passes u (boxes p) can.kind x ≡ false → Alike (ir_meaning.answered p.classes low (ir_meaning.cast_failure t) env s) (suc (suc m)) x
         failed_cast x there h = subst (λ us. Alike (ir_meaning.raise p.classes low cast_exception us env s) (suc (suc m)) x) (sym (word_named t can.kind can.its_kind)) (subst (Sim d (Valued p w env t) (ir_meaning.raise p.classes low cast_exception (kind_word can.kind) env s)) (sym (casts_tell.of_other p.program m file (boxes p) u can.kind x uses_stand there h)) (sim_weaken d (Failed p w env) (Valued p w env t) (ir_meaning.raise p.classes low cast_exception (kind_word can.kind) env s) (top_call p (js_meaning.below p.program (suc m)) (a_helper (Throws Cast)) (js.text (kind_word can.kind) ∷ []) u) each (fails w env s u same)))

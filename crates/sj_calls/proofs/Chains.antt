@@ -1,6 +1,6 @@
 -- Where the classes of a chain stand in the program, their constructors make an object that leads to the constants of its class.
 use Rattle.std.proofs.Common.{◌≡◌, true, List, [], ◌∷◌, Option, Some, None, refl, ap, ◌∙◌}
-use Rattle.std.specs.Prelude.{codes}
+use Rattle.std.specs.Prelude.{codes, ◌||◌}
 use Rattle.array_code.specs.Words.{constants_name}
 use Rattle.dispatch_laws.specs.States as ir
 use Rattle.js_mean.specs.Meaning.{top_cell}
@@ -22,7 +22,7 @@ constants_kept c (f ∷ fs) own = constants_kept c fs (with_property (field_bind
 
 module _ (p : Place) (w : World) (s : ir.State) (u : js.State) (same : SameState p w s u) where
   pub holds_constants : (c : Name) (superclass : Option Name) (fields : List FieldDef) → ClassStands p c superclass fields → HoldsConstants w.owned c (u.tops (p.home (some_constants c)) (constants_name c))
-  holds_constants c superclass fields st = same.tops st.user (some_constants c) st.usable
+  holds_constants c superclass fields st = same.tops st.user (some_constants c) (ap (λ b. b || (p.has st.user).bases c) st.usable)
 
   pub maker_stands : (c : Name) (superclass : Option Name) (fields : List FieldDef) (st : ClassStands p c superclass fields) → MakerStands p.program (link_of p) u c superclass fields (holds_constants c superclass fields st).address
   maker_stands c superclass fields st = record {

@@ -18,7 +18,7 @@ use Rattle.js_mean.specs.Meaning as js_meaning
 use Rattle.js_mean.specs.States as js
 use Rattle.js_tree.specs.Terms.{Name}
 use Rattle.dispatch_laws.specs.Tests.{test_name}
-use Rattle.sj_bodies.proofs.Worlds.{World, grows-refl, SameValue, Stands, same_null}
+use Rattle.sj_bodies.proofs.Worlds.{World, grows-refl, shaped-other, SameValue, Stands, same_null}
 use Rattle.sj_bodies.specs.Settings.{Place, SameState, Valued, valued, thrown, a_test, a_cast, a_helper, top_call}
 use Rattle.sj_bodies.specs.SjPlainStanding.{suits}
 use Rattle.sj_trees.specs.declared.types.IrType.{IrType}
@@ -68,12 +68,12 @@ module _ (p : Place) (plain : IsPlain p.classes) (w : World) (s : ir.State) (u :
     Alike o n x = Sim d (Valued p w env (Class c)) o (js_meaning.code_call (js_meaning.below p.program n) file (Some (class_cast_code c)) (x ∷ []) u)
 
     null_cast : (n : ℕ) → Alike (ir.given ir.null env s) (suc n) js.null
-    null_cast n = subst (Sim d (Valued p w env (Class c)) (ir.given ir.null env s)) (sym (class_casts_tell.of_null p.program n file u c)) (sim_done d (Valued p w env (Class c)) (ir.ends (ir.gives ir.null) env s) (js.gives js.null u) (valued w ir.null js.null s u (grows-refl w) (record { stands = same_null; suits = refl }) same))
+    null_cast n = subst (Sim d (Valued p w env (Class c)) (ir.given ir.null env s)) (sym (class_casts_tell.of_null p.program n file u c)) (sim_done d (Valued p w env (Class c)) (ir.ends (ir.gives ir.null) env s) (js.gives js.null u) (valued w ir.null js.null s u (grows-refl w) (record { stands = same_null; suits = refl; shaped = tt }) same))
 
     module _ (n : ℕ) (fails : FailsOn d p low n (Throws Cast) (js.text (units_of c) ∷ []) cast_exception (units_of c)) where
       -- by what the test tells
       decided : (v : ir.Value) (x : js.Value) → Stands w false v x → (b : Bool) → (b ≡ true → suits (Class c) v ≡ true) → js_meaning.code_call (js_meaning.below p.program (suc n)) file (Some (class_cast_code c)) (x ∷ []) u ≡ (if b then done (js.gives x u) else failed p.program n (p.home (a_helper (Throws Cast))) (units_of c) u) → Alike (ir_meaning.answered p.classes low (if b then answers v else ir_meaning.cast_failure (Class c)) env s) (suc n) x
-      decided v x a true suited is = subst (Sim d (Valued p w env (Class c)) (ir.given v env s)) (sym is) (sim_done d (Valued p w env (Class c)) (ir.ends (ir.gives v) env s) (js.gives x u) (valued w v x s u (grows-refl w) (record { stands = a; suits = suited refl }) same))
+      decided v x a true suited is = subst (Sim d (Valued p w env (Class c)) (ir.given v env s)) (sym is) (sim_done d (Valued p w env (Class c)) (ir.ends (ir.gives v) env s) (js.gives x u) (valued w v x s u (grows-refl w) (record { stands = a; suits = suited refl; shaped = shaped-other w (Class c) v refl }) same))
       decided v x a false suited is = subst (λ us. Alike (ir_meaning.raise p.classes low cast_exception us env s) (suc n) x) can.named (subst (Sim d (Valued p w env (Class c)) (ir_meaning.raise p.classes low cast_exception (units_of c) env s)) (sym is) (sim_weaken d (Failed p w env) (Valued p w env (Class c)) (ir_meaning.raise p.classes low cast_exception (units_of c) env s) (top_call p (js_meaning.below p.program n) (a_helper (Throws Cast)) (js.text (units_of c) ∷ []) u) each (fails w env s u same)))
         where
           each : (a : ir.Ended) (b : js.ExpressionEnd) → Failed p w env a b → Valued p w env (Class c) a b

@@ -19,7 +19,7 @@ use Rattle.array_code.specs.Hijacked.{number_in}
 use Rattle.array_code.specs.Instances.{is_worded}
 use Rattle.array_code.specs.Kinds.{KindTestStands, passes}
 use Rattle.array_code.specs.Tests.{HasMarker, on_object, on_undefined, on_boolean, on_number, on_big_int, on_text, TestStands, TestsStand, tests_none, tests_more, class_test_code, class_told}
-use Rattle.array_code.specs.Words.{kind_class, worded_kinds}
+use Rattle.array_code.specs.Words.{object_class, kind_class, worded_kinds}
 use Rattle.array_code.specs.Kind.{Kind}
 use Rattle.array_code.specs.KindVariants as kinds
 use Rattle.dispatch_laws.proofs.AncestorsFound.{ancestors_are_worked_out}
@@ -39,7 +39,8 @@ use Rattle.sj_names.proofs.Same.{impossible, text-same, text-refl}
 use Rattle.sj_names.specs.Same.{is_same_text}
 use Rattle.sj_bodies.proofs.Standing.{class-open}
 use Rattle.sj_bodies.proofs.Worlds.{World, grows-refl, SameValue, IsBox, Stands, same_undefined, same_null, same_boolean, same_char, same_box, same_number, same_long, same_text, same_reference}
-use Rattle.sj_bodies.specs.Settings.{Place, SameStored, same_object, MarksAncestors, SameState, Valued, valued, links_of, a_test, top_call}
+use Rattle.sj_bodies.specs.Settings.{Place, SameStored, same_object, same_array, MarksAncestors, SameState, Valued, valued, links_of, array_links, a_test, top_call}
+use Rattle.sj_bodies.specs.Worlds.{ArrayAt}
 use Rattle.sj_bodies.specs.SjPlainStanding.{suits}
 use Rattle.sj_trees.specs.declared.types.IrType.TheVariants.{Any, Boolean, Class}
 use Rattle.dispatch_laws.specs.Ancestors.{IsAncestor}
@@ -142,13 +143,20 @@ module _ (p : Place) (plain : IsPlain p.classes) (w : World) (s : ir.State) (u :
       at : slice_get u.heap address ≡ Some (js.plain [] constants)
       by_ir : (is_ancestor_of_any p.classes (stored_class o) c || false) ≡ class_told u (boxes p) kinds_told (js.object a) (is_some (constants (class_binding Marker c)))
 
-    object_told : (a : ℕ) (d : List ℕ) (o : Option ir.Stored) (q : Option js.Stored) → SameStored p w d o q → ToldObject a o q
-    object_told a _ _ _ (same_object d fields properties told bare fs) = record {
+    object_told : (a : ℕ) (d : List ℕ) (k : Option ArrayAt) (o : Option ir.Stored) (q : Option js.Stored) → SameStored p w d k o q → ToldObject a o q
+    object_told a _ _ _ _ (same_object d fields properties told bare fs) = record {
       address = told.address;
       constants = told.constants;
       key = ap (λ v. value_on (or_value v (method_on p.program (links_of p d) (codes "k"))) (codes "k")) told.held;
       at = same.heaps.owned told.address (js.plain [] told.constants) told.owned;
       by_ir = marked_told d a told.constants told.marked (same.heaps.marked told.address told.constants told.owned);
+    }
+    object_told a _ _ _ _ (same_array r items properties told bare array) = record {
+      address = told.address;
+      constants = told.constants;
+      key = ap (λ v. value_on (or_value v (method_on p.program (array_links p) (codes "k"))) (codes "k")) told.held;
+      at = same.heaps.owned told.address (js.plain [] told.constants) told.owned;
+      by_ir = marked_told object_class a told.constants told.marked (same.heaps.marked told.address told.constants told.owned);
     }
 
     -- whether a value other than null has the marker, and what the IR says
@@ -169,7 +177,7 @@ module _ (p : Place) (plain : IsPlain p.classes) (w : World) (s : ir.State) (u :
     marker_of _ _ (same_number z f) there = record { marked = false; has_it = on_number z; by_ir = ap ir.boolean (ap (λ (t : Bool). is_ancestor p.classes (codes "java.lang.Integer") c || t) (no_small c free z) ∙ primitive_told kinds.Int (js.number z) refl refl) }
     marker_of _ _ (same_long z f) there = record { marked = false; has_it = on_big_int z; by_ir = ap ir.boolean (primitive_told kinds.Long (js.big_int z) refl refl) }
     marker_of _ _ (same_text us) there = record { marked = false; has_it = on_text us; by_ir = ap ir.boolean (primitive_told kinds.Text (js.text us) refl refl) }
-    marker_of _ _ (same_reference i a e) there = let h = same.heaps.objects i a e in let t = object_told a h.class (slice_get s.heap i) (slice_get u.heap a) h.alike in record { marked = is_some (t.constants (class_binding Marker c)); has_it = on_object a t.address t.constants t.key t.at; by_ir = ap ir.boolean t.by_ir }
+    marker_of _ _ (same_reference i a e) there = let h = same.heaps.objects i a e in let t = object_told a h.class (w.arrays i) (slice_get s.heap i) (slice_get u.heap a) h.alike in record { marked = is_some (t.constants (class_binding Marker c)); has_it = on_object a t.address t.constants t.key t.at; by_ir = ap ir.boolean t.by_ir }
 
   -- the tests of kinds that the test of a class calls
   tests_stand : (f : Name) (ks : List Kind) → ((k : Kind) → Contains ks k → is_worded k ≡ true) → ((k : Kind) → Contains ks k → ReachesTest p f k) → TestsStand p.program f (boxes p) u ks
@@ -222,8 +230,12 @@ module _ (p : Place) (plain : IsPlain p.classes) (w : World) (s : ir.State) (u :
   number_passes z _ = refl
 
   -- an object of the IR is an instance of no hijacked class
-  object_passes : (k : Kind) (d : List ℕ) (o : Option ir.Stored) (q : Option js.Stored) → is_hijacked d ≡ false → SameStored p w d o q → (is_ancestor_of_any p.classes (stored_class o) (kind_class k) || false) ≡ false
-  object_passes k _ _ _ free (same_object d fields properties told bare fs) = ancestor_tells p.classes d (kind_class k) false (λ e. impossible e, λ a. sym free ∙ ap is_hijacked (alone p.classes plain (kind_class k) (kind_hijacked k) d a) ∙ kind_hijacked k)
+  other_class : (k : Kind) (d : List ℕ) → is_hijacked d ≡ false → (is_ancestor p.classes d (kind_class k) || false) ≡ false
+  other_class k d free = ancestor_tells p.classes d (kind_class k) false (λ e. impossible e, λ a. sym free ∙ ap is_hijacked (alone p.classes plain (kind_class k) (kind_hijacked k) d a) ∙ kind_hijacked k)
+
+  object_passes : (k : Kind) (d : List ℕ) (n : Option ArrayAt) (o : Option ir.Stored) (q : Option js.Stored) → is_hijacked d ≡ false → SameStored p w d n o q → (is_ancestor_of_any p.classes (stored_class o) (kind_class k) || false) ≡ false
+  object_passes k _ _ _ _ free (same_object d fields properties told bare fs) = other_class k d free
+  object_passes k _ _ _ _ free (same_array r items properties told bare array) = other_class k object_class free
 
   hijacked_told : (k : Kind) (v : ir.Value) (x : js.Value) → Stands w false v x → ir_meaning.is_instance_value p.classes (Class (kind_class k)) s v ≡ ir.boolean (passes u (boxes p) k x)
   hijacked_told k _ _ same_undefined = ap ir.boolean (kind_passes kinds.Undefined k js.undefined refl refl refl)
@@ -234,7 +246,7 @@ module _ (p : Place) (plain : IsPlain p.classes) (w : World) (s : ir.State) (u :
   hijacked_told k _ _ (same_number z f) = ap ir.boolean (ap (λ (t : Bool). t || is_small z (kind_class k)) (one_above p.classes plain kinds.Int k) ∙ number_passes z k)
   hijacked_told k _ _ (same_long z f) = ap ir.boolean (kind_passes kinds.Long k (js.big_int z) refl refl refl)
   hijacked_told k _ _ (same_text us) = ap ir.boolean (kind_passes kinds.Text k (js.text us) refl refl refl)
-  hijacked_told k _ _ (same_reference i a e) = let h = same.heaps.objects i a e in ap ir.boolean (object_passes k h.class (slice_get s.heap i) (slice_get u.heap a) (same.heaps.free i h.class h.told) h.alike ∙ sym (object_fails u (boxes p) k a (object_apart p w s u same i a e)))
+  hijacked_told k _ _ (same_reference i a e) = let h = same.heaps.objects i a e in ap ir.boolean (object_passes k h.class (w.arrays i) (slice_get s.heap i) (slice_get u.heap a) (same.heaps.free i h.class h.told) h.alike ∙ sym (object_fails u (boxes p) k a (object_apart p w s u same i a e)))
 
   -- what passes the test of a kind suits its class: only a text suits that of texts
   hijacked_suits : (k : Kind) (v : ir.Value) (x : js.Value) → Stands w false v x → passes u (boxes p) k x ≡ true → suits (Class (kind_class k)) v ≡ true
@@ -287,5 +299,5 @@ module _ (p : Place) (plain : IsPlain p.classes) (w : World) (s : ir.State) (u :
       t = tells c test v x a.stands
 
       by : Comes d (test_call c x n) t.told → Sim d (Valued p w env Boolean) (ir.given (ir_meaning.is_instance_value p.classes (Class c) s v) env s) (test_call c x n)
-      by (tells_it is) = subst (λ o. Sim d (Valued p w env Boolean) (ir.given o env s) (test_call c x n)) (sym t.by_ir) (subst (Sim d (Valued p w env Boolean) (done (ir.ends (ir.gives (ir.boolean t.told)) env s))) (sym is) (sim_done d (Valued p w env Boolean) (ir.ends (ir.gives (ir.boolean t.told)) env s) (js.gives (js.boolean t.told) u) (valued w (ir.boolean t.told) (js.boolean t.told) s u (grows-refl w) (record { stands = same_boolean t.told; suits = refl }) same)))
+      by (tells_it is) = subst (λ o. Sim d (Valued p w env Boolean) (ir.given o env s) (test_call c x n)) (sym t.by_ir) (subst (Sim d (Valued p w env Boolean) (done (ir.ends (ir.gives (ir.boolean t.told)) env s))) (sym is) (sim_done d (Valued p w env Boolean) (ir.ends (ir.gives (ir.boolean t.told)) env s) (js.gives (js.boolean t.told) u) (valued w (ir.boolean t.told) (js.boolean t.told) s u (grows-refl w) (record { stands = same_boolean t.told; suits = refl; shaped = tt }) same)))
       by (goes_on back is) = subst (λ q. Sim q (Valued p w env Boolean) (ir.given (ir_meaning.is_instance_value p.classes (Class c) s v) env s) (test_call c x n)) (sym back) (subst (Sim backward (Valued p w env Boolean) (ir.given (ir_meaning.is_instance_value p.classes (Class c) s v) env s)) (sym is) (sim_going (Valued p w env Boolean) (ir.given (ir_meaning.is_instance_value p.classes (Class c) s v) env s)))

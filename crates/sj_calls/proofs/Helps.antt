@@ -33,7 +33,7 @@ use Rattle.sj_bodies.specs.Standing.{Fits}
 use Rattle.dispatch_laws.specs.Known.{is_hijacked}
 use Rattle.sj_bodies.proofs.Objects.{new_alike}
 use Rattle.sj_bodies.proofs.Orders.{OperandsAlike, no_operands, more_operands}
-use Rattle.sj_bodies.proofs.Worlds.{World, grows-refl, SameValue, Stands, same_undefined, same_null, same_boolean, same_char, same_box, same_number, same_long, same_text, same_reference, value-fits}
+use Rattle.sj_bodies.proofs.Worlds.{World, grows-refl, Shaped, SameValue, Stands, same_undefined, same_null, same_boolean, same_char, same_box, same_number, same_long, same_text, same_reference, value-fits}
 use Rattle.sj_calls.specs.Helpers.{failing_code, checking_code, HelperStands, Failed, failed_so}
 
 -- in a file of helpers no local is in scope
@@ -79,7 +79,7 @@ module _ (d : Direction) (p : Place) (h : Helper) (low : ir_meaning.Low) (n : �
   then_thrown w env f _ _ (thrown y v x s u g a same) = sim_done d (Failed p w env) (ir.ends (ir.throws v) env s) (js.throws x u) (failed_so y v x s u g a same)
 
   message_alike : (w : World) (env : ir.Env) → OperandsAlike inside w env scope (String ∷ []) (ir.given (ir.text message) ∷ []) (core.text_value message ∷ [])
-  message_alike w env = more_operands String (ir.given (ir.text message)) (core.text_value message) [] [] [] refl (λ y s u g same. sim_done d (Valued p y env String) (ir.ends (ir.gives (ir.text message)) env s) (js.gives (js.text message) u) (valued y (ir.text message) (js.text message) s u (grows-refl y) (record { stands = same_text message; suits = refl }) same)) no_operands
+  message_alike w env = more_operands String (ir.given (ir.text message)) (core.text_value message) [] [] [] refl (λ y s u g same. sim_done d (Valued p y env String) (ir.ends (ir.gives (ir.text message)) env s) (js.gives (js.text message) u) (valued y (ir.text message) (js.text message) s u (grows-refl y) (record { stands = same_text message; suits = refl; shaped = tt }) same)) no_operands
 
   -- an exception is made and thrown: by the IR, and by the function of a helper
   pub fails_alike : Based inside → FailsAs p h xs e message → (usable inside).built (member e Constructor ir_meaning.with_message) ≡ true → (usable inside).made e ≡ true → is_hijacked e ≡ false → Fits Any (class_type e) → (w : World) (env : ir.Env) (s : ir.State) (u : js.State) → SameState p w s u → Sim d (Failed p w env) (ir_meaning.raise p.classes low e message env s) (top_call p (js_meaning.below p.program (suc n)) (a_helper h) xs u)
@@ -150,21 +150,21 @@ FailsAt d p low m h e message = FailsOn d p low m h [] e message
 module _ (d : Direction) (p : Place) (low : ir_meaning.Low) (m : ℕ) (stands : HelperStands p NotNull checking_code) (owned : owner p.program (p.home (a_helper NotNull)) (helper_name (Throws NullReceiver)) ≡ Some (p.home (a_helper (Throws NullReceiver)))) (fails : FailsAt d p low m (Throws NullReceiver) (codes "java.lang.NullPointerException") (codes "null")) where
   -- the null check of a value, and its helper
   pub checks_alike : (held : (w : World) (s : ir.State) (u : js.State) → SameState p w s u → u.tops (p.home (a_helper (Throws NullReceiver))) (helper_name (Throws NullReceiver)) ≡ js.holds false (top_function p (a_helper (Throws NullReceiver)))) (t : IrType) (w : World) (v : ir.Value) (x : js.Value) (env : ir.Env) (s : ir.State) (u : js.State) → SameValue w t v x → SameState p w s u → Sim d (Valued p w env t) (ir_meaning.answered p.classes low (ir_meaning.not_null p.classes v) env s) (top_call p (js_meaning.below p.program (suc m)) (a_helper NotNull) (x ∷ []) u)
-  checks_alike held t w v x env s u a same = by v x a.stands a.suits
+  checks_alike held t w v x env s u a same = by v x a.stands a.suits a.shaped
     where
-      given : (v : ir.Value) (x : js.Value) → Stands w (is_char t) v x → suits t v ≡ true → (v ≡ ir.null → ⊥) → Sim d (Valued p w env t) (done (ir.ends (ir.gives v) env s)) (top_call p (js_meaning.below p.program (suc m)) (a_helper NotNull) (x ∷ []) u)
-      given v x a k there = subst (λ o. Sim d (Valued p w env t) (done (ir.ends (ir.gives v) env s)) o) (sym (hands_on p m w (is_char t) v x u stands a there)) (sim_done d (Valued p w env t) (ir.ends (ir.gives v) env s) (js.gives x u) (valued w v x s u (grows-refl w) (record { stands = a; suits = k }) same))
+      given : (v : ir.Value) (x : js.Value) → Stands w (is_char t) v x → suits t v ≡ true → Shaped w v t → (v ≡ ir.null → ⊥) → Sim d (Valued p w env t) (done (ir.ends (ir.gives v) env s)) (top_call p (js_meaning.below p.program (suc m)) (a_helper NotNull) (x ∷ []) u)
+      given v x a k shaped there = subst (λ o. Sim d (Valued p w env t) (done (ir.ends (ir.gives v) env s)) o) (sym (hands_on p m w (is_char t) v x u stands a there)) (sim_done d (Valued p w env t) (ir.ends (ir.gives v) env s) (js.gives x u) (valued w v x s u (grows-refl w) (record { stands = a; suits = k; shaped = shaped }) same))
 
       each : (a : ir.Ended) (b : js.ExpressionEnd) → Failed p w env a b → Sim d (Valued p w env t) (done a) (behind_failure p (js_meaning.below p.program m) b)
       each _ _ (failed_so y v q s u g k same) = sim_done d (Valued p w env t) (ir.ends (ir.throws v) env s) (js.throws q u) (thrown y v q s u g k same)
 
-      by : (v : ir.Value) (x : js.Value) → Stands w (is_char t) v x → suits t v ≡ true → Sim d (Valued p w env t) (ir_meaning.answered p.classes low (ir_meaning.not_null p.classes v) env s) (top_call p (js_meaning.below p.program (suc m)) (a_helper NotNull) (x ∷ []) u)
-      by _ _ same_null k = subst (λ o. Sim d (Valued p w env t) (ir_meaning.raise p.classes low (codes "java.lang.NullPointerException") (codes "null") env s) o) (sym (null_fails p m u stands owned (held w s u same))) (subst (λ o. Sim d (Valued p w env t) o (then_do (top_call p (js_meaning.below p.program m) (a_helper (Throws NullReceiver)) [] u) (behind_failure p (js_meaning.below p.program m)))) (then_do-right (ir_meaning.raise p.classes low (codes "java.lang.NullPointerException") (codes "null") env s)) (sim_then d (Failed p w env) (Valued p w env t) (ir_meaning.raise p.classes low (codes "java.lang.NullPointerException") (codes "null") env s) (top_call p (js_meaning.below p.program m) (a_helper (Throws NullReceiver)) [] u) done (behind_failure p (js_meaning.below p.program m)) (fails w env s u same) each))
-      by _ _ same_undefined k = given _ _ same_undefined k (λ e. cc)
-      by _ _ (same_boolean b) k = given _ _ (same_boolean b) k (λ e. cc)
-      by _ _ (same_char q c f) k = given _ _ (same_char q c f) k (λ e. cc)
-      by _ _ (same_box q c b f i) k = given _ _ (same_box q c b f i) k (λ e. cc)
-      by _ _ (same_number n f) k = given _ _ (same_number n f) k (λ e. cc)
-      by _ _ (same_long n f) k = given _ _ (same_long n f) k (λ e. cc)
-      by _ _ (same_text us) k = given _ _ (same_text us) k (λ e. cc)
-      by _ _ (same_reference i b e) k = given _ _ (same_reference i b e) k (λ e. cc)
+      by : (v : ir.Value) (x : js.Value) → Stands w (is_char t) v x → suits t v ≡ true → Shaped w v t → Sim d (Valued p w env t) (ir_meaning.answered p.classes low (ir_meaning.not_null p.classes v) env s) (top_call p (js_meaning.below p.program (suc m)) (a_helper NotNull) (x ∷ []) u)
+      by _ _ same_null k l = subst (λ o. Sim d (Valued p w env t) (ir_meaning.raise p.classes low (codes "java.lang.NullPointerException") (codes "null") env s) o) (sym (null_fails p m u stands owned (held w s u same))) (subst (λ o. Sim d (Valued p w env t) o (then_do (top_call p (js_meaning.below p.program m) (a_helper (Throws NullReceiver)) [] u) (behind_failure p (js_meaning.below p.program m)))) (then_do-right (ir_meaning.raise p.classes low (codes "java.lang.NullPointerException") (codes "null") env s)) (sim_then d (Failed p w env) (Valued p w env t) (ir_meaning.raise p.classes low (codes "java.lang.NullPointerException") (codes "null") env s) (top_call p (js_meaning.below p.program m) (a_helper (Throws NullReceiver)) [] u) done (behind_failure p (js_meaning.below p.program m)) (fails w env s u same) each))
+      by _ _ same_undefined k l = given _ _ same_undefined k l (λ e. cc)
+      by _ _ (same_boolean b) k l = given _ _ (same_boolean b) k l (λ e. cc)
+      by _ _ (same_char q c f) k l = given _ _ (same_char q c f) k l (λ e. cc)
+      by _ _ (same_box q c b f i) k l = given _ _ (same_box q c b f i) k l (λ e. cc)
+      by _ _ (same_number n f) k l = given _ _ (same_number n f) k l (λ e. cc)
+      by _ _ (same_long n f) k l = given _ _ (same_long n f) k l (λ e. cc)
+      by _ _ (same_text us) k l = given _ _ (same_text us) k l (λ e. cc)
+      by _ _ (same_reference i b e) k l = given _ _ (same_reference i b e) k l (λ e. cc)

@@ -8,6 +8,7 @@ pub mod ClassTesting
 pub mod Items
 pub mod Helps
 pub mod Dividing
+pub mod Entries
 pub mod Levels
 pub mod Making
 pub mod Modules

@@ -27,14 +27,16 @@ use Rattle.js_mean.specs.Objects as js_objects
 use Rattle.js_mean.specs.States as js
 use Rattle.js_tree.specs.Terms.{Name}
 use Rattle.sj_bodies.specs.Desugar.{member}
-use Rattle.sj_bodies.specs.Settings.{Place, Setting, SameState, Valued, MadeSomewhere, IsReceiver, Finds, EntriesAlike, DispatchesAlike, a_dispatch, a_method, top_call, link_of, links_of}
+use Rattle.sj_bodies.specs.Settings.{Place, Setting, SameState, Valued, MadeSomewhere, IsReceiver, Finds, EntriesAlike, DispatchesAlike, a_dispatch, a_method, top_call, link_of}
 use Rattle.sj_bodies.specs.Standing.{types_referred, call_type}
 use Rattle.sj_bodies.proofs.Classes.{IsObject, class_there, class_free, class_made, object_there}
 use Rattle.sj_bodies.proofs.Lists.{nothing_in, in_front_or_behind, at_front, further_on}
 use Rattle.sj_bodies.proofs.Looked.{told_class}
 use Rattle.sj_bodies.proofs.Boxes.{class-no-char}
 use Rattle.sj_bodies.proofs.Standing.{open-refers, type-open}
-use Rattle.sj_bodies.proofs.Worlds.{World, Grows, SameValues, no_values, one_more, Stands, same_undefined, same_null, same_boolean, same_char, same_box, same_number, same_long, same_text, same_reference, grows-refl}
+use Rattle.sj_bodies.proofs.Worlds.{World, Grows, shaped-class, SameValues, no_values, one_more, Stands, same_undefined, same_null, same_boolean, same_char, same_box, same_number, same_long, same_text, same_reference, grows-refl}
+use Rattle.sj_calls.proofs.Entries.{entries_of}
+use Rattle.sj_calls.specs.Worlds.{ArrayEntries}
 use Rattle.sj_calls.specs.Looked.{FindsTarget, CaseRuns, HasCase, DispatchStands}
 use Rattle.sj_bodies.specs.SjPlainStanding.{suits}
 use Rattle.sj_calls.proofs.Boxed.{boxes, box_below, object_apart}
@@ -156,7 +158,7 @@ case_stands p m w s u same t r = let k = kind_stands p w s u same (p.home (a_dis
   called = record { const = false; cell_is = subst (λ (o : List ℕ). js_meaning.top_cell (owner p.program (p.home (a_dispatch m)) (public_function o m)) (public_function o m) u ≡ js.holds false (js.function (p.home (a_method (member o Public m))) (public_function o m))) r.owner_is (ap (λ h. js_meaning.top_cell h (public_function r.its.owner m) u) r.its.reached ∙ same.tops r.its.user (a_method (member r.its.owner Public m)) r.its.usable) };
 }
 
-module _ (z : Setting) (c : List ℕ) (m : MethodName) where
+module _ (z : Setting) (arrays : ArrayEntries z.place) (c : List ℕ) (m : MethodName) where
   abbrev p : Place
   p = z.place
 
@@ -172,14 +174,14 @@ module _ (z : Setting) (c : List ℕ) (m : MethodName) where
     free = class_free p w s u same i a h cls told;
     there = h;
     finds = f;
-    property = ap (λ q. js_objects.stored_callee p.program a q (method_binding Entry m)) o.shown ∙ ap (λ q. js_objects.called (js_objects.value_on (js_objects.or_value q (js_objects.method_on p.program (links_of p cls) (method_binding Entry m))) (method_binding Entry m))) (o.bare m) ∙ ap (λ q. js_objects.called (js_objects.value_on q (method_binding Entry m))) f.lookup;
+    property = ap (λ q. js_objects.stored_callee p.program a q (method_binding Entry m)) o.shown ∙ ap (λ q. js_objects.called (js_objects.value_on (js_objects.or_value q (js_objects.method_on p.program o.links (method_binding Entry m))) (method_binding Entry m))) (o.bare m) ∙ ap (λ q. js_objects.called (js_objects.value_on q (method_binding Entry m))) (entries_of p arrays cls o.links o.extended m ∙ f.lookup);
   }
     where
       k : (e : List ℕ) × (w.classes i ≡ Some e)
       k = class_there p w s u same i a h
 
       told : w.classes i ≡ Some cls
-      told = k.1 ∙ ap Some (some_class k.0 cls (sym (ap ir_world.stored_class (object_there p w s u same i a h k.0 k.1).stored) ∙ e))
+      told = k.1 ∙ ap Some (some_class k.0 cls (sym (object_there p w s u same i a h k.0 k.1).stored ∙ e))
 
       f : FindsTarget p cls m
       f = objects cls (class_made p w s u same i a h cls told) below
@@ -188,7 +190,7 @@ module _ (z : Setting) (c : List ℕ) (m : MethodName) where
       o = object_there p w s u same i a h cls told
 
   object_receiver : (w y : World) (cls : List ℕ) (i a : ℕ) (u : js.State) → Grows w y → AnObject w cls i a u → IsReceiver y cls (ir.reference i) (js.object a)
-  object_receiver w y cls i a u g o = record { stands = record { stands = same_reference i a (g.places i a o.there); suits = open-refers (class_type cls) i (type-open cls o.free) }; there = λ e. cc }
+  object_receiver w y cls i a u g o = record { stands = record { stands = same_reference i a (g.places i a o.there); suits = open-refers (class_type cls) i (type-open cls o.free); shaped = shaped-class y cls (ir.reference i) }; there = λ e. cc }
 
   -- what a call of the entry does that an object finds
   abbrev pub EntryCalls : Type 0
@@ -260,7 +262,7 @@ module _ (z : Setting) (c : List ℕ) (m : MethodName) where
 
       -- a value of a kind is of the type of the kind's class
       receiver : (k : Kind) (v : ir.Value) (x : js.Value) → is_char (class_type (kind_class k)) ≡ false → Stands w false v x → suits (class_type (kind_class k)) v ≡ true → (v ≡ ir.null → ⊥) → IsReceiver w (kind_class k) v x
-      receiver k v x raw a fits there = record { stands = record { stands = subst (λ (b : Bool). Stands w b v x) (sym raw) a; suits = fits }; there = there }
+      receiver k v x raw a fits there = record { stands = record { stands = subst (λ (b : Bool). Stands w b v x) (sym raw) a; suits = fits; shaped = shaped-class w (kind_class k) v }; there = there }
 
       kind_by : (k : Kind) (cls : List ℕ) → Some (kind_class k) ≡ Some cls → is_ancestor p.classes cls c ≡ true → is_ancestor p.classes (kind_class k) c ≡ true
       kind_by k cls e below = ap (λ (q : List ℕ). is_ancestor p.classes q c) (some_class (kind_class k) cls e) ∙ below

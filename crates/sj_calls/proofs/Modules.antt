@@ -79,7 +79,7 @@ module _ (d : Direction) (p : Place) (all : (g : Name) (c : List ℕ) → has_ce
         go _ _ (holding v y a) = refl
 
     pub stores_alike : StoreStands p c → (m : ℕ) (w : World) (v : ir.Value) (x : js.Value) (env : ir.Env) (s : ir.State) (u : js.State) → SameValue w (class_type c) v x → SameState p w s u → Sim d (Valued p w env NoType) (ir_meaning.store c (v ∷ []) env s) (top_call p (js_meaning.below p.program (suc m)) (a_storer c) (x ∷ []) u)
-    stores_alike st m w v x env s u alike same = subst (Sim d (Valued p w env NoType) (ir_meaning.store c (v ∷ []) env s)) (sym runs) (sim_done d (Valued p w env NoType) (ir.ends (ir.gives ir.undefined) env (ir.with_cell c v s)) (js.gives js.undefined (with_top here name x u)) (valued w ir.undefined js.undefined (ir.with_cell c v s) (with_top here name x u) (grows-refl w) (record { stands = same_undefined; suits = refl }) (states w v x s u alike same)))
+    stores_alike st m w v x env s u alike same = subst (Sim d (Valued p w env NoType) (ir_meaning.store c (v ∷ []) env s)) (sym runs) (sim_done d (Valued p w env NoType) (ir.ends (ir.gives ir.undefined) env (ir.with_cell c v s)) (js.gives js.undefined (with_top here name x u)) (valued w ir.undefined js.undefined (ir.with_cell c v s) (with_top here name x u) (grows-refl w) (record { stands = same_undefined; suits = refl; shaped = tt }) (states w v x s u alike same)))
       where
         runs : top_call p (js_meaning.below p.program (suc m)) (a_storer c) (x ∷ []) u ≡ done (js.gives js.undefined (with_top here name x u))
         runs = ap (λ o. js_meaning.code_call (js_meaning.below p.program (suc m)) (p.home (a_storer c)) o (x ∷ []) u) st.stores ∙ ap (λ f. js_meaning.code_call (js_meaning.below p.program (suc m)) f (Some (storer_code c)) (x ∷ []) u) st.beside ∙ stores_tell p.program m here c x u its.owned ∙ can_set w x js.undefined s u same

@@ -33,7 +33,7 @@ Made d p c n w env s u = Sim d (Makes p w c env s) (done (ir.ends (ir.gives ir.u
 
 -- with as many units as the chain has classes, or more
 made_whole : (d : Direction) (p : Place) (c : List ℕ) (more : ℕ) (w : World) (env : ir.Env) (s : ir.State) (u : js.State) → Stands p c w u → SameState p w s u → Made d p c (length (chain_of p.classes c) + more) w env s u
-made_whole d p c more w env s u stands same = subst (λ o. Sim d (Makes p w c env s) (done (ir.ends (ir.gives ir.undefined) env s)) o) (sym (chains_make p.program (link_of p) u (chain_of p.classes c) stands.own (links_of p c) stands.makers more)) (sim_done d (Makes p w c env s) (ir.ends (ir.gives ir.undefined) env s) (js.gives (js.object (length u.heap)) (allocated (links_of p c) stands.own u)) (makes (length u.heap) (js.plain (links_of p c) stands.own) (allocated (links_of p c) stands.own u) (unpending p w s.heap u.heap same.heaps) stands.shape (record { heaps = pends p w s.heap u.heap same.heaps (js.plain (links_of p c) stands.own); tops = same.tops; statics = λ g b f t h. holding-carry w (with_pending (length u.heap) (js.plain (links_of p c) stands.own) w) t (λ i a e. e) (λ a o e. e) refl (s.statics b f) (u.tops (p.home (a_static b f t)) (static_name b f)) (same.statics g b f t h); cells = λ g b h. holding-carry w (with_pending (length u.heap) (js.plain (links_of p c) stands.own) w) (class_type b) (λ i a e. e) (λ a o e. e) refl (Some (s.cells b)) (u.tops (p.home (a_cell b)) (cell_name b)) (same.cells g b h) })))
+made_whole d p c more w env s u stands same = subst (λ o. Sim d (Makes p w c env s) (done (ir.ends (ir.gives ir.undefined) env s)) o) (sym (chains_make p.program (link_of p) u (chain_of p.classes c) stands.own (links_of p c) stands.makers more)) (sim_done d (Makes p w c env s) (ir.ends (ir.gives ir.undefined) env s) (js.gives (js.object (length u.heap)) (allocated (links_of p c) stands.own u)) (makes (length u.heap) (js.plain (links_of p c) stands.own) (allocated (links_of p c) stands.own u) (unpending p w s.heap u.heap same.heaps) stands.shape (record { heaps = pends p w s.heap u.heap same.heaps (js.plain (links_of p c) stands.own); tops = same.tops; statics = λ g b f t h. holding-carry w (with_pending (length u.heap) (js.plain (links_of p c) stands.own) w) t (record { places = λ i a e. e; arrays = λ i k e. e; owns = λ a o e. e; boxes = refl }) (s.statics b f) (u.tops (p.home (a_static b f t)) (static_name b f)) (same.statics g b f t h); cells = λ g b h. holding-carry w (with_pending (length u.heap) (js.plain (links_of p c) stands.own) w) (class_type b) (record { places = λ i a e. e; arrays = λ i k e. e; owns = λ a o e. e; boxes = refl }) (Some (s.cells b)) (u.tops (p.home (a_cell b)) (cell_name b)) (same.cells g b h) })))
 
 -- `new` of a class: by the forward half within enough units for its chain, by the backward half within any
 pub made_alike : (d : Direction) (p : Place) (c : List ℕ) (n : ℕ) → (d ≡ forward → length (chain_of p.classes c) ≤ n) → (w : World) (env : ir.Env) (s : ir.State) (u : js.State) → Stands p c w u → SameState p w s u → Made d p c n w env s u

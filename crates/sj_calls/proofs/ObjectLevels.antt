@@ -2,7 +2,7 @@
 use Rattle.sj_calls.proofs.Looking.{TargetsAlike, calls_on, calls_going, entries_alike, dispatches_alike, dispatches_going}
 use Rattle.sj_calls.specs.Looked.{DispatchStands, FindsTarget, KindsRun, no_kinds, some_kinds, LooksUpThere}
 use Rattle.std.specs.Prelude.{◌+◌, ◌*◌, ◌≤◌, ◌&&◌, not, codes}
-use Rattle.std.proofs.Common.{◌≡◌, ℕ, zero, suc, Bool, true, false, List, [], ◌∷◌, Some, length, refl, sym, ap, subst, arith, inl, inr}
+use Rattle.std.proofs.Common.{◌≡◌, ℕ, zero, suc, Bool, true, false, List, [], ◌∷◌, Some, length, refl, sym, ap, ◌∙◌, subst, arith, inl, inr}
 use Rattle.outcomes.specs.Agreement.{Direction, forward, backward, Enough, Sim}
 use Rattle.outcomes.proofs.Simulation.{sim_over, sim_going}
 use Rattle.sj_calls.proofs.Reflecting.{reflected_value, reflected_short, reflected_none_left}
@@ -11,6 +11,7 @@ use Rattle.sj_names.specs.MethodNames.{spelled_method}
 use Rattle.dispatch_laws.specs.Meaning.{no_such_method}
 use Rattle.array_code.specs.FailureVariants.{NullReceiver, Division, Cast, Method}
 use Rattle.array_code.specs.Helpers.{kind_word}
+use Rattle.array_code.specs.Helpers.{helper_name}
 use Rattle.array_code.specs.Words.{units_of}
 use Rattle.sj_bodies.specs.Helper.{Helper}
 use Rattle.array_code.specs.HelperVariants.{Equal, NotNull, Throws}
@@ -31,7 +32,7 @@ use Rattle.sj_bodies.specs.Coercions.{is_char}
 use Rattle.sj_bodies.proofs.Fitting.{fits-sub}
 use Rattle.sj_bodies.proofs.Boxes.{class-no-char}
 use Rattle.sure_receivers.specs.Sure.{sure_locals}
-use Rattle.sj_bodies.specs.Settings.{Place, Code, a_function, a_method, a_constructor, a_setter, a_loader, a_storer, a_helper, division_helper, Setting, SameState, Valued, Built, NamesDiffer, Reaches, Based, Lawful, BuildsAlike, ReceivesAlike, SetsAlike, StoresAlike, LoadsAlike, ChecksAlike, DividesAlike, HasFunction, TestsAlike, CastsAlike, ComparesAlike, IsReceiver, a_test, a_cast, top_call, DispatchesAlike, EntriesAlike, LooksUp, ReflectsAlike, MadeSomewhere}
+use Rattle.sj_bodies.specs.Settings.{Place, Code, a_function, a_method, a_constructor, a_setter, a_loader, a_storer, a_helper, division_helper, setting_helper, Setting, SameState, Valued, Built, NamesDiffer, Reaches, Based, Lawful, BuildsAlike, ReceivesAlike, SetsAlike, StoresAlike, LoadsAlike, ChecksAlike, DividesAlike, HasFunction, TestsAlike, CastsAlike, ComparesAlike, IsReceiver, a_test, a_cast, top_call, DispatchesAlike, EntriesAlike, LooksUp, ReflectsAlike, MadeSomewhere}
 use Rattle.sj_bodies.specs.Standing.{Fits, types_referred, call_type}
 use Rattle.sj_bodies.proofs.Statics.{set_static, load_cell, store_cell}
 use Rattle.sj_bodies.specs.Built.{divides}
@@ -39,11 +40,12 @@ use Rattle.dispatch_laws.specs.Operators.{binary_value}
 use Rattle.sj_bodies.specs.Desugar.{member}
 use Rattle.sj_names.specs.declared.method_names.Namespace.TheVariants.{Constructor}
 use Rattle.sj_trees.specs.TypeOf.{binary_result}
-use Rattle.sj_trees.specs.Types.{class_type}
+use Rattle.sj_trees.specs.Types.{class_type, element_type}
+use Rattle.sj_names.proofs.Same.{impossible}
 use Rattle.sj_trees.specs.declared.operators.BinaryOp.{BinaryOp}
 use Rattle.sj_trees.specs.declared.operators.BinaryOp.TheVariants.{StrictEqual}
 use Rattle.sj_trees.specs.declared.types.IrType.{IrType}
-use Rattle.sj_trees.specs.declared.types.IrType.TheVariants.{Any, Boolean, NoType, Class}
+use Rattle.sj_trees.specs.declared.types.IrType.TheVariants.{Any, Undefined, Null, Boolean, Char, Byte, Short, Int, Long, String, NoType, Class}
 use Rattle.sj_bodies.proofs.Worlds.{World, SameValues, value-fits}
 use Rattle.sj_bodies.proofs.Contexts.{Came}
 use Rattle.sj_bodies.proofs.Main.{does}
@@ -55,7 +57,7 @@ use Rattle.dispatch_laws.specs.Subtypes.{IsSub}
 use Rattle.sj_calls.specs.Helpers.{Failed, CanTest, ClassTest, Tested, of_kind, of_class, CanCompare}
 use Rattle.sj_calls.specs.Methods.{Linked, CallsAgree, ir_call, js_call}
 use Rattle.sj_calls.specs.Objects.{RunsOn, Constructs}
-use Rattle.sj_calls.specs.Worlds.{IsMade, CanCheck, CanDivide, CanCast, CanCastClass, Casted, to_kind, to_class, HasObjects}
+use Rattle.sj_calls.specs.Worlds.{IsMade, CanCheck, CanDivide, CanCast, CanCastClass, Casted, to_kind, to_class, ArrayEntries, HasObjects}
 use Rattle.sj_calls.proofs.Boxing.{boxes_alike}
 use Rattle.sj_calls.proofs.Calls.{call_alike}
 use Rattle.sj_calls.proofs.Dividing.{divides_alike}
@@ -115,18 +117,22 @@ module _ (p : Place) (plain : IsPlain p.classes) (ordered : IsSubtyping (IsSub p
   method_alike : (f : Code) (is_mutable : List ℕ → Bool) (d : Direction) (n k : ℕ) → Level d n k → (m : Member) → IsTargetOf p.classes m (called_member (p.has f.file).lookup m.namespace m) → RunsOn p (called_member (p.has f.file).lookup m.namespace m) → ReceivesAlike (within f d is_mutable n k) m
   method_alike f is_mutable d n k level m its l = target_alike d n k level m (called_member (p.has f.file).lookup m.namespace m) its l
 
+  -- no array is made
+  array_entries : ArrayEntries p
+  array_entries a m = impossible (sym (has.no_arrays a.file).given ∙ a.made)
+
   -- a method that is looked up takes a unit where an object is asked, and two where a function tells receivers apart
   entries_at : (f : Code) (is_mutable : List ℕ → Bool) (c : List ℕ) (m : MethodName) → ((e : List ℕ) → MadeSomewhere p e → is_ancestor p.classes e c ≡ true → FindsTarget p e m) → ((h : List ℕ) → is_hijacked h ≡ true → is_ancestor p.classes h c ≡ false) → (d : Direction) (n k : ℕ) → Levels d n → Enough p.room p.room.each d n k → EntriesAlike (within f d is_mutable n k) c m
-  entries_at f is_mutable c m objects none d n (suc k) levels h = entries_alike (within f d is_mutable n (suc k)) c m (calls_on (within f d is_mutable n (suc k)) c m k refl (target_alike d n k (levels k (one_fewer d n k h)))) objects none
+  entries_at f is_mutable c m objects none d n (suc k) levels h = entries_alike (within f d is_mutable n (suc k)) array_entries c m (calls_on (within f d is_mutable n (suc k)) array_entries c m k refl (target_alike d n k (levels k (one_fewer d n k h)))) objects none
   entries_at f is_mutable c m objects none forward n zero levels h = let e = has.beyond in absurd (omega (arith, e, h))
-  entries_at f is_mutable c m objects none backward n zero levels h = entries_alike (within f backward is_mutable n zero) c m (calls_going (within f backward is_mutable n zero) c m refl refl) objects none
+  entries_at f is_mutable c m objects none backward n zero levels h = entries_alike (within f backward is_mutable n zero) array_entries c m (calls_going (within f backward is_mutable n zero) array_entries c m refl refl) objects none
 
   dispatches_at : (f : Code) (is_mutable : List ℕ → Bool) (c : List ℕ) (m : MethodName) → ((e : List ℕ) → MadeSomewhere p e → is_ancestor p.classes e c ≡ true → FindsTarget p e m) → DispatchStands p c m → (d : Direction) (n k : ℕ) → Levels d n → Enough p.room p.room.each d n k → DispatchesAlike (within f d is_mutable n k) c m
-  dispatches_at f is_mutable c m objects st d n (suc (suc k)) levels h = dispatches_alike (within f d is_mutable n (suc (suc k))) c m k refl (target_alike d n (suc k) (levels (suc k) (one_fewer d n (suc k) h))) (target_alike d n k (levels k (two_fewer d n k h))) objects st
+  dispatches_at f is_mutable c m objects st d n (suc (suc k)) levels h = dispatches_alike (within f d is_mutable n (suc (suc k))) array_entries c m k refl (target_alike d n (suc k) (levels (suc k) (one_fewer d n (suc k) h))) (target_alike d n k (levels k (two_fewer d n k h))) objects st
   dispatches_at f is_mutable c m objects st forward n (suc zero) levels h = let e = has.each in absurd (omega (arith, e, h))
   dispatches_at f is_mutable c m objects st forward n zero levels h = let e = has.beyond in absurd (omega (arith, e, h))
-  dispatches_at f is_mutable c m objects st backward n (suc zero) levels h = dispatches_going (within f backward is_mutable n 1) c m st refl (inr refl)
-  dispatches_at f is_mutable c m objects st backward n zero levels h = dispatches_going (within f backward is_mutable n 0) c m st refl (inl refl)
+  dispatches_at f is_mutable c m objects st backward n (suc zero) levels h = dispatches_going (within f backward is_mutable n 1) array_entries c m st refl (inr refl)
+  dispatches_at f is_mutable c m objects st backward n zero levels h = dispatches_going (within f backward is_mutable n 0) array_entries c m st refl (inl refl)
 
   -- a call by a reflective name takes three units: for the function, the entry of the name and that of the method
   three_fewer : (d : Direction) (n k : ℕ) → Enough p.room p.room.each d n (suc (suc (suc k))) → Enough p.room 0 d n k
@@ -246,11 +252,11 @@ module _ (p : Place) (plain : IsPlain p.classes) (ordered : IsSubtyping (IsSub p
       by _ (some_kinds st) d n k levels h = dispatches_at f is_mutable c m there.objects st d n k levels h
 
   reflects_at : (f : Code) (is_mutable : List ℕ → Bool) (m : MethodName) → ReflectionStands p m → (d : Direction) (n k : ℕ) → Levels d n → Enough p.room p.room.each d n k → ReflectsAlike (within f d is_mutable n k) m
-  reflects_at f is_mutable m st d n (suc (suc k)) levels h = λ w v x vs xs env s u a values same. reflected_value p d (ir_meaning.below p.classes n) has.boxes m st w s u same vs xs values env k (target_alike d n (suc k) (levels (suc k) (one_fewer d n (suc k) h))) (λ j e. target_alike d n j (levels j (three_fewer d n j (subst (λ (i : ℕ). Enough p.room p.room.each d n (suc (suc i))) (sym e) h)))) (reflected_room d n k h) (fails_at (Throws Method) (js.text (units_of (spelled_method m)) ∷ []) no_such_method (units_of (spelled_method m)) (told_fails_as p (Throws Method) no_such_method (units_of (spelled_method m)) st.throws.failure) st.throws.reaches st.throws.built st.throws.made refl refl d n (suc k) levels h) v x a.stands
+  reflects_at f is_mutable m st d n (suc (suc k)) levels h = λ w v x vs xs env s u a values same. reflected_value p array_entries d (ir_meaning.below p.classes n) has.boxes m st w s u same vs xs values env k (target_alike d n (suc k) (levels (suc k) (one_fewer d n (suc k) h))) (λ j e. target_alike d n j (levels j (three_fewer d n j (subst (λ (i : ℕ). Enough p.room p.room.each d n (suc (suc i))) (sym e) h)))) (reflected_room d n k h) (fails_at (Throws Method) (js.text (units_of (spelled_method m)) ∷ []) no_such_method (units_of (spelled_method m)) (told_fails_as p (Throws Method) no_such_method (units_of (spelled_method m)) st.throws.failure) st.throws.reaches st.throws.built st.throws.made refl refl d n (suc k) levels h) v x a.stands
   reflects_at f is_mutable m st forward n (suc zero) levels h = let e = has.each in absurd (omega (arith, e, h))
   reflects_at f is_mutable m st forward n zero levels h = let e = has.each in absurd (omega (arith, e, h))
-  reflects_at f is_mutable m st backward n (suc zero) levels h = λ w v x vs xs env s u a values same. reflected_short p backward (ir_meaning.below p.classes n) has.boxes m st w s u same vs xs values env not_forward v x a.stands
-  reflects_at f is_mutable m st backward n zero levels h = λ w v x vs xs env s u a values same. reflected_none_left p backward (ir_meaning.below p.classes n) has.boxes m st w s u same vs xs values env not_forward v x
+  reflects_at f is_mutable m st backward n (suc zero) levels h = λ w v x vs xs env s u a values same. reflected_short p array_entries backward (ir_meaning.below p.classes n) has.boxes m st w s u same vs xs values env not_forward v x a.stands
+  reflects_at f is_mutable m st backward n zero levels h = λ w v x vs xs env s u a values same. reflected_none_left p array_entries backward (ir_meaning.below p.classes n) has.boxes m st w s u same vs xs values env not_forward v x
 
   -- a class is loaded in one unit, in which its object is made where there is none yet
   loads_at : (f : Code) (is_mutable : List ℕ → Bool) (c : List ℕ) → (p.has f.file).modules c ≡ true → (d : Direction) (n k : ℕ) → Levels d n → Enough p.room p.room.each d n k → LoadsAlike (within f d is_mutable n k) c
@@ -258,8 +264,21 @@ module _ (p : Place) (plain : IsPlain p.classes) (ordered : IsSubtyping (IsSub p
   loads_at f is_mutable c l forward n zero levels h = let e = has.each in absurd (omega (arith, e, h))
   loads_at f is_mutable c l backward n zero levels h = λ w env s u same. subst (λ o. Sim backward (Valued p w env (class_type c)) (ir_meaning.load p.classes (ir_meaning.below p.classes n) c (s.cells c) env s) o) (sym (ap (λ o. js_meaning.code_call (js_meaning.below p.program 0) (p.home (a_loader c)) o [] u) (has.loads f.file c l).loads)) (sim_going (Valued p w env (class_type c)) (ir_meaning.load p.classes (ir_meaning.below p.classes n) c (s.cells c) env s))
 
+  -- the setter of items is one of two helpers
+  no_setter : {A : Type 0} (f : Code) (t : IrType) → (p.has f.file).helper (helper_name (setting_helper t)) ≡ true → A
+  no_setter f Undefined i = impossible (sym (has.no_arrays f.file).set ∙ i)
+  no_setter f Boolean i = impossible (sym (has.no_arrays f.file).set ∙ i)
+  no_setter f Char i = impossible (sym (has.no_arrays f.file).set ∙ i)
+  no_setter f Byte i = impossible (sym (has.no_arrays f.file).set ∙ i)
+  no_setter f Short i = impossible (sym (has.no_arrays f.file).set ∙ i)
+  no_setter f Int i = impossible (sym (has.no_arrays f.file).set ∙ i)
+  no_setter f Long i = impossible (sym (has.no_arrays f.file).set ∙ i)
+  no_setter f String i = impossible (sym (has.no_arrays f.file).set ∙ i)
+  no_setter f Null i = impossible (sym (has.no_arrays f.file).set ∙ i)
+  no_setter f _ i = impossible (sym (has.no_arrays f.file).put ∙ i)
+
   lawful : (d : Direction) (n k : ℕ) → Levels d n → Enough p.room p.room.each d n k → (f : Code) → Reaches p f.file → (is_mutable : List ℕ → Bool) → Lawful (within f d is_mutable n k)
-  lawful d n k levels h f reaches is_mutable = record { base = based d n k levels (fewer d p.room.each n k h) f reaches is_mutable; reflects = λ m i. reflects_at f is_mutable m (has.reflected f.file m i) d n k levels h; looks = λ c m i. looks_at f is_mutable c m ((p.has f.file).lookup.has_hijacked c) (has.looked f.file c m i) d n k levels h; loads = λ c i. loads_at f is_mutable c i d n k levels h; checks = λ i. checks_at (has.checked f.file i) f is_mutable d n k levels h; divisions = λ o i. divides_at f is_mutable o i (has.divided f.file o i) d n k levels h; boxes = λ i. boxes_alike (within f d is_mutable n k) k (has.boxes f.file i) refl (box_room d n k h); tests = λ t i. test_there f is_mutable t (has.tested f.file t i) d n k h; casts = λ t i. cast_there f is_mutable t (has.cast f.file t i) d n k levels h; compares = λ i. compares_at f is_mutable (has.compared f.file i) d n k h }
+  lawful d n k levels h f reaches is_mutable = record { base = based d n k levels (fewer d p.room.each n k h) f reaches is_mutable; reflects = λ m i. reflects_at f is_mutable m (has.reflected f.file m i) d n k levels h; looks = λ c m i. looks_at f is_mutable c m ((p.has f.file).lookup.has_hijacked c) (has.looked f.file c m i) d n k levels h; loads = λ c i. loads_at f is_mutable c i d n k levels h; checks = λ i. checks_at (has.checked f.file i) f is_mutable d n k levels h; divisions = λ o i. divides_at f is_mutable o i (has.divided f.file o i) d n k levels h; boxes = λ i. boxes_alike (within f d is_mutable n k) k (has.boxes f.file i) refl (box_room d n k h); tests = λ t a i. test_there f is_mutable t (has.tested f.file t i) d n k h; casts = λ t a i. cast_there f is_mutable t (has.cast f.file t i) d n k levels h; array_tests = λ r i. impossible (sym ((has.no_arrays f.file).tested r) ∙ i); array_casts = λ r i. impossible (sym ((has.no_arrays f.file).cast r) ∙ i); makes_arrays = λ i. impossible (sym (has.no_arrays f.file).made ∙ i); gives_arrays = λ i. impossible (sym (has.no_arrays f.file).given ∙ i); gets = λ i. impossible (sym (has.no_arrays f.file).got ∙ i); puts = λ r _ i. no_setter f (element_type r) i; array_calls = λ m i w j a q there is s u same. let made = (same.heaps.arrays j q is).made in impossible (sym (has.no_arrays made.file).given ∙ made.made); compares = λ i. compares_at f is_mutable (has.compared f.file i) d n k h }
 
   next : (d : Direction) (n k : ℕ) → Levels d n → Enough p.room p.room.each d n k → Level d (suc n) (suc k)
   next d n k levels h f reaches is_mutable c q j t sound ahead out wr fine w env s sc u ready same = does (within f d is_mutable n k) (lawful d n k levels h f reaches is_mutable) (levels k (fewer d p.room.each n k h) f reaches is_mutable) t c q j sound ahead out wr fine w env s sc u ready same

@@ -25,7 +25,6 @@ use Rattle.dispatch_laws.specs.Dispatch.{proxy_target}
 use Rattle.dispatch_laws.specs.Meaning as ir_meaning
 use Rattle.dispatch_laws.specs.Meaning.{no_such_method}
 use Rattle.dispatch_laws.specs.States as ir
-use Rattle.dispatch_laws.specs.World as ir_world
 use Rattle.js_mean.specs.Files.{owner}
 use Rattle.js_mean.specs.Meaning as js_meaning
 use Rattle.js_mean.specs.Objects as js_objects
@@ -41,7 +40,9 @@ use Rattle.sj_bodies.proofs.Classes.{IsObject, class_there, class_free, class_ma
 use Rattle.sj_bodies.proofs.Lists.{nothing_in, in_front_or_behind, at_front, further_on}
 use Rattle.sj_bodies.proofs.Orders.{valued-weaken, valued-fits}
 use Rattle.sj_bodies.proofs.Standing.{open-refers, type-open}
-use Rattle.sj_bodies.proofs.Worlds.{World, Grows, IsBox, SameValues, Stands, same_undefined, same_null, same_boolean, same_char, same_box, same_number, same_long, same_text, same_reference}
+use Rattle.sj_bodies.proofs.Worlds.{World, Grows, shaped-class, IsBox, SameValues, Stands, same_undefined, same_null, same_boolean, same_char, same_box, same_number, same_long, same_text, same_reference}
+use Rattle.sj_calls.proofs.Entries.{entries_of}
+use Rattle.sj_calls.specs.Worlds.{ArrayEntries}
 use Rattle.sj_calls.specs.Helpers.{BoxStands, ReachesBoxes, Failed, failed_so}
 use Rattle.sj_calls.specs.Looked.{FindsTarget}
 use Rattle.sj_calls.specs.Reflected.{HandsOn, ObjectAnswers, no_entry, has_entry, ReflectedRuns, HasReflected, KindAnswers, no_case, has_case, ReflectionStands}
@@ -92,7 +93,7 @@ char_result (Some TypeRef.Char) h = refl
 char_result None h = impossible h
 char_result _ h = impossible h
 
-module _ (p : Place) (d : Direction) (low : ir_meaning.Low) where
+module _ (p : Place) (arrays : ArrayEntries p) (d : Direction) (low : ir_meaning.Low) where
   abbrev js_low : ℕ → js_meaning.Low
   js_low k = js_meaning.below p.program k
 
@@ -134,14 +135,14 @@ module _ (p : Place) (d : Direction) (low : ir_meaning.Low) where
 
       -- the entry of a method that an object of the class finds
       finds_entry : (n : MethodName) (v : js.Value) → js_objects.method_on p.program (links_of p cls) (method_binding Entry n) ≡ Some v → js_objects.callee p.program u (js.object a) (method_binding Entry n) ≡ Some (js_objects.value_called v)
-      finds_entry n v lookup = ap (λ q. js_objects.stored_callee p.program a q (method_binding Entry n)) object.shown ∙ ap (λ q. js_objects.called (js_objects.value_on (js_objects.or_value q (js_objects.method_on p.program (links_of p cls) (method_binding Entry n))) (method_binding Entry n))) (object.bare n) ∙ ap (λ q. js_objects.called (js_objects.value_on q (method_binding Entry n))) lookup
+      finds_entry n v lookup = ap (λ q. js_objects.stored_callee p.program a q (method_binding Entry n)) object.shown ∙ ap (λ q. js_objects.called (js_objects.value_on (js_objects.or_value q (js_objects.method_on p.program object.links (method_binding Entry n))) (method_binding Entry n))) (object.bare n) ∙ ap (λ q. js_objects.called (js_objects.value_on q (method_binding Entry n))) (entries_of p arrays cls object.links object.extended n ∙ lookup)
 
       -- and whether it finds one
       asked_entry : (n : MethodName) (o : Option js.Value) → js_objects.method_on p.program (links_of p cls) (method_binding Entry n) ≡ o → js_objects.has_property p.program u (js.text (method_binding Entry n)) (js.object a) ≡ Some (is_some o || false)
-      asked_entry n o lookup = ap (λ q. js_objects.stored_has p.program q (js.text (method_binding Entry n))) object.shown ∙ ap (λ q. Some (is_some (js_objects.or_value q (js_objects.method_on p.program (links_of p cls) (method_binding Entry n))) || js_objects.is_given (method_binding Entry n))) (object.bare n) ∙ ap (λ (q : Option js.Value). Some (is_some q || false)) lookup
+      asked_entry n o lookup = ap (λ q. js_objects.stored_has p.program q (js.text (method_binding Entry n))) object.shown ∙ ap (λ q. Some (is_some (js_objects.or_value q (js_objects.method_on p.program object.links (method_binding Entry n))) || js_objects.is_given (method_binding Entry n))) (object.bare n) ∙ ap (λ (q : Option js.Value). Some (is_some q || false)) (entries_of p arrays cls object.links object.extended n ∙ lookup)
 
       receiver : IsReceiver w cls (ir.reference i) (js.object a)
-      receiver = record { stands = record { stands = same_reference i a there; suits = open-refers (class_type cls) i (type-open cls (class_free p w s u same i a there cls told)) }; there = λ e. cc }
+      receiver = record { stands = record { stands = same_reference i a there; suits = open-refers (class_type cls) i (type-open cls (class_free p w s u same i a there cls told)); shaped = shaped-class w cls (ir.reference i) }; there = λ e. cc }
 
       module _ (m t : MethodName) (params : t.params ≡ m.params) (h : HandsOn p cls m t) (f : FindsTarget p cls t) (distinct : are_distinct (parameters_of m) ≡ true) (vs : List ir.Value) (xs : List js.Value) (values : SameValues w (types_referred m.params) vs xs) (env : ir.Env) where
         abbrev proxy : js_objects.Callee
@@ -346,11 +347,11 @@ module _ (p : Place) (d : Direction) (low : ir_meaning.Low) where
 
           -- a value of a kind is of the type of the kind's class
           value_receiver : (k : Kind) (v : ir.Value) (x : js.Value) → is_char (class_type (kind_class k)) ≡ false → Stands w false v x → suits (class_type (kind_class k)) v ≡ true → (v ≡ ir.null → ⊥) → IsReceiver w (kind_class k) v x
-          value_receiver k v x raw a fits there = record { stands = record { stands = subst (λ (b : Bool). Stands w b v x) (sym raw) a; suits = fits }; there = there }
+          value_receiver k v x raw a fits there = record { stands = record { stands = subst (λ (b : Bool). Stands w b v x) (sym raw) a; suits = fits; shaped = shaped-class w (kind_class k) v }; there = there }
 
           -- the class of the object that a reference leads to
           by_object : (i a : ℕ) → w.place i ≡ Some a → Sim d (Valued p w env Any) (ir_meaning.call_reflective p.classes low m (ir.reference i ∷ vs) env s) (top_call p (js_low (suc (suc n))) (a_reflection m) (js.object a ∷ xs) u)
-          by_object i a there = let k = class_there p w s u same i a there in subst (λ (o : Option (List ℕ)). Sim d (Valued p w env Any) (ir_meaning.call_proxy p.classes low m o (ir.reference i ∷ vs) env s) (top_call p (js_low (suc (suc n))) (a_reflection m) (js.object a ∷ xs) u)) (sym (ap ir_world.stored_class (object_there p w s u same i a there k.0 k.1).stored)) (of_object i a k.0 there k.1)
+          by_object i a there = let k = class_there p w s u same i a there in subst (λ (o : Option (List ℕ)). Sim d (Valued p w env Any) (ir_meaning.call_proxy p.classes low m o (ir.reference i ∷ vs) env s) (top_call p (js_low (suc (suc n))) (a_reflection m) (js.object a ∷ xs) u)) (sym (object_there p w s u same i a there k.0 k.1).stored) (of_object i a k.0 there k.1)
 
           pub reflected_value : (v : ir.Value) (x : js.Value) → Stands w false v x → Sim d (Valued p w env Any) (ir_meaning.call_reflective p.classes low m (v ∷ vs) env s) (top_call p (js_low (suc (suc n))) (a_reflection m) (x ∷ xs) u)
           reflected_value _ _ same_null = sim_wrong d (Valued p w env Any) _

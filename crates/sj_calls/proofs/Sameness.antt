@@ -117,4 +117,4 @@ module _ (p : Place) (can : CanCompare p) (w : World) (s : ir.State) (u : js.Sta
 
     -- whether two values are the same, and the helper that tells
     pub compares_alike : (d : Direction) (low : ir_meaning.Low) (env : ir.Env) (v v' : ir.Value) (x x' : js.Value) → SameValue w Any v x → SameValue w Any v' x' → Sim d (Valued p w env Boolean) (ir_meaning.answered p.classes low (binary_value StrictEqual v v') env s) (top_call p (js_meaning.below p.program (suc m)) (a_helper Equal) (x ∷ x' ∷ []) u)
-    compares_alike d low env v v' x x' a b = subst (λ o. Sim d (Valued p w env Boolean) (ir_meaning.answered p.classes low o env s) (top_call p (js_meaning.below p.program (suc m)) (a_helper Equal) (x ∷ x' ∷ []) u)) (sym (same_is v v')) (subst (Sim d (Valued p w env Boolean) (done (ir.ends (ir.gives (ir.boolean (is_same_value v v'))) env s))) (sym (told v v' x x' a.stands b.stands)) (sim_done d (Valued p w env Boolean) (ir.ends (ir.gives (ir.boolean (is_same_value v v'))) env s) (js.gives (js.boolean (is_same_value v v')) u) (valued w (ir.boolean (is_same_value v v')) (js.boolean (is_same_value v v')) s u (grows-refl w) (record { stands = same_boolean (is_same_value v v'); suits = refl }) same)))
+    compares_alike d low env v v' x x' a b = subst (λ o. Sim d (Valued p w env Boolean) (ir_meaning.answered p.classes low o env s) (top_call p (js_meaning.below p.program (suc m)) (a_helper Equal) (x ∷ x' ∷ []) u)) (sym (same_is v v')) (subst (Sim d (Valued p w env Boolean) (done (ir.ends (ir.gives (ir.boolean (is_same_value v v'))) env s))) (sym (told v v' x x' a.stands b.stands)) (sim_done d (Valued p w env Boolean) (ir.ends (ir.gives (ir.boolean (is_same_value v v'))) env s) (js.gives (js.boolean (is_same_value v v')) u) (valued w (ir.boolean (is_same_value v v')) (js.boolean (is_same_value v v')) s u (grows-refl w) (record { stands = same_boolean (is_same_value v v'); suits = refl; shaped = tt }) same)))

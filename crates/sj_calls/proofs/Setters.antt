@@ -107,4 +107,4 @@ module _ (d : Direction) (p : Place) (all : (g : Name) (c f : List ℕ) (t : IrT
   sets_alike g there m w v x env s u alike same = go (s.statics c f) (u.tops (p.home (a_static c f t)) name) refl refl (same.statics g c f t there)
     where
       go : (o : Option ir.Value) (cell : js.Cell) → s.statics c f ≡ o → u.tops (p.home (a_static c f t)) name ≡ cell → Holding w t o cell → Sim d (Valued p w env NoType) (ir_meaning.assigned (ir_meaning.if_there (s.statics c f) (ir.with_static c f v s)) env s) (top_call p (js_meaning.below p.program (suc m)) (a_setter c f t) (x ∷ []) u)
-      go _ _ e held (holding was old a) = subst (λ q. Sim d (Valued p w env NoType) (ir_meaning.assigned (ir_meaning.if_there q (ir.with_static c f v s)) env s) (top_call p (js_meaning.below p.program (suc m)) (a_setter c f t) (x ∷ []) u)) (sym e) (subst (λ q. Sim d (Valued p w env NoType) (done (ir.ends (ir.gives ir.undefined) env (ir.with_static c f v s))) q) (sym (setter_runs p c f t stands m x old u held)) (sim_done d (Valued p w env NoType) (ir.ends (ir.gives ir.undefined) env (ir.with_static c f v s)) (js.gives js.undefined (with_top here name x u)) (valued w ir.undefined js.undefined (ir.with_static c f v s) (with_top here name x u) (grows-refl w) (record { stands = same_undefined; suits = refl }) (states w v x s u alike same))))
+      go _ _ e held (holding was old a) = subst (λ q. Sim d (Valued p w env NoType) (ir_meaning.assigned (ir_meaning.if_there q (ir.with_static c f v s)) env s) (top_call p (js_meaning.below p.program (suc m)) (a_setter c f t) (x ∷ []) u)) (sym e) (subst (λ q. Sim d (Valued p w env NoType) (done (ir.ends (ir.gives ir.undefined) env (ir.with_static c f v s))) q) (sym (setter_runs p c f t stands m x old u held)) (sim_done d (Valued p w env NoType) (ir.ends (ir.gives ir.undefined) env (ir.with_static c f v s)) (js.gives js.undefined (with_top here name x u)) (valued w ir.undefined js.undefined (ir.with_static c f v s) (with_top here name x u) (grows-refl w) (record { stands = same_undefined; suits = refl; shaped = tt }) (states w v x s u alike same))))

@@ -25,20 +25,20 @@ use Rattle.sj_calls.proofs.Zeros.{zeros}
 
 -- the zero of a type of which there are values
 pub zero_alike : (w : World) (t : IrType) → (t ≡ Types.Nothing → ⊥) → SameValue w t (ir_world.zero_of t) (zero_value t)
-zero_alike w Types.Boolean h = record { stands = same_boolean false; suits = refl }
-zero_alike w Types.Char h = record { stands = same_char refl 0 (omega arith); suits = refl }
-zero_alike w Types.Byte h = record { stands = same_number (pos 0) (record { sfits = omega arith }); suits = refl }
-zero_alike w Types.Short h = record { stands = same_number (pos 0) (record { sfits = omega arith }); suits = refl }
-zero_alike w Types.Int h = record { stands = same_number (pos 0) (record { sfits = omega arith }); suits = refl }
-zero_alike w Types.Long h = record { stands = same_long (pos 0) (record { sfits = omega arith }); suits = refl }
-zero_alike w Types.String h = record { stands = same_text []; suits = refl }
-zero_alike w Types.Undefined h = record { stands = same_undefined; suits = refl }
+zero_alike w Types.Boolean h = record { stands = same_boolean false; suits = refl; shaped = tt }
+zero_alike w Types.Char h = record { stands = same_char refl 0 (omega arith); suits = refl; shaped = tt }
+zero_alike w Types.Byte h = record { stands = same_number (pos 0) (record { sfits = omega arith }); suits = refl; shaped = tt }
+zero_alike w Types.Short h = record { stands = same_number (pos 0) (record { sfits = omega arith }); suits = refl; shaped = tt }
+zero_alike w Types.Int h = record { stands = same_number (pos 0) (record { sfits = omega arith }); suits = refl; shaped = tt }
+zero_alike w Types.Long h = record { stands = same_long (pos 0) (record { sfits = omega arith }); suits = refl; shaped = tt }
+zero_alike w Types.String h = record { stands = same_text []; suits = refl; shaped = tt }
+zero_alike w Types.Undefined h = record { stands = same_undefined; suits = refl; shaped = tt }
 zero_alike w Types.Nothing h = absurd (h refl)
-zero_alike w Types.Any h = record { stands = same_null; suits = refl }
-zero_alike w (Types.Class c) h = record { stands = same_null; suits = refl }
-zero_alike w Types.Null h = record { stands = same_null; suits = refl }
-zero_alike w (Types.Array r) h = record { stands = same_null; suits = refl }
-zero_alike w Types.NoType h = record { stands = same_null; suits = refl }
+zero_alike w Types.Any h = record { stands = same_null; suits = refl; shaped = tt }
+zero_alike w (Types.Class c) h = record { stands = same_null; suits = refl; shaped = tt }
+zero_alike w Types.Null h = record { stands = same_null; suits = refl; shaped = tt }
+zero_alike w (Types.Array r) h = record { stands = same_null; suits = refl; shaped = tt }
+zero_alike w Types.NoType h = record { stands = same_null; suits = refl; shaped = tt }
 
 -- what constructors make has no entry of a method
 with_fields_bare : (c : Name) (fs : List FieldDef) (own : Name → Option js.Value) → HasNoEntries own → HasNoEntries (with_fields c fs own)

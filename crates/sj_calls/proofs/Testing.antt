@@ -160,7 +160,7 @@ module _ (p : Place) (w : World) (s : ir.State) (u : js.State) (same : SameState
 
   -- a test of a value, and its function
   pub tests_alike : (t : IrType) → CanTest p t → (d : Direction) (m : ℕ) (env : ir.Env) (v : ir.Value) (x : js.Value) → SameValue w Any v x → Sim d (Valued p w env Boolean) (ir.given (ir_meaning.is_instance_value p.classes t s v) env s) (top_call p (js_meaning.below p.program (suc m)) (a_test t) (x ∷ []) u)
-  tests_alike t can d m env v x a = subst (λ o. Sim d (Valued p w env Boolean) (ir.given o env s) (top_call p (js_meaning.below p.program (suc m)) (a_test t) (x ∷ []) u)) (sym (kind_told t can.kind can.its_kind v x a.stands)) (subst (Sim d (Valued p w env Boolean) (done (ir.ends (ir.gives (ir.boolean passed)) env s))) (sym js_is) (sim_done d (Valued p w env Boolean) (ir.ends (ir.gives (ir.boolean passed)) env s) (js.gives (js.boolean passed) u) (valued w (ir.boolean passed) (js.boolean passed) s u (grows-refl w) (record { stands = same_boolean passed; suits = refl }) same)))
+  tests_alike t can d m env v x a = subst (λ o. Sim d (Valued p w env Boolean) (ir.given o env s) (top_call p (js_meaning.below p.program (suc m)) (a_test t) (x ∷ []) u)) (sym (kind_told t can.kind can.its_kind v x a.stands)) (subst (Sim d (Valued p w env Boolean) (done (ir.ends (ir.gives (ir.boolean passed)) env s))) (sym js_is) (sim_done d (Valued p w env Boolean) (ir.ends (ir.gives (ir.boolean passed)) env s) (js.gives (js.boolean passed) u) (valued w (ir.boolean passed) (js.boolean passed) s u (grows-refl w) (record { stands = same_boolean passed; suits = refl; shaped = tt }) same)))
     where
       passed : Bool
       passed = passes u (boxes p) can.kind x

@@ -28,8 +28,9 @@ use Rattle.sj_bodies.specs.Desugar.{desugared}
 use Rattle.dispatch_laws.specs.Templates.{member_name, parameter_names}
 use Rattle.sj_names.specs.declared.entry_points.EntryPoint.{EntryPoint}
 use Rattle.sj_names.specs.declared.method_names.Member.{Member}
-use Rattle.sj_bodies.specs.Settings.{some_constants, a_static, a_setter, a_cell, a_loader, a_storer, a_test, a_cast, links_of, box_link, SameStored, same_object, a_method, a_constructor, a_dispatch, a_reflection, a_helper, Place, Top, a_function, a_class, top_name, is_usable, TopHolds, SameHeap, SameState, Valued, valued, thrown, NamesDiffer, Reaches}
-use Rattle.sj_bodies.specs.Worlds.{World, nothing_made, Stands, same_undefined, same_null, same_boolean, same_char, same_box, IsBox, same_number, same_long, same_text, same_reference, no_values}
+use Rattle.sj_bodies.specs.Settings.{some_constants, a_static, a_setter, a_cell, a_loader, a_storer, a_test, a_cast, links_of, array_links, box_link, TellsClass, SameStored, same_object, same_array, a_method, a_constructor, a_dispatch, a_reflection, a_helper, Place, Top, a_function, a_class, top_name, is_usable, TopHolds, SameHeap, SameState, Valued, valued, thrown, NamesDiffer, Reaches}
+use Rattle.array_code.specs.Words.{object_class}
+use Rattle.sj_bodies.specs.Worlds.{World, ArrayAt, nothing_made, Stands, same_undefined, same_null, same_boolean, same_char, same_box, IsBox, same_number, same_long, same_text, same_reference, no_values}
 use Rattle.sj_bodies.specs.SjPlainStanding.{suits}
 use Rattle.sj_names.proofs.Same.{impossible}
 use Rattle.sj_trees.specs.declared.types.IrType.TheVariants.{Any, NoType}
@@ -74,12 +75,9 @@ long_shown (pos n) f = let h : n < 2 ^ 63 = f.sfits in grind arith
 long_shown (negsuc n) f = let h : n < 2 ^ 63 = f.sfits in grind arith
 
 -- what stands at an address, and what stands for it there, are shown alike: by the class of the object, which its marker tells
-stored_alike : (p : Place) (q : js.Program) (d : Direction) (w : World) (s : List ir.Stored) (u : js.State) → SameHeap p w s u.heap → (c : List ℕ) (o : Option ir.Stored) (g : Option js.Stored) → SameStored p w c o g → Sim d ◌≡◌ (ir_showing.uncaught_or_wrong (ir_showing.thrown_stored o)) (js_showing.uncaught_or_wrong (js_showing.object_shown (js_showing.class_shown (js_showing.marker_in q u (js_objects.stored_property q g (codes "k")))) (js_objects.stored_property q g (codes "c"))))
-stored_alike p q d w s u heaps _ _ _ (same_object c fields properties told bare fs) = subst (λ o. Sim d ◌≡◌ (done (uncaught (shown.object_of c))) (js_showing.uncaught_or_wrong o)) (sym is) (sim_done d ◌≡◌ (uncaught (shown.object_of c)) (uncaught (shown.object_of c)) refl)
+stored_so : (p : Place) (q : js.Program) (d : Direction) (w : World) (s : List ir.Stored) (u : js.State) → SameHeap p w s u.heap → (ls : List js.ClassLink) (c : List ℕ) (properties : Name → Option js.Value) → TellsClass w c properties → Sim d ◌≡◌ (done (uncaught (shown.object_of c))) (js_showing.uncaught_or_wrong (js_showing.object_shown (js_showing.class_shown (js_showing.marker_in q u (js_objects.stored_property q (Some (js.plain ls properties)) (codes "k")))) (js_objects.stored_property q (Some (js.plain ls properties)) (codes "c"))))
+stored_so p q d w s u heaps ls c properties told = subst (λ o. Sim d ◌≡◌ (done (uncaught (shown.object_of c))) (js_showing.uncaught_or_wrong o)) (sym is) (sim_done d ◌≡◌ (uncaught (shown.object_of c)) (uncaught (shown.object_of c)) refl)
   where
-    ls : List js.ClassLink
-    ls = links_of p c
-
     char : Option js.Value
     char = js_objects.stored_property q (Some (js.plain ls properties)) (codes "c")
 
@@ -98,6 +96,10 @@ stored_alike p q d w s u heaps _ _ _ (same_object c fields properties told bare 
 
     is : js_showing.object_shown (js_showing.class_shown (js_showing.marker_in q u (js_objects.stored_property q (Some (js.plain ls properties)) (codes "k")))) char ≡ Some (shown.object_of c)
     is = ap (λ m. js_showing.object_shown (js_showing.class_shown m) char) marker_is ∙ told.known char
+
+stored_alike : (p : Place) (q : js.Program) (d : Direction) (w : World) (s : List ir.Stored) (u : js.State) → SameHeap p w s u.heap → (c : List ℕ) (k : Option ArrayAt) (o : Option ir.Stored) (g : Option js.Stored) → SameStored p w c k o g → Sim d ◌≡◌ (ir_showing.uncaught_or_wrong (ir_showing.thrown_stored o)) (js_showing.uncaught_or_wrong (js_showing.object_shown (js_showing.class_shown (js_showing.marker_in q u (js_objects.stored_property q g (codes "k")))) (js_objects.stored_property q g (codes "c"))))
+stored_alike p q d w s u heaps _ _ _ _ (same_object c fields properties told bare fs) = stored_so p q d w s u heaps (links_of p c) c properties told
+stored_alike p q d w s u heaps _ _ _ _ (same_array k items properties told bare array) = stored_so p q d w s u heaps (array_links p) object_class properties told
 
 -- an object that holds a char is shown as the char
 char_below : (n : ℕ) → n < 2 ^ 16 → nat_lt n (2 ^ 16) ≡ true
@@ -134,7 +136,7 @@ uncaught_alike place p d w _ _ s u same (same_box r n a f b) h = box_alike place
 uncaught_alike place p d w _ _ s u same (same_number n f) h = subst (λ (b : Bool). Sim d ◌≡◌ (done (uncaught (shown.number n))) (js_showing.uncaught_or_wrong (if b then Some (shown.number n) else None))) (sym (number_shown n f)) (sim_done d ◌≡◌ (uncaught (shown.number n)) (uncaught (shown.number n)) refl)
 uncaught_alike place p d w _ _ s u same (same_long n f) h = subst (λ (b : Bool). Sim d ◌≡◌ (done (uncaught (shown.long n))) (js_showing.uncaught_or_wrong (if b then Some (shown.long n) else None))) (sym (long_shown n f)) (sim_done d ◌≡◌ (uncaught (shown.long n)) (uncaught (shown.long n)) refl)
 uncaught_alike place p d w _ _ s u same (same_text us) h = sim_done d ◌≡◌ (uncaught (shown.text us)) (uncaught (shown.text us)) refl
-uncaught_alike place p d w _ _ s u same (same_reference i a e) h = let o = same.heaps.objects i a e in stored_alike place p d w s.heap u same.heaps o.class (slice_get s.heap i) (slice_get u.heap a) o.alike
+uncaught_alike place p d w _ _ s u same (same_reference i a e) h = let o = same.heaps.objects i a e in stored_alike place p d w s.heap u same.heaps o.class (w.arrays i) (slice_get s.heap i) (slice_get u.heap a) o.alike
 
 -- calls of initializers in a file that reaches them by name
 module _ (p : Place) (f : Name) (reaches : Reaches p f) where
@@ -231,6 +233,10 @@ nothing_there o e = cc
 no_heaps : (p : Place) → SameHeap p (nothing_made (box_link p ∷ [])) [] []
 no_heaps p = record {
   objects = λ i a e. absurd (nothing_there a e);
+  arrays = λ i k e. absurd (nothing_there k e);
+  items_differ = λ i j k l e g h. absurd (nothing_there k e);
+  items_apart = λ i k o e g. nothing_there k e;
+  items_born = λ i k o e g. nothing_there k e;
   free = λ i c e. absurd (nothing_there c e);
   made = λ i c e. absurd (nothing_there c e);
   differ = λ i j a e g. absurd (nothing_there a e);
@@ -307,7 +313,7 @@ module _ (w : ir_world.World) (id : List ℕ) (fs : List EmittedMethod) (es : Li
         top_there (a_helper h) l = impossible l
 
     no_objects : CallsAlone place
-    no_objects = record { received = λ f m. refl; looked = λ f c m. refl; reflected = λ f m. refl; built = λ f m. refl; made = λ f c. refl; field = λ f c g t. refl; static_field = λ f c g t. refl; static_setter = λ f c g t. refl; modules = λ f c. refl; stored = λ f c. refl; tests = λ f t. refl; casts = λ f t. refl; helper = λ f x. refl }
+    no_objects = record { received = λ f m. refl; looked = λ f c m. refl; reflected = λ f m. refl; built = λ f m. refl; made = λ f c. refl; field = λ f c g t. refl; static_field = λ f c g t. refl; static_setter = λ f c g t. refl; modules = λ f c. refl; stored = λ f c. refl; tests = λ f t. refl; casts = λ f t. refl; on_arrays = λ f m. refl; helper = λ f x. refl }
 
     names : NamesDiffer place
     names = emitted_names_differ w program (λ t. file) (λ f. has) no_room

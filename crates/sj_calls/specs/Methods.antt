@@ -73,4 +73,5 @@ pub record CallsAlone (p : Place) : Type 0 where
   pub stored : (f : Name) (c : List ℕ) → (p.has f).stored c ≡ false
   pub tests : (f : Name) (t : IrType) → (p.has f).tests t ≡ false
   pub casts : (f : Name) (t : IrType) → (p.has f).casts t ≡ false
+  pub on_arrays : (f : Name) (m : MethodName) → (p.has f).on_arrays m ≡ false
   pub helper : (f x : Name) → (p.has f).helper x ≡ false

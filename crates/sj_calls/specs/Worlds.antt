@@ -1,14 +1,14 @@
 -- What the code of a program has of objects: members that run on receivers, constructors, classes, fields, static fields, the one objects of classes, the null check, divisions, objects that hold chars, tests,
 -- casts and identity, each where code can use it.
-use Rattle.std.specs.Prelude.{◌≡◌, ℕ, ◌≤◌, true, false, List, length, codes, Option, Some}
-use Rattle.sj_bodies.specs.Built.{has_static, has_cell, can_box, can_look_up, divides, compares}
+use Rattle.std.specs.Prelude.{◌≡◌, ℕ, ◌≤◌, true, false, List, length, codes, Option, Some, None}
+use Rattle.sj_bodies.specs.Built.{Usable, has_static, has_cell, can_box, can_look_up, divides, compares}
 use Rattle.array_code.specs.Classes.{class_cast_code}
 use Rattle.array_code.specs.Modules.{loader_code, storer_code}
 use Rattle.dispatch_laws.specs.Targets.{IsTargetOf}
 use Rattle.array_code.specs.Helpers.{helper_name}
-use Rattle.array_code.specs.Words.{units_of}
+use Rattle.array_code.specs.Words.{object_class, units_of}
 use Rattle.array_code.specs.FailureVariants.{NullReceiver, Division, Cast}
-use Rattle.array_code.specs.HelperVariants.{NotNull, CastTo, Throws}
+use Rattle.array_code.specs.HelperVariants.{ArrayClass, Get, MakeArray, NotNull, CastTo, Put, Set, Throws}
 use Rattle.array_code.specs.Kind.{Kind}
 use Rattle.dispatch_laws.specs.Dispatch.{chain_of}
 use Rattle.dispatch_laws.specs.Meaning.{with_message, without_parameters}
@@ -27,9 +27,13 @@ use Rattle.sj_names.specs.declared.method_names.MethodName.{MethodName}
 use Rattle.sj_names.specs.declared.method_names.Namespace.TheVariants.{Constructor}
 use Rattle.sj_trees.specs.declared.operators.BinaryOp.{BinaryOp}
 use Rattle.sj_trees.specs.declared.types.IrType.{IrType}
-use Rattle.sj_bodies.specs.Settings.{Place, SameState, SameStored, HasField, HasStatic, IsClass, CellsDiffer, Reaches, a_static, a_setter, a_cell, a_loader, a_storer, cell_name, a_test, a_cast, a_helper, division_helper, top_function, link_of, links_of, zeroed}
+use Rattle.sj_bodies.specs.Settings.{Place, ArraysSomewhere, array_links, SameState, SameStored, HasField, HasStatic, IsClass, CellsDiffer, Reaches, a_static, a_setter, a_cell, a_loader, a_storer, cell_name, a_test, a_cast, a_helper, division_helper, top_function, link_of, links_of, zeroed}
 use Rattle.sj_bodies.specs.Worlds.{World}
-use Rattle.sj_trees.specs.declared.types.IrType.TheVariants.{Class}
+use Rattle.sj_trees.specs.declared.types.IrType.TheVariants.{Class, Array}
+use Rattle.sj_names.specs.declared.references.ArrayRef.{ArrayRef}
+use Rattle.sj_mangling.specs.Bindings.{method_binding}
+use Rattle.sj_mangling.specs.declared.bindings.MethodBinding.TheVariants.{Entry}
+use Rattle.js_mean.specs.Objects as js_objects
 use Rattle.dispatch_laws.specs.Known.{is_hijacked}
 use Rattle.sj_calls.specs.Helpers.{HelperStands, BoxStands, ReachesTest, ClassTest, Tested, CanCompare, kind_of, code_of_item, helper_code, checking_code, division_code}
 use Rattle.sj_calls.specs.Looked.{LooksUpThere}
@@ -42,7 +46,7 @@ use Rattle.sj_calls.specs.Objects.{RunsOn, Constructs}
 pub record Stands (p : Place) (c : List ℕ) (w : World) (u : js.State) : Type 0 where
   pub own : Name → Option js.Value
   pub makers : Makers p.program (link_of p) u (chain_of p.classes c) own
-  pub shape : SameStored p w c (Some (zeroed p c)) (Some (js.plain (links_of p c) own))
+  pub shape : SameStored p w c None (Some (zeroed p c)) (Some (js.plain (links_of p c) own))
 
 -- objects of the class can be made in each state, and the units beyond those of the IR are enough for its chain
 pub record IsMade (p : Place) (c : List ℕ) : Type 0 where
@@ -132,6 +136,20 @@ pub record LoadStands (p : Place) (c : List ℕ) : Type 0 where
   pub built : (p.has (p.home (a_loader c))).built (member c Constructor without_parameters) ≡ true
   pub made : (p.has (p.home (a_loader c))).made c ≡ true
 
+-- an array finds the entries that objects of the class of objects find
+abbrev pub ArrayEntries : Place → Type 0
+ArrayEntries p = ArraysSomewhere p → (m : MethodName) → js_objects.method_on p.program (array_links p) (method_binding Entry m) ≡ js_objects.method_on p.program (links_of p object_class) (method_binding Entry m)
+
+-- code that can't make arrays, nor use what helpers do with them
+pub record NoArrays (has : Usable) : Type 0 where
+  pub made : has.helper (helper_name MakeArray) ≡ false
+  pub given : has.helper (helper_name ArrayClass) ≡ false
+  pub got : has.helper (helper_name Get) ≡ false
+  pub set : has.helper (helper_name Set) ≡ false
+  pub put : has.helper (helper_name Put) ≡ false
+  pub tested : (r : ArrayRef) → has.tests (Array r) ≡ false
+  pub cast : (r : ArrayRef) → has.casts (Array r) ≡ false
+
 -- what the code of any file can use is there, what a call of a public member runs is its target, and what is looked up is found on each instance, and each value answers a reflective name; no object is made of a hijacked class; and around a call there are three units, and one beyond those of the IR: a call by a reflective name takes three, for the function, the entry of the name and that of the method
 pub record HasObjects (p : Place) : Type 0 where
   pub linked : (f : Name) (m : Member) → (p.has f).linked m ≡ true → Linked p m
@@ -154,5 +172,6 @@ pub record HasObjects (p : Place) : Type 0 where
   pub tested : (f : Name) (t : IrType) → (p.has f).tests t ≡ true → Tested p t
   pub cast : (f : Name) (t : IrType) → (p.has f).casts t ≡ true → Casted p t
   pub compared : (f : Name) → compares (p.has f) ≡ true → CanCompare p
+  pub no_arrays : (f : Name) → NoArrays (p.has f)
   pub each : 3 ≤ p.room.each
   pub beyond : 1 ≤ p.room.beyond

@@ -2,6 +2,7 @@
 use Rattle.std.specs.Prelude.{ℕ, ℤ, Bool, List, Option}
 use Rattle.sj_names.specs.declared.method_names.Member.{Member}
 use Rattle.sj_names.specs.declared.method_names.Namespace.{Namespace}
+use Rattle.sj_names.specs.declared.references.ArrayRef.{ArrayRef}
 use Rattle.sj_core.specs.declared.callees.Callee.{Callee}
 use Rattle.sj_trees.specs.declared.operators.BinaryOp.{BinaryOp}
 use Rattle.sj_trees.specs.declared.operators.UnaryOp.{UnaryOp}
@@ -16,7 +17,8 @@ pub data Variable : Type 0 where
 
 mutual
   -- among them a field of an object, a static field, the one object of a class, a value that isn't null, an object of the member's class on which that constructor ran, a call of the
-  -- callee on a receiver, whether a value is of a type, and a value cast to a type
+  -- callee on a receiver, whether a value is of a type, a value cast to a type, a new array of this length, one with these items, the length of an array, and the element of one at an
+  -- index
   pub data Expression : Type 0 where
     undefined_value : Expression
     null_value : Expression
@@ -38,6 +40,10 @@ mutual
     receiver_call : Callee → Expression → Expressions → Expression
     test_of : IrType → Expression → Expression
     cast_of : IrType → Expression → Expression
+    new_array_of : ArrayRef → Expression → Expression
+    array_of : ArrayRef → Expressions → Expression
+    length_of : Expression → Expression
+    element_of : Expression → Expression → Expression
     unary_of : UnaryOp → Expression → Expression
     binary_of : BinaryOp → Expression → Expression → Expression
 
@@ -50,6 +56,7 @@ abbrev pub Origin : Type 0
 Origin = Option Position
 
 mutual
+  -- where an element of an array is set: the type of the elements, the array, the index and the value
   pub data Statement : Type 0 where
     constant_of : Origin → Variable → Expression → Statement
     define_of : Origin → Variable → Expression → Statement
@@ -60,6 +67,7 @@ mutual
     log_of : Origin → Expression → Statement
     assign_field : Origin → Expression → List ℕ → List ℕ → Expression → Statement
     assign_static : Origin → List ℕ → List ℕ → Expression → Statement
+    assign_element : Origin → IrType → Expression → Expression → Expression → Statement
     store_module_of : Origin → List ℕ → Expression → Statement
     throw_of : Origin → Expression → Statement
     leave_label : Origin → List ℕ → Statement

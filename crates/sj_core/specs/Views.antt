@@ -1,6 +1,6 @@
 -- The terms that expressions, statements and methods of the core stand for.
 use Rattle.std.specs.Prelude.{List, [], ◌∷◌, ℤ, map}
-use Rattle.sj_core.specs.Terms.{Variable, named, numbered, receiver, Expression, field_of, static_of, module_of, checked_value, made_of, receiver_call, test_of, cast_of, assign_field, assign_static, store_module_of, throw_of, undefined_value, null_value, boolean_value, number_value, long_value, text_value, variable_use, boxed_char, char_text, value_text, choice_of, static_call, unary_of, binary_of, Expressions, no_expressions, expression, Statement, constant_of, define_of, declare_of, assign_to, evaluate_of, return_of, log_of, leave_label, break_nearest, if_of, while_of, loop_of, labeled_of, switch_of, try_of, finally_of, Statements, no_statements, statement, Cases, no_cases, switch_case, Method}
+use Rattle.sj_core.specs.Terms.{Variable, named, numbered, receiver, Expression, field_of, static_of, module_of, checked_value, made_of, receiver_call, test_of, cast_of, new_array_of, array_of, length_of, element_of, assign_field, assign_static, assign_element, store_module_of, throw_of, undefined_value, null_value, boolean_value, number_value, long_value, text_value, variable_use, boxed_char, char_text, value_text, choice_of, static_call, unary_of, binary_of, Expressions, no_expressions, expression, Statement, constant_of, define_of, declare_of, assign_to, evaluate_of, return_of, log_of, leave_label, break_nearest, if_of, while_of, loop_of, labeled_of, switch_of, try_of, finally_of, Statements, no_statements, statement, Cases, no_cases, switch_case, Method}
 use Rattle.sj_core.specs.declared.expressions.CoreVariable.{CoreVariable}
 use Rattle.sj_core.specs.declared.expressions.CoreVariable.TheVariants as Variables
 use Rattle.sj_core.specs.declared.expressions.CoreExpression.{CoreExpression, fold-CoreExpression}
@@ -46,6 +46,10 @@ expression_step (CoreExpression-F.Made m es) = made_of m (expressions_of es.item
 expression_step (CoreExpression-F.ReceiverCall k e es) = receiver_call k e.value (expressions_of es.items)
 expression_step (CoreExpression-F.Test t e) = test_of t e.value
 expression_step (CoreExpression-F.Cast t e) = cast_of t e.value
+expression_step (CoreExpression-F.NewArray r e) = new_array_of r e.value
+expression_step (CoreExpression-F.Array r es) = array_of r (expressions_of es.items)
+expression_step (CoreExpression-F.Length e) = length_of e.value
+expression_step (CoreExpression-F.Element e i) = element_of e.value i.value
 expression_step (CoreExpression-F.Unary op e) = unary_of op e.value
 expression_step (CoreExpression-F.Binary op a b) = binary_of op a.value b.value
 
@@ -83,6 +87,7 @@ statement_step (CoreStatement-F.Return p e) = return_of p (expression_view e)
 statement_step (CoreStatement-F.Log p e) = log_of p (expression_view e)
 statement_step (CoreStatement-F.AssignField p e c f g) = assign_field p (expression_view e) c f (expression_view g)
 statement_step (CoreStatement-F.AssignStatic p c f e) = assign_static p c f (expression_view e)
+statement_step (CoreStatement-F.AssignElement p t e i g) = assign_element p t (expression_view e) (expression_view i) (expression_view g)
 statement_step (CoreStatement-F.StoreModule p c e) = store_module_of p c (expression_view e)
 statement_step (CoreStatement-F.Throw p e) = throw_of p (expression_view e)
 statement_step (CoreStatement-F.Leave p l) = leave_label p l

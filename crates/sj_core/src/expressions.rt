@@ -1,6 +1,6 @@
 // Expressions of the core.
 use crate::Callee;
-use sj_names::{ClassName, FieldName, LocalName, Member};
+use sj_names::{ArrayRef, ClassName, FieldName, LocalName, Member};
 use sj_trees::{BinaryOp, IrType, UnaryOp};
 use sj_units::Units;
 
@@ -52,6 +52,25 @@ pub enum CoreExpression {
     Test(IrType, Box<CoreExpression>),
     /// A value that is cast to the type.
     Cast(IrType, Box<CoreExpression>),
+    /// A new array of this type and length.
+    NewArray {
+        array: ArrayRef,
+        length: Box<CoreExpression>,
+    },
+    /// A new array of this type with these items.
+    Array {
+        array: ArrayRef,
+        items: Vec<CoreExpression>,
+    },
+    /// The length of an array.
+    Length {
+        array: Box<CoreExpression>,
+    },
+    /// The element of an array at an index.
+    Element {
+        array: Box<CoreExpression>,
+        index: Box<CoreExpression>,
+    },
     Unary(UnaryOp, Box<CoreExpression>),
     Binary(BinaryOp, Box<CoreExpression>, Box<CoreExpression>),
 }
@@ -80,6 +99,19 @@ impl Drop for CoreExpression {
             CoreExpression::ReceiverCall(_one, _two, _three) => {}
             CoreExpression::Test(_one, _two) => {}
             CoreExpression::Cast(_one, _two) => {}
+            CoreExpression::NewArray {
+                array: _one,
+                length: _two,
+            } => {}
+            CoreExpression::Array {
+                array: _one,
+                items: _two,
+            } => {}
+            CoreExpression::Length { array: _one } => {}
+            CoreExpression::Element {
+                array: _one,
+                index: _two,
+            } => {}
             CoreExpression::Unary(_, _one) => {}
             CoreExpression::Binary(_, _one, _two) => {}
         }

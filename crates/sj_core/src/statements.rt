@@ -1,7 +1,7 @@
 // Statements of the core.
 use crate::{CoreExpression, CoreVariable};
 use sj_names::{ClassName, FieldName, Items, LabelName};
-use sj_trees::Position;
+use sj_trees::{IrType, Position};
 
 /// A statement: first the position of the tree that it was written for, if its line has one. A contract sees the term that it stands for,
 /// `statement_view`.
@@ -23,6 +23,14 @@ pub enum CoreStatement {
     AssignField(Option<Position>, CoreExpression, ClassName, FieldName, CoreExpression),
     /// A static field is set.
     AssignStatic(Option<Position>, ClassName, FieldName, CoreExpression),
+    /// An element of an array is set: the type of the elements, the array, the index and the value.
+    AssignElement {
+        position: Option<Position>,
+        tpe: IrType,
+        array: CoreExpression,
+        index: CoreExpression,
+        value: CoreExpression,
+    },
     /// The one object of a class is stored.
     StoreModule(Option<Position>, ClassName, CoreExpression),
     Throw(Option<Position>, CoreExpression),
@@ -59,6 +67,13 @@ impl Drop for CoreStatement {
             CoreStatement::Log(_, _one) => {}
             CoreStatement::AssignField(_, _one, _two, _three, _four) => {}
             CoreStatement::AssignStatic(_, _one, _two, _three) => {}
+            CoreStatement::AssignElement {
+                position: _,
+                tpe: _one,
+                array: _two,
+                index: _three,
+                value: _four,
+            } => {}
             CoreStatement::StoreModule(_, _one, _two) => {}
             CoreStatement::Throw(_, _one) => {}
             CoreStatement::Leave(_, _one) => {}

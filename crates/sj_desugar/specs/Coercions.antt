@@ -19,6 +19,11 @@ abbrev pub coerced_arguments : List TypeRef → List IrType → List Expression 
 coerced_arguments (r ∷ rs) (t ∷ ts) (e ∷ es) = coerced (reference_type r) t e ∷ coerced_arguments rs ts es
 coerced_arguments _ _ es = es
 
+-- items of these types where one of the first is expected
+abbrev pub coerced_items : IrType → List IrType → List Expression → List Expression
+coerced_items expected (t ∷ ts) (e ∷ es) = coerced expected t e ∷ coerced_items expected ts es
+coerced_items expected _ es = es
+
 -- a receiver: a char is called as an object that holds it
 abbrev pub coerced_receiver : IrType → Expression → Expression
 coerced_receiver own e = coerced (Class (codes "java.lang.Character")) own e

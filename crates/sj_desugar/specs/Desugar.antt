@@ -8,7 +8,7 @@ use Rattle.sj_core.specs.Namespace.{Namespace}
 use Rattle.sj_core.specs.TypeRef.{TypeRef}
 use Rattle.sj_core.specs.NamespaceVariants.{Public, Constructor}
 use Rattle.sj_core.specs.Term.{Term, Terms, no_terms, more_terms, Cases, no_cases, more_cases, var_def, skip, block_of, labeled, assign, return_to, if_then, while_loop, do_while, try_catch, try_finally, throw, match_on, new_object, load_module, store_module, select, select_static, apply, apply_statically, apply_static, unary_op, binary_op, new_array, array_value, array_length, array_select, is_instance_of, as_instance_of, undefined_literal, null_literal, boolean_literal, char_literal, byte_literal, short_literal, int_literal, long_literal, string_literal, var_ref, this_ref, log_line}
-use Rattle.sj_core.specs.Types.{class_type}
+use Rattle.sj_core.specs.Types.{class_type, element_type}
 use Rattle.sj_core.specs.TypeOf.{type_of_term, unary_result, binary_result}
 use Rattle.sj_core.specs.MethodDef.{MethodDef}
 use Rattle.sj_core.specs.ParamDef.{ParamDef}
@@ -17,11 +17,11 @@ use Rattle.sj_core.specs.Position.{Position}
 use Rattle.sj_core.specs.IrType.{IrType}
 use Rattle.sj_core.specs.IrTypeVariants.{Any, Array, Nothing, Undefined, Boolean, Char, Byte, Short, Int, Long, String, Null, NoType}
 use Rattle.sj_core.specs.Terms as core
-use Rattle.sj_core.specs.Terms.{named, Expression, field_of, static_of, module_of, made_of, receiver_call, test_of, cast_of, checked_value, undefined_value, null_value, boolean_value, number_value, long_value, text_value, variable_use, choice_of, static_call, unary_of, binary_of, Statement, define_of, declare_of, assign_to, evaluate_of, return_of, log_of, assign_field, assign_static, store_module_of, throw_of, leave_label, break_nearest, if_of, while_of, loop_of, labeled_of, switch_of, try_of, finally_of, Statements, no_statements, statement, followed, Method}
+use Rattle.sj_core.specs.Terms.{named, Expression, field_of, static_of, module_of, made_of, receiver_call, test_of, cast_of, new_array_of, array_of, length_of, element_of, checked_value, undefined_value, null_value, boolean_value, number_value, long_value, text_value, variable_use, choice_of, static_call, unary_of, binary_of, Statement, define_of, declare_of, assign_to, evaluate_of, return_of, log_of, assign_field, assign_static, assign_element, store_module_of, throw_of, leave_label, break_nearest, if_of, while_of, loop_of, labeled_of, switch_of, try_of, finally_of, Statements, no_statements, statement, followed, Method}
 use Rattle.sj_core.specs.Views.{expressions_of}
 use Rattle.sj_core.specs.declared.callees.Callee.{Callee}
 use Rattle.sj_core.specs.declared.callees.Callee.TheVariants as callees
-use Rattle.sj_desugar.specs.Coercions.{coerced, coerced_arguments, coerced_receiver}
+use Rattle.sj_desugar.specs.Coercions.{coerced, coerced_arguments, coerced_items, coerced_receiver}
 use Rattle.sj_desugar.specs.Finalizers.{finalizer_code}
 use Rattle.sj_desugar.specs.Plain.{is_no_type, is_plain, is_fixed, is_among, mutable_in, mutable_params}
 use Rattle.sj_desugar.specs.Texts.{operand_of}
@@ -113,6 +113,10 @@ abbrev pub second_of : List Expression → Expression
 second_of [] = undefined_value
 second_of (e ∷ es) = first_of es
 
+abbrev pub third_of : List Expression → Expression
+third_of [] = undefined_value
+third_of (e ∷ es) = second_of es
+
 -- those behind the first
 abbrev pub rest_of : List Expression → List Expression
 rest_of [] = []
@@ -126,7 +130,7 @@ received_text false e = checked_value e
 -- the locals that are never null
 module _ (sure : List ℕ → Bool) where
   abbrev mutual
-    -- a plain tree as an expression. A form that isn't built yet stands as undefined.
+    -- a plain tree as an expression; any other stands as undefined
     pub expression_of : Term → Expression
     expression_of (if_then p c a b t) = choice_of (expression_of c) (coerced t (type_of_term a) (expression_of a)) (coerced t (type_of_term b) (expression_of b))
     expression_of (apply_static p c n m ts t) = static_call (member c n m) (expressions_of (coerced_arguments m.params (types_of ts) (all_expressions ts)))
@@ -140,6 +144,10 @@ module _ (sure : List ℕ → Bool) where
     expression_of (unary_op p o e) = unary_of o (expression_of e)
     expression_of (is_instance_of p e t) = test_of t (coerced Any (type_of_term e) (expression_of e))
     expression_of (as_instance_of p e t) = cast_of t (coerced Any (type_of_term e) (expression_of e))
+    expression_of (new_array p r e) = new_array_of r (expression_of e)
+    expression_of (array_value p r ts) = array_of r (expressions_of (coerced_items (element_type r) (types_of ts) (all_expressions ts)))
+    expression_of (array_length p e) = length_of (received_text (is_sure sure e) (expression_of e))
+    expression_of (array_select p e i t) = element_of (received_text (is_sure sure e) (expression_of e)) (expression_of i)
     expression_of (binary_op p o e d) = binary_of o (operand_of o (type_of_term e) (expression_of e)) (operand_of o (type_of_term d) (expression_of d))
     expression_of (undefined_literal p) = undefined_value
     expression_of (null_literal p) = null_value
@@ -246,8 +254,8 @@ module _ (is_mutable sure : List ℕ → Bool) where
   receiver t code = received (is_sure sure t) (operand t code)
 
   abbrev mutual
-    -- a tree as statements that bring its value to a destination, with variables for operands from this number on. A form that isn't built
-    -- yet writes nothing.
+    -- a tree as statements that bring its value to a destination, with variables for operands from this number on. An assignment to what can't be
+    -- assigned to writes nothing.
     pub into : Targets → Destination → ℕ → Term → Code
     into ls k j (var_def p x t b e) = elim (is_plain e) [ true ↦ one (define_of (Some p) (named x) (coerced t (type_of_term e) (expression_of sure e))) j | false ↦ put_first (declare_of (Some p) (named x)) (into ls (to_variable (named x) t) j e) ]
     into ls k j (skip p) = no_code j
@@ -256,6 +264,7 @@ module _ (is_mutable sure : List ℕ → Bool) where
     into ls k j (assign p (var_ref q x t) e) = then_use (spill (operand e (λ k j. into ls k j e) ∷ []) j) (λ es. one (assign_to (Some p) (named x) (coerced t (type_of_term e) (first_of es))))
     into ls k j (assign p (select q d c f t) e) = then_use (spill (receiver d (λ k j. into ls k j d) ∷ operand e (λ k j. into ls k j e) ∷ []) j) (λ es. one (assign_field (Some p) (first_of es) c f (coerced t (type_of_term e) (second_of es))))
     into ls k j (assign p (select_static q c f t) e) = then_use (spill (operand e (λ k j. into ls k j e) ∷ []) j) (λ es. one (assign_static (Some p) c f (coerced t (type_of_term e) (first_of es))))
+    into ls k j (assign p (array_select q d i t) e) = then_use (spill (receiver d (λ k j. into ls k j d) ∷ operand i (λ k j. into ls k j i) ∷ operand e (λ k j. into ls k j e) ∷ []) j) (λ es. one (assign_element (Some p) t (first_of es) (second_of es) (coerced t (type_of_term e) (third_of es))))
     into ls k j (return_to p e l) = leaving_code (target_of ls l) p l (into ls (target_of ls l) j e)
     into ls k j (if_then p c a b t) = then_use (spill (operand c (λ k j. into ls k j c) ∷ []) j) (λ es j. branches p (first_of es) (into ls k j a) (λ j. into ls k j b))
     into ls k j (while_loop p c b) = elim (is_plain c) [ true ↦ wrapped (while_of (Some p) (expression_of sure c)) (into ls discard j b) | false ↦ wrapped (while_of (Some p) (boolean_value true)) (then_use (spill (operand c (λ k j. into ls k j c) ∷ []) j) (λ es j. put_first (break_unless (first_of es)) (into ls discard j b))) ]
@@ -276,6 +285,10 @@ module _ (is_mutable sure : List ℕ → Bool) where
     into ls k j (unary_op p o e) = then_use (spill (operand e (λ k j. into ls k j e) ∷ []) j) (λ es. finish k p (unary_result o) false (unary_of o (first_of es)))
     into ls k j (is_instance_of p e t) = then_use (spill (operand e (λ k j. into ls k j e) ∷ []) j) (λ es. finish k p Boolean false (test_of t (coerced Any (type_of_term e) (first_of es))))
     into ls k j (as_instance_of p e t) = then_use (spill (operand e (λ k j. into ls k j e) ∷ []) j) (λ es. finish k p t false (cast_of t (coerced Any (type_of_term e) (first_of es))))
+    into ls k j (new_array p r e) = then_use (spill (operand e (λ k j. into ls k j e) ∷ []) j) (λ es. finish k p (Array r) false (new_array_of r (first_of es)))
+    into ls k j (array_value p r ts) = then_use (spill (operands ls ts) j) (λ es. finish k p (Array r) false (array_of r (expressions_of (coerced_items (element_type r) (types_of ts) es))))
+    into ls k j (array_length p e) = then_use (spill (receiver e (λ k j. into ls k j e) ∷ []) j) (λ es. finish k p Int false (length_of (first_of es)))
+    into ls k j (array_select p e i t) = then_use (spill (receiver e (λ k j. into ls k j e) ∷ operand i (λ k j. into ls k j i) ∷ []) j) (λ es. finish k p t false (element_of (first_of es) (second_of es)))
     into ls k j (binary_op p o e d) = then_use (spill (operand e (λ k j. into ls k j e) ∷ operand d (λ k j. into ls k j d) ∷ []) j) (λ es. finish k p (binary_result o) false (binary_of o (operand_of o (type_of_term e) (first_of es)) (operand_of o (type_of_term d) (second_of es))))
     into ls k j (undefined_literal p) = finish k p Undefined true undefined_value j
     into ls k j (null_literal p) = finish k p Null true null_value j

@@ -1,7 +1,7 @@
--- Fields and calls on receivers and the one objects of classes, and what is written for them.
+-- Fields and calls on receivers, the one objects of classes, and arrays, and what is written for them.
 use Rattle.std.specs.Prelude.{◌≡◌, ℕ, Bool, false, List, [], ◌∷◌, Some, None, codes, pos}
 use Rattle.sj_core.specs.Terms as core
-use Rattle.sj_core.specs.Terms.{Statement, Statements, statement, no_statements, try_of, finally_of, throw_of, named, numbered, variable_use, field_of, module_of, store_module_of, checked_value, receiver_call, number_value, expression, no_expressions, constant_of, assign_to, evaluate_of, return_of}
+use Rattle.sj_core.specs.Terms.{Statement, Statements, statement, no_statements, try_of, finally_of, throw_of, named, numbered, variable_use, field_of, module_of, store_module_of, checked_value, receiver_call, new_array_of, array_of, length_of, element_of, boxed_char, number_value, expression, no_expressions, constant_of, assign_to, assign_element, evaluate_of, return_of}
 use Rattle.sj_core.specs.declared.callees.Callee.TheVariants as callees
 use Rattle.sj_desugar.specs.Desugar.{Targets, target_of, into, member}
 use Rattle.sj_desugar.specs.Finalizers.{kept}
@@ -10,9 +10,11 @@ use Rattle.sj_core.specs.Same.{is_same_text}
 use Rattle.sj_core.specs.MethodName.{MethodName}
 use Rattle.sj_core.specs.NamespaceVariants.{Private}
 use Rattle.sj_core.specs.TypeRef.{TypeRef}
+use Rattle.sj_names.specs.declared.references.ArrayRef.{ArrayRef}
+use Rattle.sj_names.specs.declared.references.BaseRef.{BaseRef}
 use Rattle.sj_core.specs.Erase.{nowhere}
-use Rattle.sj_core.specs.Term.{Term, no_terms, more_terms, skip, block_of, labeled, return_to, try_catch, try_finally, throw, load_module, store_module, select, apply_statically, int_literal, var_ref}
-use Rattle.sj_core.specs.IrTypeVariants.{Class, Int, NoType}
+use Rattle.sj_core.specs.Term.{Term, no_terms, more_terms, skip, block_of, labeled, assign, return_to, try_catch, try_finally, throw, load_module, store_module, select, apply_statically, new_array, array_value, array_length, array_select, char_literal, int_literal, var_ref}
+use Rattle.sj_core.specs.IrTypeVariants.{Any, Class, Int, NoType}
 
 -- the local `a` is never null, and `b` may be
 abbrev is_a : List ℕ → Bool
@@ -67,6 +69,25 @@ pub record ModulesAreLoaded : Type 0 where
   pub as_a_receiver : returned (select nowhere loaded (codes "A") (codes "f") Int) ≡ statement (return_of (Some nowhere) (field_of (module_of (codes "A")) (codes "A") (codes "f"))) no_statements
   pub stored : dropped (store_module nowhere (codes "A") (use_of (codes "a"))) ≡ statement (store_module_of (Some nowhere) (codes "A") (variable_use (named (codes "a")))) no_statements
   pub stored_in_pieces : dropped (store_module nowhere (codes "A") loading) ≡ statement (core.declare_of (Some nowhere) (numbered 1)) (statement (assign_to (Some nowhere) (numbered 1) (module_of (codes "A"))) (statement (store_module_of (Some nowhere) (codes "A") (variable_use (numbered 1))) no_statements))
+
+-- the arrays of ints, and those of objects
+abbrev ints : ArrayRef
+ints = record { dimensions = 1; base = BaseRef.Int }
+
+abbrev objects : ArrayRef
+objects = record { dimensions = 1; base = BaseRef.Class (codes "java.lang.Object") }
+
+-- the block's value in the variable of this number, in front of statements
+abbrev in_front : ℕ → Statements → Statements
+in_front n ss = statement (core.declare_of (Some nowhere) (numbered n)) (statement (assign_to (Some nowhere) (numbered n) (number_value (pos 4))) ss)
+
+-- a new array is never null, and any other is checked in front of the index and the new value; an item goes where an element is expected
+pub record ArraysAreMade : Type 0 where
+  pub made : returned (array_length nowhere (new_array nowhere ints (int_literal nowhere (pos 2)))) ≡ statement (return_of (Some nowhere) (length_of (new_array_of ints (number_value (pos 2))))) no_statements
+  pub of_items : returned (array_value nowhere objects (more_terms (char_literal nowhere 65) (more_terms (use_of (codes "b")) no_terms))) ≡ statement (return_of (Some nowhere) (array_of objects (expression (boxed_char (number_value (pos 65))) (expression (variable_use (named (codes "b"))) no_expressions)))) no_statements
+  pub of_b : returned (array_select nowhere (use_of (codes "b")) (int_literal nowhere (pos 0)) Int) ≡ statement (return_of (Some nowhere) (element_of (checked_value (variable_use (named (codes "b")))) (number_value (pos 0)))) no_statements
+  pub set : dropped (assign nowhere (array_select nowhere (use_of (codes "b")) (int_literal nowhere (pos 0)) Any) (char_literal nowhere 65)) ≡ statement (assign_element (Some nowhere) Any (checked_value (variable_use (named (codes "b")))) (number_value (pos 0)) (boxed_char (number_value (pos 65)))) no_statements
+  pub in_order : dropped (assign nowhere (array_select nowhere (use_of (codes "b")) block Int) block) ≡ statement (constant_of (Some nowhere) (numbered 1) (checked_value (variable_use (named (codes "b"))))) (in_front 2 (in_front 3 (statement (assign_element (Some nowhere) Int (variable_use (numbered 1)) (variable_use (numbered 2)) (variable_use (numbered 3))) no_statements)))
 
 -- one label around, whose value goes to the local `x`
 abbrev labels_around : Targets

@@ -3,7 +3,7 @@
 //! `specs/` defines it. The functions here are laws.
 #![tactic(auto)]
 
-ghost use Rattle.sj_desugar.specs.Rows.{ReceiversAreChecked, ThrowsAreCaught, FinalizersRun, ModulesAreLoaded};
+ghost use Rattle.sj_desugar.specs.Rows.{ReceiversAreChecked, ThrowsAreCaught, FinalizersRun, ModulesAreLoaded, ArraysAreMade};
 
 /// Worked trees: a receiver that is never null isn't checked, and the check of any other comes in front of the arguments.
 pub fn worked_receivers()
@@ -13,6 +13,12 @@ pub fn worked_receivers()
 /// Worked trees: the one object of a class is loaded where its value isn't used too, and what is stored is evaluated in front of the store.
 pub fn worked_modules()
     ensures { ModulesAreLoaded }
+{}
+
+/// Worked trees: a new array is never null, and the check of any other comes in front of the index and of the new value of an element. An item or a new
+/// value goes where an element is expected.
+pub fn worked_arrays()
+    ensures { ArraysAreMade }
 {}
 
 /// Worked trees: the value of a block and that of its handler go where the value of the whole goes.

@@ -5,27 +5,28 @@ use Rattle.sj_core.specs.Terms as core
 use Rattle.sj_core.specs.declared.callees.Callee.{Callee}
 use Rattle.sj_desugar.specs.Coercions.{coerced, coerced_arguments, coerced_receiver}
 use Rattle.sj_core.specs.Views.{expressions_of}
-use Rattle.sj_desugar.specs.Desugar.{Targets, into, expression_of, cases, member, types_of, operand, operands, branched, wrapped, break_unless, switched, finish, first_of, second_of, rest_of, received, receiver, position_of, branches, switch_code, Branches, tried, finished, target_of}
+use Rattle.sj_desugar.specs.Desugar.{Targets, into, expression_of, cases, member, types_of, operand, operands, branched, wrapped, break_unless, switched, finish, first_of, second_of, third_of, rest_of, received, receiver, position_of, branches, switch_code, Branches, tried, finished, target_of}
 use Rattle.sj_desugar.specs.Finalizers.{kept, keep_all, give_all_back, finalizer_code}
 use Rattle.sj_desugar.specs.Plain.{is_plain, are_plain}
 use Rattle.sj_desugar.specs.Spill.{Destination, discard, to_variable, Code, one, put_first, joined, Spilled, spill, then_use}
 use Rattle.sj_desugar.specs.Texts.{operand_of}
-use Rattle.sj_desugaring.specs.Arguments.{with_arguments}
+use Rattle.sj_desugaring.specs.Arguments.{with_arguments, with_items}
 use Rattle.sj_desugaring.specs.Forms.{behind}
-use Rattle.sj_desugarer.specs.Operands.{comes_to, comes_received, owner_place, assigned_code}
+use Rattle.sj_desugarer.specs.Operands.{comes_to, comes_received, owner_place, index_place, assigned_code}
 use Rattle.sj_desugaring.specs.Placing.{Placed, placed, placed_case, brought}
-use Rattle.sj_desugarer.proofs.Spilling.{use-one, use-two, use-first}
+use Rattle.sj_desugarer.proofs.Spilling.{use-one, use-two, use-three, use-first}
 use Rattle.sj_desugarer.proofs.Runs.{operands-plain}
 use Rattle.sj_names.specs.declared.method_names.MethodName.{MethodName}
 use Rattle.sj_names.specs.declared.method_names.Namespace.{Namespace}
-use Rattle.sj_trees.specs.Term.{Term, Terms, Cases, apply_static, throw, store_module, select, select_static, assign, var_ref, if_then, while_loop, do_while, try_catch, try_finally, match_on, unary_op, binary_op, is_instance_of, as_instance_of, log_line}
+use Rattle.sj_names.specs.declared.references.ArrayRef.{ArrayRef}
+use Rattle.sj_trees.specs.Term.{Term, Terms, Cases, var_def, apply_static, throw, store_module, select, select_static, assign, var_ref, if_then, while_loop, do_while, try_catch, try_finally, match_on, unary_op, binary_op, new_array, array_value, array_length, array_select, is_instance_of, as_instance_of, log_line}
 use Rattle.sj_trees.specs.TypeOf.{type_of_term, unary_result, binary_result}
-use Rattle.sj_trees.specs.Types.{class_type}
+use Rattle.sj_trees.specs.Types.{class_type, element_type}
 use Rattle.sj_trees.specs.declared.operators.BinaryOp.{BinaryOp}
 use Rattle.sj_trees.specs.declared.operators.UnaryOp.{UnaryOp}
 use Rattle.sj_trees.specs.declared.positions.Position.{Position}
 use Rattle.sj_trees.specs.declared.types.IrType.{IrType}
-use Rattle.sj_trees.specs.declared.types.IrType.TheVariants.{Any, Boolean}
+use Rattle.sj_trees.specs.declared.types.IrType.TheVariants.{Any, Array, Boolean, Int}
 use Rattle.sure_receivers.specs.Sure.{is_sure}
 
 module _ (m s : List ℕ → Bool) (ls : Targets) (k : Destination) (j : ℕ) (p : Position) where
@@ -99,6 +100,12 @@ module _ (m s : List ℕ → Bool) (ls : Targets) (k : Destination) (j : ℕ) (p
       let e1 : into m s ls discard (comes_to m s ls true j c).next b ≡ w = ap (λ (r : Placed). into m s ls discard r.next b) (sym h) ∙ sym hw in
       turn-row c b f ∙ (λ i. wrapped (while_of (Some p) (boolean_value true)) (behind (sym h i) (λ g x. put_first (break_unless g) (e1 i)))) ∙ ap (wrapped (while_of (Some p) (boolean_value true))) (sym hu)
 
+  -- a local that is declared in front of what brings its value to it
+  pub declared-joins : (d : Destination) (w : Code) (x : List ℕ) (t : IrType) (b : Bool) (e : Term) → is_plain e ≡ false → d ≡ to_variable (named x) t → w ≡ into m s ls d j e → into m s ls k j (var_def p x t b e) ≡ put_first (core.declare_of (Some p) (named x)) w
+  declared-joins d w x t b e f hd hw =
+      let e1 : into m s ls (to_variable (named x) t) j e ≡ w = ap (λ c. into m s ls c j e) (sym hd) ∙ sym hw in
+      ap (λ (plain : Bool). elim plain [ true ↦ one (core.define_of (Some p) (named x) (coerced t (type_of_term e) (expression_of s e))) j | false ↦ put_first (core.declare_of (Some p) (named x)) (into m s ls (to_variable (named x) t) j e) ]) f ∙ ap (put_first (core.declare_of (Some p) (named x))) e1
+
   pub loop-joins : (w : Code) (o : Placed) (b c : Term) → w ≡ into m s ls discard j b → o ≡ comes_to m s ls true w.next c → into m s ls k j (do_while p b c) ≡ wrapped (loop_of (Some p)) (joined w (behind o (λ g. one (break_unless g))))
   loop-joins w o b c hw h =
       let e1 : comes_to m s ls true (into m s ls discard j b).next c ≡ o = ap (λ (r : Code). comes_to m s ls true r.next c) (sym hw) ∙ sym h in
@@ -140,6 +147,31 @@ module _ (m s : List ℕ → Bool) (ls : Targets) (k : Destination) (j : ℕ) (p
   unfolding comes_received
   field-joins o e c f t h = use-one (receiver m s e (λ k j. into m s ls k j e)) j (λ es. finish k p t false (core.field_of (first_of es) c f)) ∙ (λ i. behind (sym h i) (λ g. finish k p t false (core.field_of g c f)))
 
+  -- arrays
+  pub new-array-joins : (o : Placed) (r : ArrayRef) (e : Term) → o ≡ comes_to m s ls true j e → into m s ls k j (new_array p r e) ≡ behind o (λ g. finish k p (Array r) false (core.new_array_of r g))
+  unfolding comes_to
+  new-array-joins o r e h = use-one (operand m s e (λ k j. into m s ls k j e)) j (λ es. finish k p (Array r) false (core.new_array_of r (first_of es))) ∙ (λ i. behind (sym h i) (λ g. finish k p (Array r) false (core.new_array_of r g)))
+
+  pub items-joins : (w : Spilled) (r : ArrayRef) (ts : Terms) (t : IrType) → t ≡ element_type r → w ≡ with_items t (types_of ts) (spill (operands m s ls ts) j) → into m s ls k j (array_value p r ts) ≡ then_use w (λ es. finish k p (Array r) false (core.array_of r (expressions_of es)))
+  items-joins w r ts t h hw =
+      let e1 : with_items (element_type r) (types_of ts) (spill (operands m s ls ts) j) ≡ w = ap (λ x. with_items x (types_of ts) (spill (operands m s ls ts) j)) (sym h) ∙ sym hw in
+      ap (λ (x : Spilled). then_use x (λ es. finish k p (Array r) false (core.array_of r (expressions_of es)))) e1
+
+  pub length-joins : (o : Placed) (e : Term) → o ≡ comes_received m s ls true j e → into m s ls k j (array_length p e) ≡ behind o (λ g. finish k p Int false (core.length_of g))
+  unfolding comes_received
+  length-joins o e h = use-one (receiver m s e (λ k j. into m s ls k j e)) j (λ es. finish k p Int false (core.length_of (first_of es))) ∙ (λ i. behind (sym h i) (λ g. finish k p Int false (core.length_of g)))
+
+  element-row : (e d : Term) (t : IrType) → into m s ls k j (array_select p e d t) ≡ behind (comes_received m s ls (is_plain d) j e) (λ g i. behind (comes_to m s ls true i d) (λ h. finish k p t false (core.element_of g h)))
+  unfolding comes_to comes_received
+  element-row e d t = use-two (receiver m s e (λ k j. into m s ls k j e)) (operand m s d (λ k j. into m s ls k j d)) j (λ es. finish k p t false (core.element_of (first_of es) (second_of es)))
+
+  pub element-joins : (o r : Placed) (e d : Term) (t : IrType) (rest : Bool) → rest ≡ is_plain d → o ≡ comes_received m s ls rest j e → r ≡ comes_to m s ls true o.next d → into m s ls k j (array_select p e d t) ≡ behind o (λ g i. behind r (λ h. finish k p t false (core.element_of g h)))
+  element-joins o r e d t rest hr h hd =
+      let e1 : comes_received m s ls (is_plain d) j e ≡ o = ap (λ b. comes_received m s ls b j e) (sym hr) ∙ sym h in
+      let e2 : comes_to m s ls true (comes_received m s ls (is_plain d) j e).next d ≡ r = ap (λ (x : Placed). comes_to m s ls true x.next d) e1 ∙ sym hd in
+      element-row e d t ∙ (λ i. behind (e1 i) (λ g x. behind (e2 i) (λ h. finish k p t false (core.element_of g h))))
+
+  -- assignments
   static-row : (q : Position) (c f : List ℕ) (t : IrType) (e : Term) → into m s ls k j (assign p (select_static q c f t) e) ≡ behind (comes_to m s ls true j e) (λ g. one (core.assign_static (Some p) c f (coerced t (type_of_term e) g)))
   unfolding comes_to
   static-row q c f t e = use-one (operand m s e (λ k j. into m s ls k j e)) j (λ es. one (core.assign_static (Some p) c f (coerced t (type_of_term e) (first_of es))))
@@ -148,11 +180,22 @@ module _ (m s : List ℕ → Bool) (ls : Targets) (k : Destination) (j : ℕ) (p
   unfolding comes_to comes_received
   set-row q d c f t e = use-two (receiver m s d (λ k j. into m s ls k j d)) (operand m s e (λ k j. into m s ls k j e)) j (λ es. one (core.assign_field (Some p) (first_of es) c f (coerced t (type_of_term e) (second_of es))))
 
-  pub assignment-row : (t e : Term) → into m s ls k j (assign p t e) ≡ assigned_code m s ls j p t e (owner_place m s ls (is_plain e) j t)
+  item-row : (q : Position) (d i : Term) (t : IrType) (e : Term) → into m s ls k j (assign p (array_select q d i t) e) ≡ behind (comes_received m s ls (is_plain i && is_plain e) j d) (λ g n. behind (comes_to m s ls (is_plain e) n i) (λ h x. behind (comes_to m s ls true x e) (λ v. one (core.assign_element (Some p) t g h (coerced t (type_of_term e) v)))))
+  unfolding comes_to comes_received
+  item-row q d i t e = use-three (receiver m s d (λ k j. into m s ls k j d)) (operand m s i (λ k j. into m s ls k j i)) (operand m s e (λ k j. into m s ls k j e)) j (λ es. one (core.assign_element (Some p) t (first_of es) (second_of es) (coerced t (type_of_term e) (third_of es))))
+
+  assignment-row : (t e : Term) → into m s ls k j (assign p t e) ≡ (let o = owner_place m s ls (is_plain e) j t in assigned_code m s ls j p t e o (index_place m s ls (is_plain e) o.next t))
   assignment-row (var_ref q x t) e = assign-row q x t e
   assignment-row (select q d c f t) e = set-row q d c f t e
   assignment-row (select_static q c f t) e = static-row q c f t e
+  assignment-row (array_select q d i t) e = item-row q d i t e
   assignment-row _ e = refl
+
+  pub assignment-joins : (o i : Placed) (t e : Term) (rest : Bool) → rest ≡ is_plain e → o ≡ owner_place m s ls rest j t → i ≡ index_place m s ls rest o.next t → into m s ls k j (assign p t e) ≡ assigned_code m s ls j p t e o i
+  assignment-joins o i t e rest hr h hi =
+      let e1 : owner_place m s ls (is_plain e) j t ≡ o = ap (λ b. owner_place m s ls b j t) (sym hr) ∙ sym h in
+      let e2 : index_place m s ls (is_plain e) (owner_place m s ls (is_plain e) j t).next t ≡ i = ap (λ (x : Placed). index_place m s ls (is_plain e) x.next t) e1 ∙ ap (λ b. index_place m s ls b o.next t) (sym hr) ∙ sym hi in
+      assignment-row t e ∙ (λ x. assigned_code m s ls j p t e (e1 x) (e2 x))
 
   -- what is written for a call of this callee on a receiver, with these arguments
   abbrev pub call_of : Callee → Term → MethodName → Terms → IrType → Code

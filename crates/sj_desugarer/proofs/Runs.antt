@@ -1,14 +1,14 @@
--- Trees, arguments and cases one after another.
+-- Trees, arguments, items and cases one after another.
 use Rattle.std.proofs.Common.{◌≡◌, ◌∙◌, ◌<◌, ◌+◌, ℕ, ℤ, None, suc, length, get_or, drop, take, ◌-◌, add-one, arith, Bool, ◌&&◌, List, [], ◌∷◌, ◌++◌, refl, ap, sym, append_assoc}
 use Rattle.std.proofs.Math.Seq.{drop-cons, take-length}
 use Rattle.std.proofs.lemmas.List.{append-nil, length-drop}
 use Rattle.sj_core.specs.Terms.{Expression, followed, statement, no_statements, break_nearest, switch_case}
 use Rattle.sj_core.specs.Views as core
-use Rattle.sj_desugar.specs.Coercions.{coerced_arguments}
+use Rattle.sj_desugar.specs.Coercions.{coerced, coerced_arguments, coerced_items}
 use Rattle.sj_desugar.specs.Desugar.{Targets, into, block, cases, operand, operands, types_of, Branches}
 use Rattle.sj_desugar.specs.Plain.{are_plain, is_plain}
-use Rattle.sj_desugar.specs.Spill.{Destination, discard, Code, joined, no_code, all_plain, spill}
-use Rattle.sj_desugaring.specs.Arguments.{coerced_argument, without_first, with_arguments, arguments_onto}
+use Rattle.sj_desugar.specs.Spill.{Destination, discard, Code, joined, no_code, all_plain, Spilled, spill}
+use Rattle.sj_desugaring.specs.Arguments.{coerced_argument, without_first, with_arguments, with_items, arguments_onto}
 use Rattle.sj_desugaring.specs.Forms.{branches_onto, for_last}
 use Rattle.sj_desugarer.specs.Operands.{comes_to}
 use Rattle.sj_desugaring.specs.Placing.{Placed, placed}
@@ -21,6 +21,7 @@ use Rattle.sj_trees.specs.TypeOf.{type_of_term}
 use Rattle.sj_trees.specs.View.{view, terms_view, cases_view, view_case}
 use Rattle.sj_trees.specs.declared.trees.MatchCase.{MatchCase}
 use Rattle.sj_trees.specs.declared.trees.Tree.{Tree}
+use Rattle.sj_trees.specs.declared.types.IrType.{IrType}
 
 pub joined-assoc : (c d e : Code) → joined (joined c d) e ≡ joined c (joined d e)
 joined-assoc c d e = ap (λ ss. record { statements = ss; next = e.next }) (followed-assoc c.statements d.statements e.statements)
@@ -41,6 +42,10 @@ case-onto : (cs : List core.Case) (c : core.Case) (bs : Branches) → branches_o
 case-onto [] c bs = refl
 case-onto (x ∷ cs) c bs = ap (λ (b : Branches). record { cases = switch_case x.0 x.1 b.cases; next = b.next }) (case-onto cs c bs)
 
+-- operands of whose expressions others are made
+abbrev through : (List Expression → List Expression) → Spilled → Spilled
+through f r = record { statements = r.statements; expressions = f r.expressions; next = r.next }
+
 module _ (m s : List ℕ → Bool) (ls : Targets) where
   pub operands-plain : (ts : Terms) → all_plain (operands m s ls ts) ≡ are_plain ts
   operands-plain no_terms = refl
@@ -53,22 +58,22 @@ module _ (m s : List ℕ → Bool) (ls : Targets) where
   pub block-more : (w : Code) (k : Destination) (t u : Term) (us : Terms) → joined w (block m s ls k w.next (more_terms t (more_terms u us))) ≡ joined (joined w (into m s ls discard w.next t)) (block m s ls k (into m s ls discard w.next t).next (more_terms u us))
   block-more w k t u us = sym (joined-assoc w (into m s ls discard w.next t) (block m s ls k (into m s ls discard w.next t).next (more_terms u us)))
 
-  -- an argument behind those that were written
-  pub argument-more : (w : Code) (es : List Expression) (rs : List TypeRef) (t : Term) (ts : Terms) → arguments_onto w es (with_arguments rs (types_of (more_terms t ts)) (spill (operands m s ls (more_terms t ts)) w.next)) ≡ (let p = placed (are_plain ts) (operand m s t (λ k j. into m s ls k j t)) w.next in arguments_onto (joined w (record { statements = p.statements; next = p.next })) (es ++ coerced_argument rs (type_of_term t) p.expression ∷ []) (with_arguments (without_first rs) (types_of ts) (spill (operands m s ls ts) p.next)))
-  argument-more w es rs t ts =
+  -- an operand behind those that were written, where the first is made of its expression, and the rest of those behind it
+  operand-more : (whole rest : List Expression → List Expression) (first : Expression → Expression) → ((e : Expression) (es : List Expression) → whole (e ∷ es) ≡ first e ∷ rest es) → (w : Code) (es : List Expression) (t : Term) (ts : Terms) → arguments_onto w es (through whole (spill (operands m s ls (more_terms t ts)) w.next)) ≡ (let p = placed (are_plain ts) (operand m s t (λ k j. into m s ls k j t)) w.next in arguments_onto (joined w (record { statements = p.statements; next = p.next })) (es ++ first p.expression ∷ []) (through rest (spill (operands m s ls ts) p.next)))
+  operand-more whole rest first law w es t ts =
       let o = operand m s t (λ k j. into m s ls k j t) in
-      ap (λ r. arguments_onto w es (with_arguments rs (types_of (more_terms t ts)) r)) (spill-more o (operands m s ls ts) w.next) ∙ ap (λ b. arguments_onto w es (with_arguments rs (types_of (more_terms t ts)) (in_front (placed b o w.next) (spill (operands m s ls ts))))) (operands-plain ts) ∙ step (placed (are_plain ts) o w.next)
+      ap (λ r. arguments_onto w es (through whole r)) (spill-more o (operands m s ls ts) w.next) ∙ ap (λ b. arguments_onto w es (through whole (in_front (placed b o w.next) (spill (operands m s ls ts))))) (operands-plain ts) ∙ step (placed (are_plain ts) o w.next)
     where
-      step : (p : Placed) → arguments_onto w es (with_arguments rs (types_of (more_terms t ts)) (in_front p (spill (operands m s ls ts)))) ≡ arguments_onto (joined w (record { statements = p.statements; next = p.next })) (es ++ coerced_argument rs (type_of_term t) p.expression ∷ []) (with_arguments (without_first rs) (types_of ts) (spill (operands m s ls ts) p.next))
+      step : (p : Placed) → arguments_onto w es (through whole (in_front p (spill (operands m s ls ts)))) ≡ arguments_onto (joined w (record { statements = p.statements; next = p.next })) (es ++ first p.expression ∷ []) (through rest (spill (operands m s ls ts) p.next))
       step p =
           let r = spill (operands m s ls ts) p.next in
           λ i. record {
             statements = sym (followed-assoc w.statements p.statements r.statements) i;
-            expressions = (ap (λ xs. es ++ xs) (arguments-first rs (type_of_term t) (types_of ts) p.expression r.expressions) ∙ sym (append_assoc es (coerced_argument rs (type_of_term t) p.expression ∷ []) (coerced_arguments (without_first rs) (types_of ts) r.expressions))) i;
+            expressions = (ap (λ xs. es ++ xs) (law p.expression r.expressions) ∙ sym (append_assoc es (first p.expression ∷ []) (rest r.expressions))) i;
             next = r.next;
           }
 
-  -- the steps of the loops over trees, arguments and cases
+  -- the steps of the loops over trees, arguments, items and cases
   block-rest : (w : Code) (k : Destination) (t : Tree) (us : List Tree) → joined (joined w (into m s ls (for_last us k discard) w.next (view t))) (block m s ls k (into m s ls (for_last us k discard) w.next (view t)).next (terms_view us)) ≡ joined w (block m s ls k w.next (terms_view (t ∷ us)))
   block-rest w k t [] = sym (block-last w k (view t))
   block-rest w k t (u ∷ us) = sym (block-more w k (view t) (view u) (terms_view us))
@@ -78,14 +83,25 @@ module _ (m s : List ℕ → Bool) (ls : Targets) where
       let written : v ≡ joined w (into m s ls (for_last (drop (n + 1) ts) k discard) w.next (view t)) = hv ∙ ap (joined w) (hc ∙ ap (λ x. into m s ls x w.next (view t)) hd) in
       (λ i. joined (written i) (block m s ls k (written i).next (terms_view (drop (n + 1) ts)))) ∙ block-rest w k t (drop (n + 1) ts) ∙ ap (λ us. joined w (block m s ls k w.next (terms_view us))) (sym (taken ts n t h e))
 
-  pub arguments-step : (ts : List Tree) (n : ℕ) (t : Tree) (w v : Code) (o : Placed) (es fs : List Expression) (rs ss : List TypeRef) (rest : Bool) → n < length ts → t ≡ get_or ts n t → rest ≡ are_plain (terms_view (drop (n + 1) ts)) → o ≡ comes_to m s ls rest w.next (view t) → v ≡ joined w (record { statements = o.statements; next = o.next }) → fs ≡ es ++ coerced_argument rs (type_of_term (view t)) o.expression ∷ [] → ss ≡ without_first rs → arguments_onto v fs (with_arguments ss (types_of (terms_view (drop (n + 1) ts))) (spill (operands m s ls (terms_view (drop (n + 1) ts))) v.next)) ≡ arguments_onto w es (with_arguments rs (types_of (terms_view (drop n ts))) (spill (operands m s ls (terms_view (drop n ts))) w.next))
+  operand-step : (whole rest : List Expression → List Expression) (first : Expression → Expression) → ((e : Expression) (es : List Expression) → whole (e ∷ es) ≡ first e ∷ rest es) → (w v : Code) (o : Placed) (es fs : List Expression) (t : Term) (ts : Terms) (plain : Bool) → plain ≡ are_plain ts → o ≡ comes_to m s ls plain w.next t → v ≡ joined w (record { statements = o.statements; next = o.next }) → fs ≡ es ++ first o.expression ∷ [] → arguments_onto v fs (through rest (spill (operands m s ls ts) v.next)) ≡ arguments_onto w es (through whole (spill (operands m s ls (more_terms t ts)) w.next))
   unfolding comes_to
+  operand-step whole rest first law w v o es fs t ts plain hr ho hv hf =
+      let placing : o ≡ placed (are_plain ts) (operand m s t (λ k j. into m s ls k j t)) w.next = ho ∙ ap (λ b. placed b (operand m s t (λ k j. into m s ls k j t)) w.next) hr in
+      let written : v ≡ joined w (record { statements = (placed (are_plain ts) (operand m s t (λ k j. into m s ls k j t)) w.next).statements; next = (placed (are_plain ts) (operand m s t (λ k j. into m s ls k j t)) w.next).next }) = hv ∙ ap (λ (x : Placed). joined w (record { statements = x.statements; next = x.next })) placing in
+      let brought : fs ≡ es ++ first (placed (are_plain ts) (operand m s t (λ k j. into m s ls k j t)) w.next).expression ∷ [] = hf ∙ ap (λ (x : Placed). es ++ first x.expression ∷ []) placing in
+      (λ i. arguments_onto (written i) (brought i) (through rest (spill (operands m s ls ts) (written i).next))) ∙ sym (operand-more whole rest first law w es t ts)
+
+  pub arguments-step : (ts : List Tree) (n : ℕ) (t : Tree) (w v : Code) (o : Placed) (es fs : List Expression) (rs ss : List TypeRef) (rest : Bool) → n < length ts → t ≡ get_or ts n t → rest ≡ are_plain (terms_view (drop (n + 1) ts)) → o ≡ comes_to m s ls rest w.next (view t) → v ≡ joined w (record { statements = o.statements; next = o.next }) → fs ≡ es ++ coerced_argument rs (type_of_term (view t)) o.expression ∷ [] → ss ≡ without_first rs → arguments_onto v fs (with_arguments ss (types_of (terms_view (drop (n + 1) ts))) (spill (operands m s ls (terms_view (drop (n + 1) ts))) v.next)) ≡ arguments_onto w es (with_arguments rs (types_of (terms_view (drop n ts))) (spill (operands m s ls (terms_view (drop n ts))) w.next))
   arguments-step ts n t w v o es fs rs ss rest h e hr ho hv hf hs =
       let us = terms_view (drop (n + 1) ts) in
-      let placing : o ≡ placed (are_plain us) (operand m s (view t) (λ k j. into m s ls k j (view t))) w.next = ho ∙ ap (λ b. placed b (operand m s (view t) (λ k j. into m s ls k j (view t))) w.next) hr in
-      let written : v ≡ joined w (record { statements = (placed (are_plain us) (operand m s (view t) (λ k j. into m s ls k j (view t))) w.next).statements; next = (placed (are_plain us) (operand m s (view t) (λ k j. into m s ls k j (view t))) w.next).next }) = hv ∙ ap (λ (x : Placed). joined w (record { statements = x.statements; next = x.next })) placing in
-      let brought : fs ≡ es ++ coerced_argument rs (type_of_term (view t)) (placed (are_plain us) (operand m s (view t) (λ k j. into m s ls k j (view t))) w.next).expression ∷ [] = hf ∙ ap (λ (x : Placed). es ++ coerced_argument rs (type_of_term (view t)) x.expression ∷ []) placing in
-      (λ i. arguments_onto (written i) (brought i) (with_arguments (hs i) (types_of us) (spill (operands m s ls us) (written i).next))) ∙ sym (argument-more w es rs (view t) us) ∙ ap (λ xs. arguments_onto w es (with_arguments rs (types_of (terms_view xs)) (spill (operands m s ls (terms_view xs)) w.next))) (sym (taken ts n t h e))
+      let own = type_of_term (view t) in
+      ap (λ xs. arguments_onto v fs (with_arguments xs (types_of us) (spill (operands m s ls us) v.next))) hs ∙ operand-step (coerced_arguments rs (own ∷ types_of us)) (coerced_arguments (without_first rs) (types_of us)) (coerced_argument rs own) (arguments-first rs own (types_of us)) w v o es fs (view t) us rest hr ho hv hf ∙ ap (λ xs. arguments_onto w es (with_arguments rs (types_of (terms_view xs)) (spill (operands m s ls (terms_view xs)) w.next))) (sym (taken ts n t h e))
+
+  pub items-step : (ts : List Tree) (n : ℕ) (t : Tree) (w v : Code) (o : Placed) (es fs : List Expression) (u : IrType) (rest : Bool) → n < length ts → t ≡ get_or ts n t → rest ≡ are_plain (terms_view (drop (n + 1) ts)) → o ≡ comes_to m s ls rest w.next (view t) → v ≡ joined w (record { statements = o.statements; next = o.next }) → fs ≡ es ++ coerced u (type_of_term (view t)) o.expression ∷ [] → arguments_onto v fs (with_items u (types_of (terms_view (drop (n + 1) ts))) (spill (operands m s ls (terms_view (drop (n + 1) ts))) v.next)) ≡ arguments_onto w es (with_items u (types_of (terms_view (drop n ts))) (spill (operands m s ls (terms_view (drop n ts))) w.next))
+  items-step ts n t w v o es fs u rest h e hr ho hv hf =
+      let us = terms_view (drop (n + 1) ts) in
+      let own = type_of_term (view t) in
+      operand-step (coerced_items u (own ∷ types_of us)) (coerced_items u (types_of us)) (coerced u own) (λ x xs. refl) w v o es fs (view t) us rest hr ho hv hf ∙ ap (λ xs. arguments_onto w es (with_items u (types_of (terms_view xs)) (spill (operands m s ls (terms_view xs)) w.next))) (sym (taken ts n t h e))
 
   cases-rest : (k : Destination) (j : ℕ) (c : MatchCase) (cs : List MatchCase) (out : List core.Case) (w : Code) (z : ℤ) (zs : List ℤ) → (view_case c).0 ≡ z ∷ zs → w ≡ into m s ls k j (view_case c).1 → branches_onto (out ++ ((view_case c).0, followed w.statements (statement (break_nearest None) no_statements)) ∷ []) (cases m s ls k w.next (cases_view cs)) ≡ branches_onto out (cases m s ls k j (cases_view (c ∷ cs)))
   cases-rest k j c cs out w z zs hz hw =

@@ -47,3 +47,6 @@ use-first o os j f = ap (λ r. then_use r f) (spill-more o os j) ∙ first (plac
         let r = spill os p.next in
         let c = f (p.expression ∷ r.expressions) r.next in
         ap (λ ss. record { statements = ss; next = c.next }) (followed-assoc p.statements r.statements c.statements)
+
+pub use-three : (o u v : Operand) (j : ℕ) (f : List Expression → ℕ → Code) → then_use (spill (o ∷ u ∷ v ∷ []) j) f ≡ behind (placed (u.plain && v.plain) o j) (λ e k. behind (placed v.plain u k) (λ g n. behind (placed true v n) (λ h. f (e ∷ g ∷ h ∷ []))))
+use-three o u v j f = use-first o (u ∷ v ∷ []) j f ∙ (λ i. behind (placed (u.plain && and-true v.plain i) o j) (λ e k. use-two u v k (λ es. f (e ∷ es)) i))

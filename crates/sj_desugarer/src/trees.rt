@@ -3,9 +3,9 @@ ghost use Rattle.std.specs.Prelude.{◌≡◌, ◌&&◌, false, IfOk, map};
 ghost use Rattle.sj_desugar.specs.Desugar as desugar;
 ghost use Rattle.sj_desugar.specs.Plain.{is_among};
 ghost use Rattle.sj_desugar.specs.Spill.{spill};
-ghost use Rattle.sj_desugaring.specs.Arguments.{with_arguments};
+ghost use Rattle.sj_desugaring.specs.Arguments.{with_arguments, with_items};
 ghost use Rattle.sj_desugaring.specs.Forms as forms;
-ghost use Rattle.sj_desugarer.specs.Operands.{comes_to, comes_received, owner_place, assigned_code};
+ghost use Rattle.sj_desugarer.specs.Operands.{comes_to, comes_received, owner_place, index_place, assigned_code};
 ghost use Rattle.sj_desugaring.specs.Placing.{placed};
 ghost use Rattle.sj_desugaring.specs.Views.{destination_view, target_view, code_view, placed_view, all_view, branches_view};
 ghost use Rattle.sj_trees.specs.View.{view, terms_view, cases_view};
@@ -13,17 +13,18 @@ ghost use Rattle.sj_trees.specs.View.{view, terms_view, cases_view};
 use sj_core::CoreExpression;
 use sj_desugaring::{
     CalledMember, Destination, FieldPlace, Operation, Placed, PlacedAll, SwitchCases, Target,
-    Written, are_plain, assigned, binary_value, branched, brought, call_value, case_of, cast_value,
-    checked, checked_operand, coerced_argument, declared, defined, expression_of, field_set,
-    field_value, finished, in_place, is_fixed, is_plain, is_sure, joined, kept, labeled, leaving,
-    local_destination, logged, looked_up_value, looped, looped_behind, made_value, member_value,
-    module_stored, nothing, number_behind, operand_destination, position_of, static_set, switched,
-    target_of, tested_loop, tested_value, thrown, tried, unary_value, value_of, with_label,
-    without_first,
+    Written, are_plain, array_value, assigned, binary_value, branched, brought, call_value,
+    case_of, cast_value, checked, checked_operand, coerced_argument, coerced_value, declared,
+    defined, element_set, element_value, expression_of, field_set, field_value, finished, in_place,
+    is_fixed, is_plain, is_sure, joined, kept, labeled, leaving, length_value, local_destination,
+    logged, looked_up_value, looped, looped_behind, made_value, member_value, module_stored,
+    new_array_value, nothing, number_behind, operand_destination, position_of, static_set,
+    switched, target_of, tested_loop, tested_value, thrown, tried, unary_value, value_of,
+    with_label, without_first,
 };
 use sj_finalizers::{given_back, keep_all, kept_in};
 use sj_names::{LocalName, NoMemory, TypeRef};
-use sj_trees::{MatchCase, Position, Tree, type_of};
+use sj_trees::{IrType, MatchCase, Position, Tree, type_of};
 use std::alloc::Global;
 
 /// The locals of a body that are mutable, and those that are never null.
@@ -34,7 +35,7 @@ pub struct Locals<'l> {
 }
 
 /// A tree as statements that bring its value to a destination, in a method with these locals, inside of these labels, with variables
-/// for operands from the number `next` on. A form that isn't built writes nothing.
+/// for operands from the number `next` on. An assignment to what can't be assigned to writes nothing. Want of memory is the only error.
 #[cycle(trees)]
 pub fn statements_of(
     alloc: Global,
@@ -66,8 +67,9 @@ pub fn statements_of(
         Tree::Assign(position, target, value) => {
             let value_plain = is_plain(value);
             let owner = owner_of(alloc, locals, targets, value_plain, next, target)?;
+            let index = index_of(alloc, locals, targets, value_plain, owner.next, target)?;
             assignment_of(
-                alloc, locals, targets, next, *position, value, target, owner,
+                alloc, locals, targets, next, *position, value, target, owner, index,
             )
         }
         Tree::Return(position, value, label) => {
@@ -177,6 +179,25 @@ pub fn statements_of(
             let place = FieldPlace { class, name, tpe };
             field_value(alloc, destination, *position, &place, owner)
         }
+        Tree::NewArray(position, array, length) => {
+            let size = operand_of(alloc, locals, targets, true, next, length)?;
+            new_array_value(alloc, destination, *position, array, size)
+        }
+        Tree::ArrayValue(position, array, trees) => {
+            let expected = IrType::of_items(array)?;
+            let items = items_of(alloc, locals, targets, &expected, next, trees)?;
+            array_value(alloc, destination, *position, array, items)
+        }
+        Tree::ArrayLength(position, array) => {
+            let owner = receiver_of(alloc, locals, targets, true, next, array)?;
+            length_value(alloc, destination, *position, owner)
+        }
+        Tree::ArraySelect(position, array, index, tpe) => {
+            let index_plain = is_plain(index);
+            let owner = receiver_of(alloc, locals, targets, index_plain, next, array)?;
+            let place = operand_of(alloc, locals, targets, true, owner.next, index)?;
+            element_value(alloc, destination, *position, tpe, owner, place)
+        }
         Tree::Throw(position, value) => {
             let object = operand_of(alloc, locals, targets, true, next, value)?;
             thrown(alloc, *position, value, object)
@@ -225,15 +246,11 @@ pub fn statements_of(
         | Tree::This(_, _)
         | Tree::SelectStatic(_, _, _, _)
         | Tree::LoadModule(_, _) => value_of(alloc, destination, next, tree),
-        Tree::Skip(_)
-        | Tree::NewArray(_, _, _)
-        | Tree::ArrayValue(_, _, _)
-        | Tree::ArrayLength(_, _)
-        | Tree::ArraySelect(_, _, _, _) => Ok(nothing(alloc, next)),
+        Tree::Skip(_) => Ok(nothing(alloc, next)),
     }
 }
 
-// The object of the field that a tree names as an operand. A tree that names no field writes nothing.
+// The object of the field that a tree names, or the array of the element, as an operand. A tree that names neither writes nothing.
 #[cycle(trees)]
 fn owner_of(
     alloc: Global,
@@ -248,6 +265,11 @@ fn owner_of(
     match target {
         Tree::Select(_, object, _, _, _) => {
             receiver_of(alloc, locals, targets, rest_is_plain, next, object)
+        }
+        Tree::ArraySelect(_, array, index, _) => {
+            let index_plain = is_plain(index);
+            let rest = are_both(index_plain, rest_is_plain);
+            receiver_of(alloc, locals, targets, rest, next, array)
         }
         Tree::VarDef(_, _, _, _, _)
         | Tree::Skip(_)
@@ -273,7 +295,6 @@ fn owner_of(
         | Tree::NewArray(_, _, _)
         | Tree::ArrayValue(_, _, _)
         | Tree::ArrayLength(_, _)
-        | Tree::ArraySelect(_, _, _, _)
         | Tree::IsInstanceOf(_, _, _)
         | Tree::AsInstanceOf(_, _, _)
         | Tree::Undefined(_)
@@ -292,7 +313,67 @@ fn owner_of(
     }
 }
 
-// An assignment of what the one tree comes to, to what the other names, behind the object of a field. A tree that names nothing writes nothing.
+// The index of the element that a tree names as an operand. A tree that names no element writes nothing.
+#[cycle(trees)]
+fn index_of(
+    alloc: Global,
+    locals: &Locals<'_>,
+    targets: &[Target],
+    rest_is_plain: bool,
+    next: u64,
+    target: &Tree,
+) -> Result<Placed, NoMemory>
+    ensures { IfOk result (λ p. placed_view p ≡ index_place (is_among locals.now.mutable.now) (is_among locals.now.sure.now) (map target_view targets.now) rest_is_plain next (view target.now)) }
+{
+    match target {
+        Tree::ArraySelect(_, _, index, _) => {
+            operand_of(alloc, locals, targets, rest_is_plain, next, index)
+        }
+        Tree::VarDef(_, _, _, _, _)
+        | Tree::Skip(_)
+        | Tree::Block(_, _)
+        | Tree::Labeled(_, _, _, _)
+        | Tree::Assign(_, _, _)
+        | Tree::Return(_, _, _)
+        | Tree::If(_, _, _, _, _)
+        | Tree::While(_, _, _)
+        | Tree::DoWhile(_, _, _)
+        | Tree::TryCatch(_, _, _, _, _)
+        | Tree::TryFinally(_, _, _)
+        | Tree::Throw(_, _)
+        | Tree::Match(_, _, _, _, _)
+        | Tree::New(_, _, _, _)
+        | Tree::LoadModule(_, _)
+        | Tree::StoreModule(_, _, _)
+        | Tree::Select(_, _, _, _, _)
+        | Tree::Apply(_, _, _, _, _)
+        | Tree::ApplyStatically(_, _, _, _, _, _, _)
+        | Tree::ApplyStatic(_, _, _, _, _, _)
+        | Tree::UnaryOp(_, _, _)
+        | Tree::BinaryOp(_, _, _, _)
+        | Tree::NewArray(_, _, _)
+        | Tree::ArrayValue(_, _, _)
+        | Tree::ArrayLength(_, _)
+        | Tree::IsInstanceOf(_, _, _)
+        | Tree::AsInstanceOf(_, _, _)
+        | Tree::Undefined(_)
+        | Tree::Null(_)
+        | Tree::BooleanLiteral(_, _)
+        | Tree::CharLiteral(_, _)
+        | Tree::ByteLiteral(_, _)
+        | Tree::ShortLiteral(_, _)
+        | Tree::IntLiteral(_, _)
+        | Tree::LongLiteral(_, _)
+        | Tree::StringLiteral(_, _)
+        | Tree::This(_, _)
+        | Tree::Log(_, _)
+        | Tree::VarRef(_, _, _)
+        | Tree::SelectStatic(_, _, _, _) => Ok(in_place(alloc, CoreExpression::Undefined, next)),
+    }
+}
+
+// An assignment of what the one tree comes to, to what the other names, behind the object of a field, or the array and the index of an element.
+// A tree that names nothing writes nothing.
 #[cycle(trees)]
 fn assignment_of(
     alloc: Global,
@@ -303,8 +384,9 @@ fn assignment_of(
     value: &Tree,
     target: &Tree,
     owner: Placed,
+    index: Placed,
 ) -> Result<Written, NoMemory>
-    ensures { IfOk result (λ w. code_view w ≡ assigned_code (is_among locals.now.mutable.now) (is_among locals.now.sure.now) (map target_view targets.now) next position (view target.now) (view value.now) (placed_view owner)) }
+    ensures { IfOk result (λ w. code_view w ≡ assigned_code (is_among locals.now.mutable.now) (is_among locals.now.sure.now) (map target_view targets.now) next position (view target.now) (view value.now) (placed_view owner) (placed_view index)) }
 {
     match target {
         Tree::VarRef(_, name, tpe) => {
@@ -320,6 +402,10 @@ fn assignment_of(
             let new_value = operand_of(alloc, locals, targets, true, next, value)?;
             let place = FieldPlace { class, name, tpe };
             static_set(alloc, position, &place, value, new_value)
+        }
+        Tree::ArraySelect(_, _, _, tpe) => {
+            let new_value = operand_of(alloc, locals, targets, true, index.next, value)?;
+            element_set(alloc, position, tpe, value, owner, index, new_value)
         }
         Tree::VarDef(_, _, _, _, _)
         | Tree::Skip(_)
@@ -345,7 +431,6 @@ fn assignment_of(
         | Tree::NewArray(_, _, _)
         | Tree::ArrayValue(_, _, _)
         | Tree::ArrayLength(_, _)
-        | Tree::ArraySelect(_, _, _, _)
         | Tree::IsInstanceOf(_, _, _)
         | Tree::AsInstanceOf(_, _, _)
         | Tree::Undefined(_)
@@ -506,6 +591,38 @@ fn arguments_of(
         let own = type_of(alloc, each)?;
         expressions.push(coerced_argument(alloc, left, &own, operand.expression)?)?;
         left = without_first(left);
+    }
+    Ok(PlacedAll {
+        statements: written.statements,
+        expressions,
+        next: written.next,
+    })
+}
+
+// The items of an array whose elements have this type.
+#[cycle(trees)]
+#[tactic(auto, using(std::proofs::lemmas::Grind::common_steps, crate::proofs::Runs::ends))]
+fn items_of(
+    alloc: Global,
+    locals: &Locals<'_>,
+    targets: &[Target],
+    expected: &IrType,
+    next: u64,
+    trees: &[Tree],
+) -> Result<PlacedAll, NoMemory>
+    ensures { IfOk result (λ r. all_view r ≡ with_items expected.now (desugar.types_of (terms_view trees.now)) (spill (desugar.operands (is_among locals.now.mutable.now) (is_among locals.now.sure.now) (map target_view targets.now) (terms_view trees.now)) next)) }
+{
+    let mut written = nothing(alloc, next);
+    let mut expressions = Vec::new(alloc);
+    for (index, each) in trees.iter().enumerate() {
+        let rest_is_plain = are_plain(&trees[index + 1..]);
+        let operand = operand_of(alloc, locals, targets, rest_is_plain, written.next, each)?;
+        let front = Written {
+            statements: operand.statements,
+            next: operand.next,
+        };
+        written = joined(written, front)?;
+        expressions.push(coerced_value(alloc, expected, each, operand.expression)?)?;
     }
     Ok(PlacedAll {
         statements: written.statements,

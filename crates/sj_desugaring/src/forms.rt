@@ -205,7 +205,7 @@ pub fn branched(
     joined(front, one(alloc, statement, no.next)?)
 }
 
-/// A block whose thrown value is caught under a name, for the code of the handler.
+/// A block whose thrown value is caught under a name, for the code of the handler. Want of memory is the only error.
 pub fn tried(
     alloc: Global,
     position: Position,
@@ -225,7 +225,7 @@ pub fn tried(
     one(alloc, statement, handler.next)
 }
 
-/// A block behind which the code of a finalizer runs, however it ends.
+/// A block behind which the code of a finalizer runs, however it ends. Want of memory is the only error.
 pub fn finished(
     alloc: Global,
     position: Position,

@@ -5,6 +5,7 @@
 //! Where a function here can fail, want of memory is the only error.
 #![tactic(auto)]
 
+mod arrays;
 mod destinations;
 mod forms;
 mod jumps;
@@ -13,6 +14,7 @@ mod placing;
 mod values;
 mod writing;
 
+pub use arrays::{array_value, element_set, element_value, length_value, new_array_value};
 pub use destinations::{Destination, Target, copied_variable, target_of, with_label};
 pub use forms::{
     CalledMember, Operation, SwitchCases, assigned, binary_value, branched, call_value, case_of,
@@ -21,8 +23,8 @@ pub use forms::{
 };
 pub use jumps::{labeled, leaving};
 pub use objects::{
-    FieldPlace, cast_value, checked_operand, field_set, field_value, looked_up_value, made_value,
-    member_value, module_stored, static_set, tested_value, thrown,
+    FieldPlace, cast_value, checked_operand, coerced_value, field_set, field_value,
+    looked_up_value, made_value, member_value, module_stored, static_set, tested_value, thrown,
 };
 pub use placing::{
     Placed, PlacedAll, brought, in_place, kept, local_destination, number_behind,

@@ -35,8 +35,8 @@ pub struct FieldPlace<'f> {
     pub tpe: &'f IrType,
 }
 
-// A value of this tree where a value of the type is expected.
-fn coerced_value(
+/// A value of this tree where a value of the type is expected.
+pub fn coerced_value(
     alloc: Global,
     expected: &IrType,
     tree: &Tree,
@@ -100,7 +100,7 @@ pub fn static_set(
     joined(front, one(alloc, statement, operand.next)?)
 }
 
-/// The one object of the class is what this tree comes to as an operand.
+/// The one object of the class is what this tree comes to as an operand. Want of memory is the only error.
 pub fn module_stored(
     alloc: Global,
     position: Position,

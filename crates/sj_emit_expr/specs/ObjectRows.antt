@@ -10,9 +10,10 @@ use Rattle.sj_mangling.specs.MethodName.{MethodName}
 use Rattle.sj_mangling.specs.Namespace.{Namespace}
 use Rattle.sj_mangling.specs.NamespaceVariants.{Public, PublicStatic, Private, PrivateStatic, Constructor}
 use Rattle.sj_mangling.specs.BaseRef.{BaseRef}
+use Rattle.sj_names.specs.declared.references.ArrayRef.{ArrayRef}
 use Rattle.sj_mangling.specs.TypeRef.{TypeRef}
 use Rattle.sj_desugar.specs.Erase.{nowhere}
-use Rattle.sj_desugar.specs.Term.{Term, Terms, no_terms, more_terms, var_def, skip, block_of, assign, throw, try_catch, new_object, load_module, store_module, select, select_static, apply, apply_statically, int_literal, long_literal, var_ref, this_ref, binary_op}
+use Rattle.sj_desugar.specs.Term.{Term, Terms, no_terms, more_terms, var_def, skip, block_of, assign, throw, try_catch, new_object, load_module, store_module, select, select_static, apply, apply_statically, new_array, array_value, array_length, array_select, is_instance_of, as_instance_of, null_literal, int_literal, long_literal, var_ref, this_ref, binary_op}
 use Rattle.sj_desugar.specs.ParamDef.{ParamDef}
 use Rattle.sj_desugar.specs.BinaryOpVariants.{IntAdd, IntDivide, LongRemainder}
 use Rattle.sj_desugar.specs.IrType.{IrType}
@@ -130,3 +131,22 @@ loads_piece = piece Constructor from_nothing [] Types.NoType (block (store_modul
 -- what is thrown where a field of null is read is caught
 abbrev pub catches_piece : Piece
 catches_piece = piece PublicStatic (named (codes "catches") (TypeRef.Class a_name ∷ []) TypeRef.Int) (param (codes "q") a_class ∷ []) Types.Int (try_catch nowhere (field (use_of (codes "q") a_class)) (codes "e") (number 0) Types.Int)
+
+-- an array of ints is made, and one of arrays of the class with an item; a length, an element, elements that are set, and a test and a cast to types of arrays
+abbrev pub arrays_piece : Piece
+arrays_piece = piece PublicStatic (named (codes "arrays") [] TypeRef.Void) [] Types.NoType (block (new_array nowhere ints (number 2) ∷ array_value nowhere (of_objects 2) (more_terms b no_terms) ∷ array_length nowhere a ∷ first a Types.Int ∷ assign nowhere (first a Types.Int) (number 1) ∷ assign nowhere (first b a_class) (null_literal nowhere) ∷ is_instance_of nowhere b (Types.Array (of_objects 2)) ∷ as_instance_of nowhere a (Types.Array ints) ∷ []))
+  where
+    ints : ArrayRef
+    ints = record { base = BaseRef.Int; dimensions = 1 }
+
+    of_objects : ℕ → ArrayRef
+    of_objects n = record { base = BaseRef.Class a_name; dimensions = n }
+
+    a : Term
+    a = use_of (codes "a") (Types.Array ints)
+
+    b : Term
+    b = use_of (codes "b") (Types.Array (of_objects 1))
+
+    first : Term → IrType → Term
+    first e t = array_select nowhere e (number 0) t

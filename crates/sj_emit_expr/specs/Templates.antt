@@ -8,11 +8,11 @@ use Rattle.js_tree.specs.declared.operators.HostOperation.TheVariants.{BigIntAsI
 use Rattle.js_tree.specs.declared.operators.UnaryOperator.TheVariants.{Not}
 use Rattle.sj_desugar.specs.Lookup.{Lookup}
 use Rattle.sj_desugar.specs.Terms as core
-use Rattle.sj_desugar.specs.Terms.{Variable, undefined_value, null_value, boolean_value, number_value, long_value, text_value, variable_use, boxed_char, char_text, value_text, choice_of, static_call, field_of, static_of, checked_value, made_of, receiver_call, constant_of, define_of, assign_to, assign_field, assign_static, evaluate_of, log_of, leave_label, if_of, loop_of, switch_of, try_of, finally_of, Method}
+use Rattle.sj_desugar.specs.Terms.{Variable, undefined_value, null_value, boolean_value, number_value, long_value, text_value, variable_use, boxed_char, char_text, value_text, choice_of, static_call, field_of, static_of, checked_value, made_of, receiver_call, new_array_of, array_of, length_of, element_of, constant_of, define_of, assign_to, assign_field, assign_static, assign_element, evaluate_of, log_of, leave_label, if_of, loop_of, switch_of, try_of, finally_of, Method}
 use Rattle.sj_desugar.specs.Callee.{Callee}
 use Rattle.sj_desugar.specs.CalleeVariants as callees
 use Rattle.sj_emit_expr.specs.Names.{variable_name, label_name}
-use Rattle.sj_emit_expr.specs.Tests.{test_template, cast_template, same_template}
+use Rattle.sj_emit_expr.specs.Tests.{of_array, test_template, cast_template, same_template}
 use Rattle.sj_mangling.specs.Bindings.{function_name, class_binding, field_binding, method_binding}
 use Rattle.sj_mangling.specs.declared.bindings.ClassBinding.TheVariants.{Class, LoadModule, StoreModule}
 use Rattle.sj_mangling.specs.declared.bindings.FieldBinding.TheVariants.{Property, Variable as StaticField, Setter}
@@ -26,6 +26,9 @@ use Rattle.sj_desugar.specs.BinaryOpVariants as binary
 use Rattle.sj_desugar.specs.BinaryOpVariants.{StringConcatenate, BooleanEqual, BooleanNotEqual, BooleanOr, BooleanAnd, IntAdd, IntSubtract, IntMultiply, IntDivide, IntRemainder, IntOr, IntAnd, IntXor, IntShiftLeft, IntShiftRightLogical, IntShiftRightArithmetic, IntEqual, IntNotEqual, IntLess, IntLessOrEqual, IntGreater, IntGreaterOrEqual, LongAdd, LongSubtract, LongMultiply, LongDivide, LongRemainder, LongOr, LongAnd, LongXor, LongShiftLeft, LongShiftRightLogical, LongShiftRightArithmetic, LongEqual, LongNotEqual, LongLess, LongLessOrEqual, LongGreater, LongGreaterOrEqual}
 use Rattle.sj_desugar.specs.UnaryOp.{UnaryOp}
 use Rattle.sj_desugar.specs.UnaryOpVariants.{BooleanNot, CharToInt, ByteToInt, ShortToInt, IntToLong, IntToChar, IntToByte, IntToShort, LongToInt}
+use Rattle.sj_desugar.specs.IrType.{IrType}
+use Rattle.sj_desugar.specs.IrTypeVariants as types
+use Rattle.sj_trees.specs.Types.{element_type}
 
 abbrev pub whole : ℕ → js.Expression
 whole n = number_literal (pos n)
@@ -151,6 +154,31 @@ store_name c = class_binding StoreModule c
 abbrev pub check_name : Name
 check_name = codes "$nn"
 
+-- the value that a field, a variable or an element of a type begins with
+abbrev pub zero_template : IrType → js.Expression
+zero_template types.Boolean = boolean_literal false
+zero_template types.Char = whole 0
+zero_template types.Byte = whole 0
+zero_template types.Short = whole 0
+zero_template types.Int = whole 0
+zero_template types.Long = big_literal (pos 0)
+zero_template types.String = text_literal []
+zero_template types.Undefined = undefined_literal
+zero_template _ = null_literal
+
+-- the helper that sets an element of this type: where it is no primitive one, that asks whether the array may hold the value
+abbrev pub element_setter : IrType → Name
+element_setter types.Undefined = codes "$set"
+element_setter types.Boolean = codes "$set"
+element_setter types.Char = codes "$set"
+element_setter types.Byte = codes "$set"
+element_setter types.Short = codes "$set"
+element_setter types.Int = codes "$set"
+element_setter types.Long = codes "$set"
+element_setter types.String = codes "$set"
+element_setter types.Null = codes "$set"
+element_setter _ = codes "$put"
+
 -- a choice whose second branch has no statements is written without it
 abbrev pub choice_template : js.Expression → js.Statements → js.Statements → js.Statement
 choice_template c ss js.no_statements = if_only c ss
@@ -197,6 +225,10 @@ module _ (name : Variable → Name) (label : List ℕ → Name) (known : Lookup)
     expression_template (receiver_call k e es) = call_template known k (expression_template e) (expression_templates es)
     expression_template (core.test_of t e) = test_template t (expression_template e)
     expression_template (core.cast_of t e) = cast_template t (expression_template e)
+    expression_template (new_array_of r e) = call_of (codes "$mk") (of_array r (js.expression (expression_template e) (js.expression (zero_template (element_type r)) js.no_expressions)))
+    expression_template (array_of r es) = new_of (codes "$A") (of_array r (js.expression (js.list_of (expression_templates es)) js.no_expressions))
+    expression_template (length_of e) = property_of (property_of (expression_template e) (codes "a")) (codes "length")
+    expression_template (element_of e i) = call_of (codes "$get") (js.expression (expression_template e) (js.expression (expression_template i) js.no_expressions))
     expression_template (core.unary_of o e) = unary_template o (expression_template e)
     expression_template (core.binary_of o e g) = binary_template (is_nonzero_literal g) o (expression_template e) (expression_template g)
 
@@ -215,6 +247,7 @@ module _ (name : Variable → Name) (label : List ℕ → Name) (known : Lookup)
     statement_template (log_of p e) = expression_statement (host_call ConsoleLog (expression_template e))
     statement_template (assign_field p e c f g) = assign_property (expression_template e) (property_name c f) (expression_template g)
     statement_template (assign_static p c f e) = expression_statement (call_of (setter_name c f) (js.expression (expression_template e) js.no_expressions))
+    statement_template (assign_element p t e i g) = expression_statement (call_of (element_setter t) (js.expression (expression_template e) (js.expression (expression_template i) (js.expression (expression_template g) js.no_expressions))))
     statement_template (core.store_module_of p c e) = expression_statement (call_of (store_name c) (js.expression (expression_template e) js.no_expressions))
     statement_template (core.throw_of p e) = js.throw_of (expression_template e)
     statement_template (leave_label p l) = break_to (label l)

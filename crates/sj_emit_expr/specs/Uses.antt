@@ -6,13 +6,16 @@ use Rattle.js_tree.specs.declared.items.Binding.{Binding}
 use Rattle.sj_desugar.specs.Lookup.{Lookup}
 use Rattle.sj_desugar.specs.Callee.{Callee}
 use Rattle.sj_desugar.specs.CalleeVariants as callees
-use Rattle.sj_desugar.specs.Terms.{Expression, boxed_char, char_text, value_text, choice_of, static_call, field_of, static_of, module_of, checked_value, made_of, receiver_call, test_of, cast_of, unary_of, binary_of, Expressions, no_expressions, expression, Statement, constant_of, define_of, declare_of, assign_to, evaluate_of, return_of, log_of, assign_field, assign_static, store_module_of, throw_of, leave_label, break_nearest, if_of, while_of, loop_of, labeled_of, switch_of, try_of, finally_of, Statements, no_statements, statement, Cases, no_cases, switch_case}
+use Rattle.sj_desugar.specs.Terms.{Expression, boxed_char, char_text, value_text, choice_of, static_call, field_of, static_of, module_of, checked_value, made_of, receiver_call, test_of, cast_of, new_array_of, array_of, length_of, element_of, unary_of, binary_of, Expressions, no_expressions, expression, Statement, constant_of, define_of, declare_of, assign_to, evaluate_of, return_of, log_of, assign_field, assign_static, assign_element, store_module_of, throw_of, leave_label, break_nearest, if_of, while_of, loop_of, labeled_of, switch_of, try_of, finally_of, Statements, no_statements, statement, Cases, no_cases, switch_case}
 use Rattle.sj_emit_expr.specs.Tests.{test_name, cast_name, same_name}
-use Rattle.sj_emit_expr.specs.Templates.{called_member, member_name, class_name, static_name, setter_name, load_name, store_name, check_name, is_nonzero_literal}
-use Rattle.sj_mangling.specs.Bindings.{method_binding}
+use Rattle.sj_emit_expr.specs.Templates.{called_member, member_name, class_name, static_name, setter_name, load_name, store_name, check_name, element_setter, is_nonzero_literal}
+use Rattle.sj_mangling.specs.Bindings.{class_binding, method_binding}
+use Rattle.sj_mangling.specs.declared.bindings.ClassBinding.TheVariants.{Constants}
 use Rattle.sj_mangling.specs.declared.bindings.MethodBinding.TheVariants.{Dispatch, Reflective}
 use Rattle.sj_mangling.specs.Member.{Member}
 use Rattle.sj_mangling.specs.MethodName.{MethodName}
+use Rattle.sj_names.specs.declared.references.BaseRef.{BaseRef}
+use Rattle.sj_names.specs.declared.references.BaseRef.TheVariants as bases
 use Rattle.sj_desugar.specs.BinaryOp.{BinaryOp}
 use Rattle.sj_desugar.specs.BinaryOpVariants.{StrictEqual, StrictNotEqual, IntDivide, IntRemainder, LongDivide, LongRemainder}
 use Rattle.sj_desugar.specs.IrType.{IrType}
@@ -52,14 +55,21 @@ helper_of _ _ = []
 -- the function that a test calls, and the one that a cast calls
 abbrev pub test_uses : IrType → List Binding
 test_uses (Class c) = record { owner = c; name = test_name (Class c) } ∷ []
-test_uses (Array r) = []
 test_uses t = object_binding (test_name t) ∷ []
 
 abbrev pub cast_uses : IrType → List Binding
 cast_uses Any = []
 cast_uses (Class c) = record { owner = c; name = cast_name (Class c) } ∷ []
-cast_uses (Array r) = []
 cast_uses t = object_binding (cast_name t) ∷ []
+
+-- what the base of arrays names, and what a type names as the base of arrays
+abbrev pub base_uses : BaseRef → List Binding
+base_uses (bases.Class c) = record { owner = c; name = class_binding Constants c } ∷ []
+base_uses _ = []
+
+abbrev pub type_uses : IrType → List Binding
+type_uses (Array r) = base_uses r.base
+type_uses _ = []
 
 -- the function that looks a method up, where a primitive value may be the receiver
 abbrev pub looked_up_uses : Bool → MethodName → List Binding
@@ -89,8 +99,12 @@ module _ (known : Lookup) where
     uses_in (checked_value e) = object_binding check_name ∷ uses_in e
     uses_in (made_of m es) = function_binding m ∷ class_use m.class ∷ uses_in_all es
     uses_in (receiver_call k e es) = call_uses known k ++ uses_in e ++ uses_in_all es
-    uses_in (test_of t e) = test_uses t ++ uses_in e
-    uses_in (cast_of t e) = cast_uses t ++ uses_in e
+    uses_in (test_of t e) = test_uses t ++ uses_in e ++ type_uses t
+    uses_in (cast_of t e) = cast_uses t ++ uses_in e ++ type_uses t
+    uses_in (new_array_of r e) = object_binding (codes "$mk") ∷ base_uses r.base ++ uses_in e
+    uses_in (array_of r es) = object_binding (codes "$A") ∷ base_uses r.base ++ uses_in_all es
+    uses_in (length_of e) = uses_in e
+    uses_in (element_of e i) = object_binding (codes "$get") ∷ uses_in e ++ uses_in i
     uses_in (unary_of o e) = uses_in e
     uses_in (binary_of o e g) = helper_of (is_nonzero_literal g) o ++ uses_in e ++ uses_in g
     uses_in _ = []
@@ -110,6 +124,7 @@ module _ (known : Lookup) where
     uses_of (log_of p e) = uses_in e
     uses_of (assign_field p e c f g) = uses_in e ++ uses_in g
     uses_of (assign_static p c f e) = setter_use c f ∷ uses_in e
+    uses_of (assign_element p t e i g) = object_binding (element_setter t) ∷ uses_in e ++ uses_in i ++ uses_in g
     uses_of (store_module_of p c e) = store_use c ∷ uses_in e
     uses_of (throw_of p e) = uses_in e
     uses_of (leave_label p l) = []

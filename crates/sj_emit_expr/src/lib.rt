@@ -6,7 +6,7 @@
 ghost use Rattle.std.specs.Prelude.{◌≡◌, codes, [], ◌∷◌};
 ghost use Rattle.js_tree.specs.Texts.{piece_text};
 ghost use Rattle.js_tree.specs.declared.items.Binding.{Binding};
-ghost use Rattle.sj_emit_expr.specs.ObjectRows.{constructor_piece, field_piece, same_piece, sum_piece, sets_piece, gets_piece, others_piece, called_piece, looks_up_piece, loads_piece, catches_piece};
+ghost use Rattle.sj_emit_expr.specs.ObjectRows.{constructor_piece, field_piece, same_piece, sum_piece, sets_piece, gets_piece, others_piece, called_piece, looks_up_piece, loads_piece, catches_piece, arrays_piece};
 ghost use Rattle.sj_emit_expr.specs.Rows.{piece_of, triple_method, triples, two_method, one_and_two};
 
 /// Two worked methods of the class `A`: `f` with the loop `while (p < 10) { p = p * 3 }; p`, and `two`, which adds what `one` gives to the value
@@ -21,7 +21,8 @@ pub fn worked_functions()
 /// is This, or an immutable local that is defined as a new object; where a later operand isn't plain, the check comes in front of it; and a receiver
 /// that isn't plain is spilled for its check. A call of a public method runs the function of its target, and any other the one that it names.
 /// A method that is looked up is the entry of an object, also of an array, or a function that tells values apart where primitive ones are among them; a hijacked class has its own function; and a reflective call has one by its name.
-/// The one object of a class is loaded and stored by functions of its own. `uses` names the functions, classes, static fields and
+/// The one object of a class is loaded and stored by functions of its own. An array is made and its elements are read and set by helpers, to which a type of
+/// arrays is its number of dimensions and its base. `uses` names the functions, classes, static fields and
 /// helpers of a text in its order.
 pub fn worked_objects()
     ensures constructor { piece_text constructor_piece ≡ codes "function ct_A__$3cinit$3e$$I$$V($this, v_x) {\n  ct_java_lang_Object__$3cinit$3e$$V($this);\n  $this.f_A__f = v_x;\n  return $this;\n}\n" }
@@ -41,5 +42,7 @@ pub fn worked_objects()
     ensures loads { piece_text loads_piece ≡ codes "function ct_A__$3cinit$3e$$V($this) {\n  q_A($this);\n  let $1;\n  $1 = $this;\n  q_A($1);\n  $this.f_A__f = g_A().f_A__f;\n  g_A();\n  return $this;\n}\n" }
     ensures catches { piece_text catches_piece ≡ codes "function s_A__catches$$LA$$I(v_q) {\n  try {\n    return $nn(v_q).f_A__f;\n  } catch (v_e) {\n    return 0;\n  }\n}\n" }
     ensures catches_uses { catches_piece.uses ≡ record { owner = codes "java.lang.Object"; name = codes "$nn" } ∷ [] }
+    ensures arrays { piece_text arrays_piece ≡ codes "function s_A__arrays$$V() {\n  $mk(1, \"I\", 2, 0);\n  new $A(2, k_A, [v_b]);\n  $nn(v_a).a.length;\n  $get($nn(v_a), 0);\n  $set($nn(v_a), 0, 1);\n  $put($nn(v_b), 0, null);\n  $isA(v_b, 2, k_A);\n  $asA(v_a, 1, \"I\", \"[I\");\n}\n" }
+    ensures arrays_uses { arrays_piece.uses ≡ record { owner = codes "java.lang.Object"; name = codes "$mk" } ∷ record { owner = codes "java.lang.Object"; name = codes "$A" } ∷ record { owner = codes "A"; name = codes "k_A" } ∷ record { owner = codes "java.lang.Object"; name = codes "$nn" } ∷ record { owner = codes "java.lang.Object"; name = codes "$get" } ∷ record { owner = codes "java.lang.Object"; name = codes "$set" } ∷ record { owner = codes "java.lang.Object"; name = codes "$put" } ∷ record { owner = codes "java.lang.Object"; name = codes "$isA" } ∷ record { owner = codes "java.lang.Object"; name = codes "$asA" } ∷ [] }
     ensures loads_uses { loads_piece.uses ≡ record { owner = codes "A"; name = codes "q_A" } ∷ record { owner = codes "A"; name = codes "g_A" } ∷ [] }
 {}

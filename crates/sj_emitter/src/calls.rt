@@ -14,8 +14,8 @@ use sj_mangling::{MethodBinding, function_name, method_binding};
 use sj_names::{MethodName, NoMemory, Text};
 use std::alloc::Global;
 
-// The first value, and behind it the others.
-fn in_front(alloc: Global, first: JsExpr, others: Vec<JsExpr>) -> Result<Vec<JsExpr>, NoMemory>
+/// The first value, and behind it the others.
+pub fn in_front(alloc: Global, first: JsExpr, others: Vec<JsExpr>) -> Result<Vec<JsExpr>, NoMemory>
     ensures { IfOk result (λ all. all.items ≡ first ∷ others.items) }
 {
     let mut all = Vec::new(alloc);

@@ -6,6 +6,7 @@ ghost use Rattle.sj_emit_expr.specs.Names.{variable_name, label_name};
 ghost use Rattle.sj_emit_expr.specs.Templates as templates;
 ghost use Rattle.sj_emitter.specs.Known.{lookup_of};
 
+use crate::arrays::{array_of, element_of, length_of, new_array};
 use crate::calls::{call_of_callee, call_of_one, call_on, new_object};
 use crate::lookup::CallLookup;
 use crate::names::variable_name;
@@ -103,6 +104,23 @@ pub fn emit_expression(
         CoreExpression::Cast(tpe, operand) => {
             let operand = emit_expression(alloc, known, operand)?;
             cast_template(alloc, tpe, operand)
+        }
+        CoreExpression::NewArray { array, length } => {
+            let length = emit_expression(alloc, known, length)?;
+            new_array(alloc, array, length)
+        }
+        CoreExpression::Array { array, items } => {
+            let items = emit_expressions(alloc, known, items)?;
+            array_of(alloc, array, items)
+        }
+        CoreExpression::Length { array } => {
+            let array = emit_expression(alloc, known, array)?;
+            length_of(alloc, array)
+        }
+        CoreExpression::Element { array, index } => {
+            let array = emit_expression(alloc, known, array)?;
+            let index = emit_expression(alloc, known, index)?;
+            element_of(alloc, array, index)
         }
         CoreExpression::Unary(op, operand) => {
             let operand = emit_expression(alloc, known, operand)?;

@@ -4,6 +4,7 @@
 //! receivers. What it asks for is defined in `emit_questions`.
 #![tactic(auto)]
 
+mod arrays;
 mod calls;
 mod expressions;
 mod lookup;

@@ -233,14 +233,19 @@ pub fn as_text(alloc: Global, operand: JsExpr) -> Result<JsExpr, NoMemory>
 }
 
 /// `""`
-fn empty_text(alloc: Global) -> Result<JsExpr, NoMemory>
+pub fn empty_text(alloc: Global) -> Result<JsExpr, NoMemory>
     ensures { IfOk result (λ e. expression_view e ≡ js.text_literal []) }
 {
     Ok(JsExpr::Text(Units::from_vec(Vec::new(alloc))?))
 }
 
 /// `helper(left, right)`
-fn helper_call(alloc: Global, helper: &str, left: JsExpr, right: JsExpr) -> Result<JsExpr, NoMemory>
+pub fn helper_call(
+    alloc: Global,
+    helper: &str,
+    left: JsExpr,
+    right: JsExpr,
+) -> Result<JsExpr, NoMemory>
     ensures { IfOk result (λ e. expression_view e ≡ js.call_of helper.now (js.expression (expression_view left) (js.expression (expression_view right) js.no_expressions))) }
 {
     let function = Text::from_str(alloc, helper)?;

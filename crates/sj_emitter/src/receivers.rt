@@ -47,21 +47,33 @@ fn add_calls_in(expression: &CoreExpression, inquiries: &mut Vec<Inquiry>) -> Re
         | CoreExpression::Checked(operand)
         | CoreExpression::Test(_, operand)
         | CoreExpression::Cast(_, operand)
+        | CoreExpression::NewArray {
+            array: _,
+            length: operand,
+        }
+        | CoreExpression::Length { array: operand }
         | CoreExpression::Unary(_, operand) => add_calls_in(operand, inquiries),
         CoreExpression::Choice(test, yes, no) => {
             add_calls_in(test, inquiries)?;
             add_calls_in(yes, inquiries)?;
             add_calls_in(no, inquiries)
         }
-        CoreExpression::StaticCall(_, arguments) | CoreExpression::Made(_, arguments) => {
-            add_calls_in_all(arguments, inquiries)
-        }
+        CoreExpression::StaticCall(_, arguments)
+        | CoreExpression::Made(_, arguments)
+        | CoreExpression::Array {
+            array: _,
+            items: arguments,
+        } => add_calls_in_all(arguments, inquiries),
         CoreExpression::ReceiverCall(callee, receiver, arguments) => {
             add_calls_in(receiver, inquiries)?;
             add_calls_in_all(arguments, inquiries)?;
             add(callee, inquiries)
         }
-        CoreExpression::Binary(_, left, right) => {
+        CoreExpression::Binary(_, left, right)
+        | CoreExpression::Element {
+            array: left,
+            index: right,
+        } => {
             add_calls_in(left, inquiries)?;
             add_calls_in(right, inquiries)
         }
@@ -109,6 +121,17 @@ fn add_calls_of(statement: &CoreStatement, inquiries: &mut Vec<Inquiry>) -> Resu
         }
         CoreStatement::AssignField(_, object, _, _, value) => {
             add_calls_in(object, inquiries)?;
+            add_calls_in(value, inquiries)
+        }
+        CoreStatement::AssignElement {
+            position: _,
+            tpe: _,
+            array,
+            index,
+            value,
+        } => {
+            add_calls_in(array, inquiries)?;
+            add_calls_in(index, inquiries)?;
             add_calls_in(value, inquiries)
         }
         CoreStatement::If(_, test, yes, no) => {

@@ -8,6 +8,7 @@ ghost use Rattle.sj_emit_expr.specs.Templates as templates;
 ghost use Rattle.sj_emitter.specs.Cases.{case_template};
 ghost use Rattle.sj_emitter.specs.Known.{lookup_of};
 
+use crate::arrays::element_set;
 use crate::calls::call_of_one;
 use crate::expressions::emit_expression;
 use crate::lookup::CallLookup;
@@ -94,6 +95,18 @@ fn emit_statement(
             let setter = field_binding(alloc, FieldBinding::Setter, class, field)?;
             let value = emit_expression(alloc, known, value)?;
             Ok(JsStmt::Expression(call_of_one(alloc, setter, value)?))
+        }
+        CoreStatement::AssignElement {
+            position: _,
+            tpe,
+            array,
+            index,
+            value,
+        } => {
+            let array = emit_expression(alloc, known, array)?;
+            let index = emit_expression(alloc, known, index)?;
+            let value = emit_expression(alloc, known, value)?;
+            Ok(JsStmt::Expression(element_set(alloc, tpe, array, index, value)?))
         }
         CoreStatement::StoreModule(_, class, value) => {
             let store = class_binding(alloc, ClassBinding::StoreModule, class)?;

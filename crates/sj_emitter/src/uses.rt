@@ -1,5 +1,5 @@
 // The bindings that a function uses.
-ghost use Rattle.std.specs.Prelude.{◌≡◌, IfOk, OnOk, codes};
+ghost use Rattle.std.specs.Prelude.{◌≡◌, ◌∷◌, IfOk, OnOk, codes};
 ghost use Rattle.std.specs.List.{list_any};
 ghost use Rattle.sj_core.specs.Views as core;
 ghost use Rattle.sj_emit_expr.specs.Uses as uses;
@@ -7,6 +7,7 @@ ghost use Rattle.sj_emitter.specs.Collecting.{with_use, with_uses};
 ghost use Rattle.sj_emitter.specs.Known.{lookup_of};
 ghost use Rattle.sj_mangling.specs.Bindings as bindings_of;
 
+use crate::arrays::element_setter;
 use crate::lookup::CallLookup;
 use crate::operators::is_nonzero_literal;
 use crate::tests::{cast_name, test_name};
@@ -16,7 +17,9 @@ use sj_mangling::{
     ClassBinding, FieldBinding, MethodBinding, class_binding, field_binding, function_name,
     method_binding,
 };
-use sj_names::{ClassName, FieldName, Items, Member, MethodName, NoMemory, Text};
+use sj_names::{
+    ArrayRef, BaseRef, ClassName, FieldName, Items, Member, MethodName, NoMemory, Text,
+};
 use sj_trees::{BinaryOp, IrType};
 use std::alloc::Global;
 
@@ -75,10 +78,11 @@ fn function_binding(alloc: Global, member: &Member) -> Result<Binding, NoMemory>
     Ok(Binding { owner, name })
 }
 
-fn class_use(alloc: Global, class: &ClassName) -> Result<Binding, NoMemory>
-    ensures { IfOk result (λ b. b ≡ uses.class_use class.now) }
+// A binding of a class.
+fn class_use(alloc: Global, binding: ClassBinding, class: &ClassName) -> Result<Binding, NoMemory>
+    ensures { IfOk result (λ b. b ≡ record { owner = class.now; name = bindings_of.class_binding binding class.now }) }
 {
-    let name = class_binding(alloc, ClassBinding::Class, class)?;
+    let name = class_binding(alloc, binding, class)?;
     let owner = class.copied()?;
     Ok(Binding { owner, name })
 }
@@ -95,22 +99,6 @@ fn setter_use(alloc: Global, class: &ClassName, field: &FieldName) -> Result<Bin
     ensures { IfOk result (λ b. b ≡ uses.setter_use class.now field.now) }
 {
     let name = field_binding(alloc, FieldBinding::Setter, class, field)?;
-    let owner = class.copied()?;
-    Ok(Binding { owner, name })
-}
-
-fn load_use(alloc: Global, class: &ClassName) -> Result<Binding, NoMemory>
-    ensures { IfOk result (λ b. b ≡ uses.load_use class.now) }
-{
-    let name = class_binding(alloc, ClassBinding::LoadModule, class)?;
-    let owner = class.copied()?;
-    Ok(Binding { owner, name })
-}
-
-fn store_use(alloc: Global, class: &ClassName) -> Result<Binding, NoMemory>
-    ensures { IfOk result (λ b. b ≡ uses.store_use class.now) }
-{
-    let name = class_binding(alloc, ClassBinding::StoreModule, class)?;
     let owner = class.copied()?;
     Ok(Binding { owner, name })
 }
@@ -141,7 +129,6 @@ fn add_test(alloc: Global, tpe: &IrType, bindings: &mut Vec<Binding>) -> Result<
     ensures { OnOk result (bindings.new.items ≡ with_uses bindings.old.items (uses.test_uses tpe.now)) }
 {
     match tpe {
-        IrType::Array(_) => Ok(()),
         IrType::Class(class) => {
             let name = test_name(alloc, tpe)?;
             let owner = class.copied()?;
@@ -156,7 +143,7 @@ fn add_cast(alloc: Global, tpe: &IrType, bindings: &mut Vec<Binding>) -> Result<
     ensures { OnOk result (bindings.new.items ≡ with_uses bindings.old.items (uses.cast_uses tpe.now)) }
 {
     match tpe {
-        IrType::Any | IrType::Array(_) => Ok(()),
+        IrType::Any => Ok(()),
         IrType::Class(class) => {
             let name = cast_name(alloc, tpe)?;
             let owner = class.copied()?;
@@ -164,6 +151,41 @@ fn add_cast(alloc: Global, tpe: &IrType, bindings: &mut Vec<Binding>) -> Result<
         }
         _ => add(bindings, helper_binding(alloc, cast_name(alloc, tpe)?)?),
     }
+}
+
+// Adds what the base of arrays names.
+fn add_base(alloc: Global, base: &BaseRef, bindings: &mut Vec<Binding>) -> Result<(), NoMemory>
+    ensures { OnOk result (bindings.new.items ≡ with_uses bindings.old.items (uses.base_uses base.now)) }
+{
+    match base {
+        BaseRef::Class(class) => {
+            add(bindings, class_use(alloc, ClassBinding::Constants, class)?)
+        }
+        _ => Ok(()),
+    }
+}
+
+// Adds what a type names as the base of arrays.
+fn add_type(alloc: Global, tpe: &IrType, bindings: &mut Vec<Binding>) -> Result<(), NoMemory>
+    ensures { OnOk result (bindings.new.items ≡ with_uses bindings.old.items (uses.type_uses tpe.now)) }
+{
+    match tpe {
+        IrType::Array(array) => add_base(alloc, &array.base, bindings),
+        _ => Ok(()),
+    }
+}
+
+// Adds the helper that makes an array, and what the base of the array names.
+fn add_array(
+    alloc: Global,
+    helper: &str,
+    array: &ArrayRef,
+    bindings: &mut Vec<Binding>,
+) -> Result<(), NoMemory>
+    ensures { OnOk result (bindings.new.items ≡ with_uses bindings.old.items (uses.object_binding helper.now ∷ uses.base_uses array.now.base)) }
+{
+    add(bindings, object_binding(alloc, helper)?)?;
+    add_base(alloc, &array.base, bindings)
 }
 
 // The function for all receivers of methods of this name.
@@ -246,14 +268,19 @@ fn add_uses_in(
         CoreExpression::StaticField(class, field) => {
             add(bindings, static_use(alloc, class, field)?)
         }
-        CoreExpression::Module(class) => add(bindings, load_use(alloc, class)?),
+        CoreExpression::Module(class) => {
+            add(bindings, class_use(alloc, ClassBinding::LoadModule, class)?)
+        }
         CoreExpression::Checked(operand) => {
             add(bindings, object_binding(alloc, "$nn")?)?;
             add_uses_in(alloc, known, operand, bindings)
         }
         CoreExpression::Made(member, arguments) => {
             add(bindings, function_binding(alloc, member)?)?;
-            add(bindings, class_use(alloc, &member.class)?)?;
+            add(
+                bindings,
+                class_use(alloc, ClassBinding::Class, &member.class)?,
+            )?;
             add_all_uses_in(alloc, known, arguments, bindings)
         }
         CoreExpression::ReceiverCall(callee, receiver, arguments) => {
@@ -263,15 +290,31 @@ fn add_uses_in(
         }
         CoreExpression::Test(tpe, operand) => {
             add_test(alloc, tpe, bindings)?;
-            add_uses_in(alloc, known, operand, bindings)
+            add_uses_in(alloc, known, operand, bindings)?;
+            add_type(alloc, tpe, bindings)
         }
         CoreExpression::Cast(tpe, operand) => {
             add_cast(alloc, tpe, bindings)?;
-            add_uses_in(alloc, known, operand, bindings)
+            add_uses_in(alloc, known, operand, bindings)?;
+            add_type(alloc, tpe, bindings)
+        }
+        CoreExpression::NewArray { array, length } => {
+            add_array(alloc, "$mk", array, bindings)?;
+            add_uses_in(alloc, known, length, bindings)
+        }
+        CoreExpression::Array { array, items } => {
+            add_array(alloc, "$A", array, bindings)?;
+            add_all_uses_in(alloc, known, items, bindings)
+        }
+        CoreExpression::Element { array, index } => {
+            add(bindings, object_binding(alloc, "$get")?)?;
+            add_uses_in(alloc, known, array, bindings)?;
+            add_uses_in(alloc, known, index, bindings)
         }
         CoreExpression::CharText(operand)
         | CoreExpression::Field(operand, _, _)
         | CoreExpression::ValueText(operand)
+        | CoreExpression::Length { array: operand }
         | CoreExpression::Unary(_, operand) => add_uses_in(alloc, known, operand, bindings),
         CoreExpression::Binary(op, left, right) => {
             add_helper(alloc, is_nonzero_literal(right), *op, bindings)?;
@@ -334,7 +377,25 @@ fn add_uses_of(
             add_uses_in(alloc, known, value, bindings)
         }
         CoreStatement::StoreModule(_, class, value) => {
-            add(bindings, store_use(alloc, class)?)?;
+            add(
+                bindings,
+                class_use(alloc, ClassBinding::StoreModule, class)?,
+            )?;
+            add_uses_in(alloc, known, value, bindings)
+        }
+        CoreStatement::AssignElement {
+            position: _,
+            tpe,
+            array,
+            index,
+            value,
+        } => {
+            add(
+                bindings,
+                helper_binding(alloc, element_setter(alloc, tpe)?)?,
+            )?;
+            add_uses_in(alloc, known, array, bindings)?;
+            add_uses_in(alloc, known, index, bindings)?;
             add_uses_in(alloc, known, value, bindings)
         }
         CoreStatement::If(_, test, yes, no) => {

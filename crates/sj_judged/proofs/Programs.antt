@@ -14,7 +14,8 @@ use Rattle.sj_world.specs.Laws.{IsPlain}
 use Rattle.sj_sound.specs.Standing.{call_type}
 use Rattle.sj_sound.proofs.Whole.{linked_agrees}
 use Rattle.sj_judged.specs.Programs.{IsAccepted}
-use Rattle.sj_typed.proofs.Classes.{signature-keeps}
+use Rattle.sj_typed.proofs.Classes.{class-keeps, signature-keeps}
+use Rattle.sj_typed.proofs.Methods.{names_keep}
 
 module _ (w : World) (fs : List EmittedMethod) (e : EmittedMethod) (h : IsAccepted w fs e) where
   types : HaveTypes e.definition.params e.definition.name.params × (e.definition.result ≡ call_type e.definition.name.result)
@@ -27,6 +28,7 @@ module _ (w : World) (fs : List EmittedMethod) (e : EmittedMethod) (h : IsAccept
     parameters = subst (λ (n : MethodName). HaveTypes e.definition.params n.params) h.named types.0;
     result_is = types.1 ∙ ap (λ (n : MethodName). call_type n.result) h.named;
     rules = h.rules;
+    names = names_keep h.owner e.definition e.its_body h.has_body (class-keeps h.owner h.unbroken e.definition h.listed);
   }
 
   pub whole : IsWhole w fs e

@@ -8,7 +8,7 @@ use Rattle.sj_local.specs.declared.walks.Declaration.TheVariants as declaration
 use Rattle.sj_local.specs.Nodes.{Context, Node, node, inside, in_a_block, with_label, with_local, caught, behind, below, statements_below, all_below, cases_below}
 use Rattle.sj_local.specs.TreeRules.{declarations}
 use Rattle.sj_names.specs.declared.method_names.Namespace.{Namespace}
-use Rattle.sj_trees.specs.Term.{Term, Terms, no_terms, more_terms, Cases, no_cases, more_cases, var_def, skip, block_of, labeled, assign, return_to, if_then, while_loop, do_while, throw, try_catch, try_finally, match_on, new_object, select, apply, apply_statically, apply_static, unary_op, binary_op, is_instance_of, as_instance_of, log_line, store_module}
+use Rattle.sj_trees.specs.Term.{Term, Terms, no_terms, more_terms, Cases, no_cases, more_cases, var_def, skip, block_of, labeled, assign, return_to, if_then, while_loop, do_while, throw, try_catch, try_finally, match_on, new_object, new_array, array_value, array_length, array_select, select, apply, apply_statically, apply_static, unary_op, binary_op, is_instance_of, as_instance_of, log_line, store_module}
 use Rattle.sj_proper.specs.Locals.{Own, OwnAll, OwnCases}
 use Rattle.sj_proper.proofs.Equal.{is-equal}
 use Rattle.sj_names.proofs.Same.{impossible}
@@ -70,6 +70,9 @@ mutual
   own-declares (labeled p l t e) x y o = inr (own-declares e (with_label l x) y o)
   own-declares (assign p (select q d c f t) e) x y (inl o) = in-left (At x (select q d c f t)) (At x e) (declaration.Local y) (own-declares d x y o)
   own-declares (assign p (select q d c f t) e) x y (inr o) = in-right (At x (select q d c f t)) (At x e) (declaration.Local y) (own-declares e x y o)
+  own-declares (assign p (array_select q d i t) e) x y (inl o) = in-left (At x (array_select q d i t)) (At x e) (declaration.Local y) (in-left (At x d) (At x i) (declaration.Local y) (own-declares d x y o))
+  own-declares (assign p (array_select q d i t) e) x y (inr (inl o)) = in-left (At x (array_select q d i t)) (At x e) (declaration.Local y) (in-right (At x d) (At x i) (declaration.Local y) (own-declares i x y o))
+  own-declares (assign p (array_select q d i t) e) x y (inr (inr o)) = in-right (At x (array_select q d i t)) (At x e) (declaration.Local y) (own-declares e x y o)
   own-declares (assign p a e) x y o = in-right (At x a) (At x e) (declaration.Local y) (own-declares e x y o)
   own-declares (throw p e) x y o = own-declares e x y o
   own-declares (store_module p c e) x y o = own-declares e x y o
@@ -97,6 +100,11 @@ mutual
   own-declares (apply_statically p e c n m ts t) x y (inr o) = in-right (At x e) (all_below x ts) (declaration.Local y) (own-all ts x y o)
   own-declares (apply_static p c n m ts t) x y o = own-all ts x y o
   own-declares (unary_op p q e) x y o = own-declares e x y o
+  own-declares (new_array p r e) x y o = own-declares e x y o
+  own-declares (array_value p r ts) x y o = own-all ts x y o
+  own-declares (array_length p e) x y o = own-declares e x y o
+  own-declares (array_select p e i t) x y (inl o) = in-left (At x e) (At x i) (declaration.Local y) (own-declares e x y o)
+  own-declares (array_select p e i t) x y (inr o) = in-right (At x e) (At x i) (declaration.Local y) (own-declares i x y o)
   own-declares (is_instance_of p e t) x y o = own-declares e x y o
   own-declares (as_instance_of p e t) x y o = own-declares e x y o
   own-declares (binary_op p q e d) x y (inl o) = in-left (At x e) (At x d) (declaration.Local y) (own-declares e x y o)
@@ -175,6 +183,18 @@ module _ (owner : List ℕ) (space : Namespace) where
         let m = keep-behind owner space (At x (select q d c r t)) (At x e) h in
         let g = parts (At x (select q d c r t)) (At x e) f in
         (once d x x a refl l v.1.0 v.1.1 g.0 (out-left a (At x (select q d c r t)) (At x e) o), once e x x a refl l m.0 m.1 g.1 (out-right a (At x (select q d c r t)) (At x e) o), apart (Own d) (Own e) (At x (select q d c r t)) (At x e) (own-declares d x) (own-declares e x) g.2)
+    once (assign p (array_select q d i t) e) x y a z l k h f o =
+        let v = keep-front owner space (At x (array_select q d i t)) (At x e) h in
+        let m = keep-behind owner space (At x (array_select q d i t)) (At x e) h in
+        let g = parts (At x (array_select q d i t)) (At x e) f in
+        let r = out-left a (At x (array_select q d i t)) (At x e) o in
+        let w = two_by d i x a (once d x x a refl l) (once i x x a refl l) v.1 g.0 r in (
+          w.0,
+          w.1,
+          once e x x a refl l m.0 m.1 g.1 (out-right a (At x (array_select q d i t)) (At x e) o),
+          (λ u j n. ⊎_elim (λ n. w.2 u j n) (λ n. apart (Own d) (Own e) (At x (array_select q d i t)) (At x e) (λ u j. in-left (At x d) (At x i) (declaration.Local u) (own-declares d x u j)) (own-declares e x) g.2 u j n) n),
+          apart (Own i) (Own e) (At x (array_select q d i t)) (At x e) (λ u j. in-right (At x d) (At x i) (declaration.Local u) (own-declares i x u j)) (own-declares e x) g.2,
+        )
     once (assign p d e) x y a z l k h f o = let m = keep-behind owner space (At x d) (At x e) h in once e x x a refl l m.0 m.1 (parts (At x d) (At x e) f).1 (out-right a (At x d) (At x e) o)
     once (throw p e) x y a z l k h f o = once e x x a refl l h.0 h.1 f o
     once (store_module p c e) x y a z l k h f o = once e x x a refl l h.0 h.1 f o
@@ -225,6 +245,10 @@ module _ (owner : List ℕ) (space : Namespace) where
         )
     once (new_object p c m ts) x y a z l k h f o = once_all ts x a l h f o
     once (select p e c q t) x y a z l k h f o = once e x x a refl l h.0 h.1 f o
+    once (new_array p r e) x y a z l k h f o = once e x x a refl l h.0 h.1 f o
+    once (array_value p r ts) x y a z l k h f o = once_all ts x a l h f o
+    once (array_length p e) x y a z l k h f o = once e x x a refl l h.0 h.1 f o
+    once (array_select p e i t) x y a z l k h f o = two_by e i x a (once e x x a refl l) (once i x x a refl l) h f o
     once (apply p e m ts t) x y a z l k h f o =
         let g = parts (At x e) (all_below x ts) f in
         let v = keep-front owner space (At x e) (all_below x ts) h in

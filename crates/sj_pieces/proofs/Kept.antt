@@ -1,5 +1,5 @@
 -- The piece of a method keeps the rules of printing.
-use Rattle.std.proofs.Common.{Bool, true, false, List, [], ◌∷◌, ℕ, refl, arith}
+use Rattle.std.proofs.Common.{◌<◌, ◌^◌, Bool, true, false, List, [], ◌∷◌, ℕ, refl, arith}
 use Rattle.std.specs.Prelude.{All, IsTrue}
 use Rattle.std.proofs.lemmas.List.Elements.{All-nil, All-cons, All-head, All-tail}
 use Rattle.emit_questions.specs.Calls.{own_call, calls_in, calls_in_all, calls_of, calls_of_all, calls_of_cases}
@@ -11,9 +11,14 @@ use Rattle.sj_core.specs.declared.callees.Callee.{Callee}
 use Rattle.sj_core.specs.declared.callees.Callee.TheVariants as callees
 use Rattle.sj_emit_expr.specs.Members.{with_receiver, member_piece}
 use Rattle.sj_emit_expr.specs.Names.{variable_name, label_name}
-use Rattle.sj_emit_expr.specs.Templates.{unary_template, binary_template, is_nonzero_literal, choice_template, expression_template, expression_templates, statement_template, statement_templates, case_templates, parameter_names, called_member, looked_up_template, call_template}
-use Rattle.sj_emit_expr.specs.Tests.{test_template, cast_template}
+use Rattle.sj_emit_expr.specs.Templates.{zero_template, unary_template, binary_template, is_nonzero_literal, choice_template, expression_template, expression_templates, statement_template, statement_templates, case_templates, parameter_names, called_member, looked_up_template, call_template}
+use Rattle.sj_emit_expr.specs.Tests.{base_template, of_array, array_text, test_template, cast_template}
 use Rattle.sj_mangling.specs.declared.bindings.MethodBinding.TheVariants.{Dispatch, Reflective}
+use Rattle.sj_names.specs.References.{spelled_array}
+use Rattle.sj_names.specs.declared.references.ArrayRef.{ArrayRef}
+use Rattle.sj_names.specs.declared.references.BaseRef.{BaseRef}
+use Rattle.sj_names.specs.declared.references.BaseRef.TheVariants as bases
+use Rattle.sj_names.specs.declared.references.TypeRef.TheVariants as references
 use Rattle.sj_names.specs.declared.method_names.Member.{Member}
 use Rattle.sj_names.specs.declared.method_names.MethodName.{MethodName}
 use Rattle.sj_names.specs.declared.method_names.Namespace.{Namespace}
@@ -24,13 +29,16 @@ use Rattle.sj_trees.specs.declared.operators.BinaryOp.TheVariants.{StringConcate
 use Rattle.sj_trees.specs.declared.operators.UnaryOp.{UnaryOp}
 use Rattle.sj_trees.specs.declared.operators.UnaryOp.TheVariants.{BooleanNot, CharToInt, ByteToInt, ShortToInt, IntToLong, IntToChar, IntToByte, IntToShort, LongToInt}
 use Rattle.sj_trees.specs.declared.types.IrType.{IrType}
+use Rattle.sj_trees.specs.declared.types.IrType.TheVariants as types
 use Rattle.sj_trees.specs.declared.types.IrType.TheVariants.{Any, Array}
+use Rattle.sj_trees.specs.Types.{element_type}
 use Rattle.sj_pieces.specs.Fits.{RunsFit, TargetsFit}
 use Rattle.sj_pieces.specs.Keys.{IsKeyed, AreKeyed, HaveKeys, HasKeys}
 use Rattle.sj_pieces.specs.Owners.{MayCall, HasOwners, HaveOwners, IsOwned, AreOwned, CasesOwned, FieldsHaveOwners}
-use Rattle.sj_pieces.specs.Ranges.{AreBytes, FitsType, FitsMethodName, FitsMember, FitsCallee, FitsExpression, FitExpressions, FitsStatement, FitStatements, FitCases, FitsMethod}
-use Rattle.sj_pieces.proofs.Names.{variable-named, label-named, member-named, method-named, entry-named, class-named, test-named, cast-named, property-named, static-named, setter-named, load-named, store-named}
+use Rattle.sj_pieces.specs.Ranges.{AreBytes, FitsBase, FitsArray, FitsType, FitsMethodName, FitsMember, FitsCallee, FitsExpression, FitExpressions, FitsStatement, FitStatements, FitCases, FitsMethod}
+use Rattle.sj_pieces.proofs.Names.{reference-bytes, constants-named, element-setter-named, variable-named, label-named, member-named, method-named, entry-named, class-named, test-named, cast-named, property-named, static-named, setter-named, load-named, store-named}
 use Rattle.sj_pieces.proofs.Runs.{two, three, run-fits}
+use Rattle.sj_pieces.proofs.Units.{text-units}
 use Rattle.sj_pieces.proofs.Uses.{uses-named}
 
 unary-kept : (o : UnaryOp) (e : js.Expression) → IsExpression e → IsExpression (unary_template o e)
@@ -91,13 +99,43 @@ binary-kept nonzero LongGreaterOrEqual e g h k = (h, k)
 binary-kept nonzero binary.StrictEqual e g h k = (refl, (h, (k, tt)))
 binary-kept nonzero binary.StrictNotEqual e g h k = (refl, (h, (k, tt)))
 
+-- arrays
+letter-kept : (u : ℕ) → u < 2 ^ 16 → All IsUnit (u ∷ [])
+letter-kept u h = All-cons IsUnit u [] h (All-nil IsUnit)
+
+base-kept : (r : BaseRef) → FitsBase r → IsExpression (base_template r)
+base-kept bases.Boolean h = letter-kept 90 (omega arith)
+base-kept bases.Char h = letter-kept 67 (omega arith)
+base-kept bases.Byte h = letter-kept 66 (omega arith)
+base-kept bases.Short h = letter-kept 83 (omega arith)
+base-kept bases.Int h = letter-kept 73 (omega arith)
+base-kept bases.Long h = letter-kept 74 (omega arith)
+base-kept (bases.Class c) h = constants-named c h
+
+of-array-kept : (r : ArrayRef) (es : js.Expressions) → FitsArray r → IsExpressions es → IsExpressions (of_array r es)
+of-array-kept r es h k = let l : r.dimensions < 2 ^ 8 = h.0 in (omega (arith, l), (base-kept r.base h.1, k))
+
+array-text-kept : (r : ArrayRef) → FitsArray r → All IsUnit (array_text r)
+array-text-kept r h = text-units (spelled_array r) (reference-bytes (references.Array r) h.1)
+
+zero-kept : (t : IrType) → IsExpression (zero_template t)
+zero-kept types.Boolean = tt
+zero-kept types.Char = omega arith
+zero-kept types.Byte = omega arith
+zero-kept types.Short = omega arith
+zero-kept types.Int = omega arith
+zero-kept types.Long = omega arith
+zero-kept types.String = All-nil IsUnit
+zero-kept types.Undefined = tt
+zero-kept _ = tt
+
 test-kept : (t : IrType) (e : js.Expression) → FitsType t → IsExpression e → IsExpression (test_template t e)
-test-kept (Array r) e h k = tt
+test-kept (Array r) e h k = (refl, (k, of-array-kept r js.no_expressions h tt))
 test-kept t e h k = (test-named t h, (k, tt))
 
 cast-kept : (t : IrType) (e : js.Expression) → FitsType t → IsExpression e → IsExpression (cast_template t e)
 cast-kept Any e h k = k
-cast-kept (Array r) e h k = tt
+cast-kept (Array r) e h k = (refl, (k, of-array-kept r (js.expression (js.text_literal (array_text r)) js.no_expressions) h (array-text-kept r h, tt)))
 cast-kept t e h k = (cast-named t h, (k, tt))
 
 choice-kept : (c : js.Expression) (ss ts : js.Statements) → IsExpression c → AreStatements ss → AreStatements ts → IsStatement (choice_template c ss ts)
@@ -134,6 +172,10 @@ module _ (known : Lookup) where
     expression-kept (core.receiver_call k e es) h o r = let q = three known (calls_in e) (calls_in_all es) (own_call k) r in call-kept k e (expression_templates variable_name label_name known es) h.0 o.0 q.2 (expression-kept e h.1 o.1 q.0) (expressions-kept es h.2 o.2 q.1)
     expression-kept (core.test_of t e) h o r = test-kept t (expression_template variable_name label_name known e) h.0 (expression-kept e h.1 o r)
     expression-kept (core.cast_of t e) h o r = cast-kept t (expression_template variable_name label_name known e) h.0 (expression-kept e h.1 o r)
+    expression-kept (core.new_array_of a e) h o r = (refl, of-array-kept a (js.expression (expression_template variable_name label_name known e) (js.expression (zero_template (element_type a)) js.no_expressions)) h.0 (expression-kept e h.1 o r, (zero-kept (element_type a), tt)))
+    expression-kept (core.array_of a es) h o r = (refl, of-array-kept a (js.expression (js.list_of (expression_templates variable_name label_name known es)) js.no_expressions) h.0 (expressions-kept es h.1 o r, tt))
+    expression-kept (core.length_of e) h o r = (refl, (o.0 known, expression-kept e h o.1 r, refl), refl)
+    expression-kept (core.element_of e i) h o r = let q = two known (calls_in e) (calls_in i) r in (refl, (expression-kept e h.0 o.0 q.0, (expression-kept i h.1 o.1 q.1, tt)))
     expression-kept (core.unary_of u e) h o r = unary-kept u (expression_template variable_name label_name known e) (expression-kept e h o r)
     expression-kept (core.binary_of b e g) h o r = let q = two known (calls_in e) (calls_in g) r in binary-kept (is_nonzero_literal g) b (expression_template variable_name label_name known e) (expression_template variable_name label_name known g) (expression-kept e h.0 o.0 q.0) (expression-kept g h.1 o.1 q.1)
     expression-kept _ h o r = tt
@@ -153,6 +195,7 @@ module _ (known : Lookup) where
     statement-kept (core.log_of p e) h k o r = expression-kept e h o r
     statement-kept (core.assign_field p e c f g) h k o r = let q = two known (calls_in e) (calls_in g) r in (o.0 known, expression-kept e h.0 o.1 q.0, property-named c f h.1 h.2, expression-kept g h.3 o.2 q.1)
     statement-kept (core.assign_static p c f e) h k o r = (setter-named c f h.0 h.1, (expression-kept e h.2 o r, tt))
+    statement-kept (core.assign_element p t e i g) h k o r = let q = three known (calls_in e) (calls_in i) (calls_in g) r in (element-setter-named t, (expression-kept e h.0 o.0 q.0, (expression-kept i h.1 o.1 q.1, (expression-kept g h.2 o.2 q.2, tt))))
     statement-kept (core.store_module_of p c e) h k o r = (store-named c h.0, (expression-kept e h.1 o r, tt))
     statement-kept (core.throw_of p e) h k o r = expression-kept e h o r
     statement-kept (core.leave_label p l) h k o r = label-named l h

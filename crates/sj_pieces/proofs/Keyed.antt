@@ -4,19 +4,19 @@ use Rattle.sj_core.specs.Terms as core
 use Rattle.sj_core.specs.Terms.{followed}
 use Rattle.sj_core.specs.Views.{expressions_of}
 use Rattle.sj_core.specs.declared.callees.Callee.TheVariants as callees
-use Rattle.sj_desugar.specs.Coercions.{coerced, coerced_arguments, coerced_receiver}
-use Rattle.sj_desugar.specs.Desugar.{operand, into, block, operands, cases, finish, has_no_value, target_of, Targets, expression_of, labeled_code, leaving_code, wrapped, branches, break_unless, switch_code, first_of, second_of, rest_of, member, callee_of, types_of, received, receiver, desugared, desugared_member, completed, body_code, is_mutable_in, result_destination}
+use Rattle.sj_desugar.specs.Coercions.{coerced, coerced_arguments, coerced_items, coerced_receiver}
+use Rattle.sj_desugar.specs.Desugar.{operand, into, block, operands, cases, finish, has_no_value, target_of, Targets, expression_of, labeled_code, leaving_code, wrapped, branches, break_unless, switch_code, first_of, second_of, third_of, rest_of, member, callee_of, types_of, received, receiver, desugared, desugared_member, completed, body_code, is_mutable_in, result_destination}
 use Rattle.sj_desugar.specs.Finalizers.{kept, keep_all, give_all_back, finalizer_code}
 use Rattle.sj_desugar.specs.Plain.{is_plain}
 use Rattle.sj_desugar.specs.Spill.{Destination, discard, to_variable, to_result, Code, one, put_first, Operand, all_plain, Spilled, spill, spill_case, then_use}
 use Rattle.sj_desugar.specs.Texts.{operand_of}
-use Rattle.sj_trees.specs.Term.{Term, Terms, no_terms, more_terms, Cases, no_cases, more_cases, var_def, block_of, labeled, assign, return_to, if_then, while_loop, do_while, try_catch, try_finally, match_on, throw, new_object, load_module, store_module, select, select_static, apply, apply_statically, apply_static, unary_op, binary_op, is_instance_of, as_instance_of, undefined_literal, null_literal, boolean_literal, char_literal, byte_literal, short_literal, int_literal, long_literal, string_literal, var_ref, this_ref, log_line}
+use Rattle.sj_trees.specs.Term.{Term, Terms, no_terms, more_terms, Cases, no_cases, more_cases, var_def, block_of, labeled, assign, return_to, if_then, while_loop, do_while, try_catch, try_finally, match_on, throw, new_object, load_module, store_module, select, select_static, apply, apply_statically, apply_static, unary_op, binary_op, new_array, array_value, array_length, array_select, is_instance_of, as_instance_of, undefined_literal, null_literal, boolean_literal, char_literal, byte_literal, short_literal, int_literal, long_literal, string_literal, var_ref, this_ref, log_line}
 use Rattle.sj_trees.specs.TypeOf.{type_of_term, unary_result, binary_result}
 use Rattle.sj_trees.specs.declared.classes.MethodDef.{MethodDef}
-use Rattle.sj_trees.specs.Types.{class_type}
+use Rattle.sj_trees.specs.Types.{class_type, element_type}
 use Rattle.sj_trees.specs.declared.positions.Position.{Position}
 use Rattle.sj_trees.specs.declared.types.IrType.{IrType}
-use Rattle.sj_trees.specs.declared.types.IrType.TheVariants.{Any, Undefined, Null, Boolean, Char, Byte, Short, Int, Long, String}
+use Rattle.sj_trees.specs.declared.types.IrType.TheVariants.{Any, Array, Undefined, Null, Boolean, Char, Byte, Short, Int, Long, String}
 use Rattle.sj_names.specs.declared.method_names.Namespace.{Namespace}
 use Rattle.sj_names.specs.declared.method_names.Namespace.TheVariants.{Public, PublicStatic, Private, PrivateStatic, Constructor}
 use Rattle.sure_receivers.specs.Sure.{is_sure, sure_locals}
@@ -116,6 +116,7 @@ module _ (is_mutable sure : List ℕ → Bool) where
     keyed (assign p (var_ref q x t) e) = λ ts k j. act_keyed e (keyed e) ts j (λ es. one (core.assign_to (Some p) (core.named x) (coerced t (type_of_term e) (first_of es)))) (λ es i. (tt, tt))
     keyed (assign p (select q d c f t) e) = λ ts k j. use-keyed (owner_of ts d ∷ one_of ts e) (owner_keyed d (keyed d) ts, ((λ x t i. keyed e ts (to_variable x t) i), tt)) j (λ es. one (core.assign_field (Some p) (first_of es) c f (coerced t (type_of_term e) (second_of es)))) (λ es i. (tt, tt))
     keyed (assign p (select_static q c f t) e) = λ ts k j. act_keyed e (keyed e) ts j (λ es. one (core.assign_static (Some p) c f (coerced t (type_of_term e) (first_of es)))) (λ es i. (tt, tt))
+    keyed (assign p (array_select q d x t) e) = λ ts k j. use-keyed (owner_of ts d ∷ operand is_mutable sure x (λ k j. into is_mutable sure ts k j x) ∷ one_of ts e) (owner_keyed d (keyed d) ts, ((λ y t i. keyed x ts (to_variable y t) i), ((λ y t i. keyed e ts (to_variable y t) i), tt))) j (λ es. one (core.assign_element (Some p) t (first_of es) (second_of es) (coerced t (type_of_term e) (third_of es)))) (λ es i. (tt, tt))
     keyed (return_to p e l) = λ ts k j. leaving-keyed (target_of ts l) p l (into is_mutable sure ts (target_of ts l) j e) (keyed e ts (target_of ts l) j)
     keyed (if_then p c a b t) = λ ts k j. act_keyed c (keyed c) ts j (λ es j. branches p (first_of es) (into is_mutable sure ts k j a) (λ j. into is_mutable sure ts k j b)) (λ es i. ((keyed a ts k i, keyed b ts k (into is_mutable sure ts k i a).next), tt))
     keyed (while_loop p c b) = λ ts k j. either-keyed (is_plain c) (wrapped (core.while_of (Some p) (expression_of sure c)) (into is_mutable sure ts discard j b)) (wrapped (core.while_of (Some p) (core.boolean_value true)) (then_use (spill (one_of ts c) j) (λ es j. put_first (break_unless (first_of es)) (into is_mutable sure ts discard j b)))) (keyed b ts discard j, tt) (act_keyed c (keyed c) ts j (λ es j. put_first (break_unless (first_of es)) (into is_mutable sure ts discard j b)) (λ es i. (((tt, tt), tt), keyed b ts discard i)), tt)
@@ -136,6 +137,10 @@ module _ (is_mutable sure : List ℕ → Bool) where
     keyed (unary_op p o e) = λ ts k j. act_keyed e (keyed e) ts j (λ es. finish k p (unary_result o) false (core.unary_of o (first_of es))) (λ es i. finish-keyed k p (unary_result o) false (core.unary_of o (first_of es)) i)
     keyed (is_instance_of p e t) = λ ts k j. act_keyed e (keyed e) ts j (λ es. finish k p Boolean false (core.test_of t (coerced Any (type_of_term e) (first_of es)))) (λ es i. finish-keyed k p Boolean false (core.test_of t (coerced Any (type_of_term e) (first_of es))) i)
     keyed (as_instance_of p e t) = λ ts k j. act_keyed e (keyed e) ts j (λ es. finish k p t false (core.cast_of t (coerced Any (type_of_term e) (first_of es)))) (λ es i. finish-keyed k p t false (core.cast_of t (coerced Any (type_of_term e) (first_of es))) i)
+    keyed (new_array p r e) = λ ts k j. act_keyed e (keyed e) ts j (λ es. finish k p (Array r) false (core.new_array_of r (first_of es))) (λ es i. finish-keyed k p (Array r) false (core.new_array_of r (first_of es)) i)
+    keyed (array_value p r es) = λ ts k j. use-keyed (operands is_mutable sure ts es) (keyed_operands es ts) j (λ xs. finish k p (Array r) false (core.array_of r (expressions_of (coerced_items (element_type r) (types_of es) xs)))) (λ xs i. finish-keyed k p (Array r) false (core.array_of r (expressions_of (coerced_items (element_type r) (types_of es) xs))) i)
+    keyed (array_length p e) = λ ts k j. use-keyed (owner_of ts e ∷ []) (owner_keyed e (keyed e) ts, tt) j (λ es. finish k p Int false (core.length_of (first_of es))) (λ es i. finish-keyed k p Int false (core.length_of (first_of es)) i)
+    keyed (array_select p e x t) = λ ts k j. use-keyed (owner_of ts e ∷ one_of ts x) (owner_keyed e (keyed e) ts, ((λ y t i. keyed x ts (to_variable y t) i), tt)) j (λ es. finish k p t false (core.element_of (first_of es) (second_of es))) (λ es i. finish-keyed k p t false (core.element_of (first_of es) (second_of es)) i)
     keyed (binary_op p o e b) = λ ts k j. use-keyed (operand is_mutable sure e (λ k j. into is_mutable sure ts k j e) ∷ one_of ts b) ((λ x t i. keyed e ts (to_variable x t) i), ((λ x t i. keyed b ts (to_variable x t) i), tt)) j (λ es. finish k p (binary_result o) false (core.binary_of o (operand_of o (type_of_term e) (first_of es)) (operand_of o (type_of_term b) (second_of es)))) (λ es i. finish-keyed k p (binary_result o) false (core.binary_of o (operand_of o (type_of_term e) (first_of es)) (operand_of o (type_of_term b) (second_of es))) i)
     keyed (undefined_literal p) = λ ts k j. finish-keyed k p Undefined true core.undefined_value j
     keyed (null_literal p) = λ ts k j. finish-keyed k p Null true core.null_value j

@@ -4,4 +4,5 @@ pub mod Lists
 pub mod Names
 pub mod Owned
 pub mod Runs
+pub mod Units
 pub mod Uses

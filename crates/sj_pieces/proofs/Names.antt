@@ -12,9 +12,10 @@ use Rattle.js_tree.specs.Names.{is_name_character}
 use Rattle.js_tree.specs.Rules.{IsName, IsProperty}
 use Rattle.sj_core.specs.Terms.{Variable, named, numbered, receiver}
 use Rattle.sj_emit_expr.specs.Names.{variable_name, label_name}
-use Rattle.sj_emit_expr.specs.Templates.{member_name, class_name, property_name, static_name, setter_name, load_name, store_name}
+use Rattle.sj_emit_expr.specs.Templates.{member_name, class_name, property_name, static_name, setter_name, load_name, store_name, element_setter}
 use Rattle.sj_emit_expr.specs.Tests.{test_name, cast_name}
-use Rattle.sj_mangling.specs.Bindings.{function_name, method_binding}
+use Rattle.sj_mangling.specs.Bindings.{function_name, class_binding, method_binding}
+use Rattle.sj_mangling.specs.declared.bindings.ClassBinding.TheVariants.{Constants}
 use Rattle.sj_mangling.specs.declared.bindings.MethodBinding.{MethodBinding}
 use Rattle.sj_mangling.specs.declared.bindings.MethodBinding.TheVariants.{Entry, Dispatch, Reflective}
 use Rattle.sj_mangling.specs.Mangling.{is_alphanumeric, mangled_byte, mangled}
@@ -31,7 +32,7 @@ use Rattle.sj_names.specs.declared.method_names.MethodName.{MethodName}
 use Rattle.sj_names.specs.declared.method_names.Namespace.{Namespace}
 use Rattle.sj_names.specs.declared.method_names.Namespace.TheVariants.{Public, PublicStatic, Private, PrivateStatic, Constructor}
 use Rattle.sj_trees.specs.declared.types.IrType.{IrType}
-use Rattle.sj_trees.specs.declared.types.IrType.TheVariants.{Undefined, Boolean, Char, Byte, Short, Int, Long, Class}
+use Rattle.sj_trees.specs.declared.types.IrType.TheVariants.{Undefined, Boolean, Char, Byte, Short, Int, Long, String, Null, Class}
 use Rattle.sj_pieces.specs.Ranges.{AreBytes, FitsBase, FitsReference, FitsType, FitsMethodName, FitsMember, FitsVariable}
 
 -- spellings are texts of bytes
@@ -54,7 +55,7 @@ replicated-bytes : (n b : ℕ) → b < 2 ^ 8 → AreBytes (replicate n b)
 replicated-bytes zero b h = All-nil IsByte
 replicated-bytes (suc n) b h = All-cons IsByte b (replicate n b) h (replicated-bytes n b h)
 
-reference-bytes : (r : TypeRef) → FitsReference r → AreBytes (spelled r)
+pub reference-bytes : (r : TypeRef) → FitsReference r → AreBytes (spelled r)
 reference-bytes types.Void h = letter-bytes 86 (omega arith)
 reference-bytes types.Boolean h = letter-bytes 90 (omega arith)
 reference-bytes types.Char h = letter-bytes 67 (omega arith)
@@ -136,6 +137,9 @@ function-named Constructor class method bytes others = rw (function-rest class m
 pub class-named : (c : List ℕ) → AreBytes c → IsName (class_name c)
 class-named c bytes = rw (mangled-characters c bytes) refl
 
+pub constants-named : (c : List ℕ) → AreBytes c → IsName (class_binding Constants c)
+constants-named c bytes = rw (mangled-characters c bytes) refl
+
 pub load-named : (c : List ℕ) → AreBytes c → IsName (load_name c)
 load-named c bytes = rw (mangled-characters c bytes) refl
 
@@ -163,6 +167,18 @@ cast-named Int h = refl
 cast-named Long h = refl
 cast-named (Class c) h = rw (mangled-characters c h) refl
 cast-named _ h = refl
+
+pub element-setter-named : (t : IrType) → IsName (element_setter t)
+element-setter-named Undefined = refl
+element-setter-named Boolean = refl
+element-setter-named Char = refl
+element-setter-named Byte = refl
+element-setter-named Short = refl
+element-setter-named Int = refl
+element-setter-named Long = refl
+element-setter-named String = refl
+element-setter-named Null = refl
+element-setter-named _ = refl
 
 field-rest : (c f : List ℕ) → AreBytes c → AreBytes f → AreCharacters ((mangled c ++ codes "__") ++ mangled f)
 field-rest c f bytes others = both (mangled c ++ codes "__") (mangled f) (both (mangled c) (codes "__") (mangled-characters c bytes) refl) (mangled-characters f others)

@@ -9,8 +9,8 @@ use Rattle.sj_core.specs.Terms.{followed}
 use Rattle.sj_core.specs.Views.{expressions_of}
 use Rattle.sj_core.specs.declared.callees.Callee.{Callee}
 use Rattle.sj_core.specs.declared.callees.Callee.TheVariants as callees
-use Rattle.sj_desugar.specs.Coercions.{coerced, coerced_arguments, coerced_receiver}
-use Rattle.sj_desugar.specs.Desugar.{operand, into, block, operands, cases, finish, has_no_value, target_of, Targets, expression_of, all_expressions, labeled_code, leaving_code, wrapped, branches, break_unless, switch_code, first_of, second_of, rest_of, member, named_by, callee_of, types_of, received_text, received, receiver, desugared, desugared_member, completed, body_code, is_mutable_in, result_destination}
+use Rattle.sj_desugar.specs.Coercions.{coerced, coerced_arguments, coerced_items, coerced_receiver}
+use Rattle.sj_desugar.specs.Desugar.{operand, into, block, operands, cases, finish, has_no_value, target_of, Targets, expression_of, all_expressions, labeled_code, leaving_code, wrapped, branches, break_unless, switch_code, first_of, second_of, third_of, rest_of, member, named_by, callee_of, types_of, received_text, received, receiver, desugared, desugared_member, completed, body_code, is_mutable_in, result_destination}
 use Rattle.sj_desugar.specs.Finalizers.{kept, keep_all, give_all_back, finalizer_code}
 use Rattle.sj_desugar.specs.Plain.{is_plain}
 use Rattle.sj_desugar.specs.Spill.{Destination, discard, to_variable, to_result, Code, one, put_first, Operand, all_plain, texts, Spilled, spill, spill_case, then_use}
@@ -22,9 +22,9 @@ use Rattle.sj_names.specs.declared.method_names.MethodName.{MethodName}
 use Rattle.sj_names.specs.declared.method_names.Namespace.{Namespace}
 use Rattle.sj_names.specs.declared.method_names.Namespace.TheVariants.{Public, PublicStatic, Private, PrivateStatic, Constructor}
 use Rattle.sj_names.specs.declared.references.TypeRef.{TypeRef}
-use Rattle.sj_trees.specs.Term.{Term, Terms, no_terms, more_terms, Cases, no_cases, more_cases, var_def, block_of, labeled, assign, return_to, if_then, while_loop, do_while, try_catch, try_finally, match_on, throw, new_object, load_module, store_module, select, select_static, apply, apply_statically, apply_static, unary_op, binary_op, is_instance_of, as_instance_of, undefined_literal, null_literal, boolean_literal, char_literal, byte_literal, short_literal, int_literal, long_literal, string_literal, var_ref, this_ref, log_line}
+use Rattle.sj_trees.specs.Term.{Term, Terms, no_terms, more_terms, Cases, no_cases, more_cases, var_def, block_of, labeled, assign, return_to, if_then, while_loop, do_while, try_catch, try_finally, match_on, throw, new_object, load_module, store_module, select, select_static, apply, apply_statically, apply_static, unary_op, binary_op, new_array, array_value, array_length, array_select, is_instance_of, as_instance_of, undefined_literal, null_literal, boolean_literal, char_literal, byte_literal, short_literal, int_literal, long_literal, string_literal, var_ref, this_ref, log_line}
 use Rattle.sj_trees.specs.TypeOf.{type_of_term, unary_result, binary_result}
-use Rattle.sj_trees.specs.Types.{class_type, reference_type}
+use Rattle.sj_trees.specs.Types.{class_type, element_type, reference_type}
 use Rattle.sj_trees.specs.declared.classes.MethodDef.{MethodDef}
 use Rattle.sj_trees.specs.declared.operators.BinaryOp.{BinaryOp}
 use Rattle.sj_trees.specs.declared.operators.BinaryOp.TheVariants.{StringConcatenate, StrictEqual, StrictNotEqual, IntDivide, IntRemainder, LongDivide, LongRemainder}
@@ -77,6 +77,11 @@ arguments-owned (r ∷ rs) [] es h = each-owned es h
 arguments-owned (r ∷ rs) (t ∷ ts) [] h = tt
 arguments-owned (r ∷ rs) (t ∷ ts) (e ∷ es) h = (coerced-owned (reference_type r) t e h.0, arguments-owned rs ts es h.1)
 
+items-owned : (u : IrType) (ts : List IrType) (es : List core.Expression) → EachOwned es → HaveOwners (expressions_of (coerced_items u ts es))
+items-owned u [] es h = each-owned es h
+items-owned u (t ∷ ts) [] h = tt
+items-owned u (t ∷ ts) (e ∷ es) h = (coerced-owned u t e h.0, items-owned u ts es h.1)
+
 first-owned : (es : List core.Expression) → EachOwned es → HasOwners (first_of es)
 first-owned [] h = tt
 first-owned (e ∷ es) h = h.0
@@ -84,6 +89,10 @@ first-owned (e ∷ es) h = h.0
 second-owned : (es : List core.Expression) → EachOwned es → HasOwners (second_of es)
 second-owned [] h = tt
 second-owned (e ∷ es) h = first-owned es h.1
+
+third-owned : (es : List core.Expression) → EachOwned es → HasOwners (third_of es)
+third-owned [] h = tt
+third-owned (e ∷ es) h = second-owned es h.1
 
 rest-owned : (es : List core.Expression) → EachOwned es → EachOwned (rest_of es)
 rest-owned [] h = tt
@@ -190,6 +199,10 @@ module _ (sure : List ℕ → Bool) where
     expression-owned (apply_statically p e c n m ts t) h = (tt, boxed-owned _ (received_text (is_sure sure e) (expression_of sure e)) (received-owned (is_sure sure e) (expression_of sure e) (expression-owned e h.0)), arguments-owned m.params (types_of ts) (all_expressions sure ts) (expressions-owned ts h.1))
     expression-owned (new_object p c m ts) h = arguments-owned m.params (types_of ts) (all_expressions sure ts) (expressions-owned ts h)
     expression-owned (select p e c f t) h = (received-owns (is_sure sure e) (expression_of sure e) (λ k. may-own e k h.0), received-owned (is_sure sure e) (expression_of sure e) (expression-owned e h.1))
+    expression-owned (new_array p r e) h = expression-owned e h
+    expression-owned (array_value p r ts) h = items-owned (element_type r) (types_of ts) (all_expressions sure ts) (expressions-owned ts h)
+    expression-owned (array_length p e) h = (received-owns (is_sure sure e) (expression_of sure e) (λ k. may-own e k h.0), received-owned (is_sure sure e) (expression_of sure e) (expression-owned e h.1))
+    expression-owned (array_select p e i t) h = (received-owned (is_sure sure e) (expression_of sure e) (expression-owned e h.1), expression-owned i h.2)
     expression-owned (unary_op p o e) h = expression-owned e h
     expression-owned (is_instance_of p e t) h = coerced-owned Any (type_of_term e) (expression_of sure e) (expression-owned e h)
     expression-owned (as_instance_of p e t) h = coerced-owned Any (type_of_term e) (expression_of sure e) (expression-owned e h)
@@ -327,6 +340,7 @@ module _ (is_mutable sure : List ℕ → Bool) where
     owned (assign p (var_ref q x t) e) h = λ ts k j. act_owned e h (owned e h) ts j (λ es. one (core.assign_to (Some p) (core.named x) (coerced t (type_of_term e) (first_of es)))) (λ es i f. (coerced-owned t (type_of_term e) (first_of es) f, tt))
     owned (assign p (select q d c f t) e) h = λ ts k j. use-object (owner_in ts d) (operand_in ts e ∷ []) (owner_owns d h.0 ts) (owner_owned d h.1 (owned d h.1) ts, (part_owned e h.2 (owned e h.2) ts, tt)) j (λ es. one (core.assign_field (Some p) (first_of es) c f (coerced t (type_of_term e) (second_of es)))) (λ es i m g. ((m, first-owned es g, coerced-owned t (type_of_term e) (second_of es) (second-owned es g)), tt))
     owned (assign p (select_static q c f t) e) h = λ ts k j. act_owned e h (owned e h) ts j (λ es. one (core.assign_static (Some p) c f (coerced t (type_of_term e) (first_of es)))) (λ es i g. (coerced-owned t (type_of_term e) (first_of es) g, tt))
+    owned (assign p (array_select q d x t) e) h = λ ts k j. use-owned (owner_in ts d ∷ operand_in ts x ∷ operand_in ts e ∷ []) (owner_owned d h.1 (owned d h.1) ts, (part_owned x h.2 (owned x h.2) ts, (part_owned e h.3 (owned e h.3) ts, tt))) j (λ es. one (core.assign_element (Some p) t (first_of es) (second_of es) (coerced t (type_of_term e) (third_of es)))) (λ es i f. ((first-owned es f, second-owned es f, coerced-owned t (type_of_term e) (third_of es) (third-owned es f)), tt))
     owned (return_to p e l) h = λ ts k j. leaving-owned (target_of ts l) p l (into is_mutable sure ts (target_of ts l) j e) (owned e h ts (target_of ts l) j)
     owned (if_then p c a b t) h = λ ts k j. act_owned c h.0 (owned c h.0) ts j (λ es j. branches p (first_of es) (into is_mutable sure ts k j a) (λ j. into is_mutable sure ts k j b)) (λ es i f. ((f, owned a h.1 ts k i, owned b h.2 ts k (into is_mutable sure ts k i a).next), tt))
     owned (while_loop p c b) h = λ ts k j. either-owned (is_plain c) (wrapped (core.while_of (Some p) (expression_of sure c)) (into is_mutable sure ts discard j b)) (wrapped (core.while_of (Some p) (core.boolean_value true)) (then_use (spill (operand_in ts c ∷ []) j) (λ es j. put_first (break_unless (first_of es)) (into is_mutable sure ts discard j b)))) ((expression-owned sure c h.0, owned b h.1 ts discard j), tt) ((tt, act_owned c h.0 (owned c h.0) ts j (λ es j. put_first (break_unless (first_of es)) (into is_mutable sure ts discard j b)) (λ es i f. ((f, (tt, tt), tt), owned b h.1 ts discard i))), tt)
@@ -347,6 +361,10 @@ module _ (is_mutable sure : List ℕ → Bool) where
     owned (unary_op p o e) h = λ ts k j. act_owned e h (owned e h) ts j (λ es. finish k p (unary_result o) false (core.unary_of o (first_of es))) (λ es i f. finish-owned k p (unary_result o) false (core.unary_of o (first_of es)) i f)
     owned (is_instance_of p e t) h = λ ts k j. act_owned e h (owned e h) ts j (λ es. finish k p Boolean false (core.test_of t (coerced Any (type_of_term e) (first_of es)))) (λ es i f. finish-owned k p Boolean false (core.test_of t (coerced Any (type_of_term e) (first_of es))) i (coerced-owned Any (type_of_term e) (first_of es) f))
     owned (as_instance_of p e t) h = λ ts k j. act_owned e h (owned e h) ts j (λ es. finish k p t false (core.cast_of t (coerced Any (type_of_term e) (first_of es)))) (λ es i f. finish-owned k p t false (core.cast_of t (coerced Any (type_of_term e) (first_of es))) i (coerced-owned Any (type_of_term e) (first_of es) f))
+    owned (new_array p r e) h = λ ts k j. act_owned e h (owned e h) ts j (λ es. finish k p (Array r) false (core.new_array_of r (first_of es))) (λ es i f. finish-owned k p (Array r) false (core.new_array_of r (first_of es)) i f)
+    owned (array_value p r es) h = λ ts k j. use-owned (operands is_mutable sure ts es) (owned_operands es h ts) j (λ xs. finish k p (Array r) false (core.array_of r (expressions_of (coerced_items (element_type r) (types_of es) xs)))) (λ xs i f. finish-owned k p (Array r) false (core.array_of r (expressions_of (coerced_items (element_type r) (types_of es) xs))) i (items-owned (element_type r) (types_of es) xs f))
+    owned (array_length p e) h = λ ts k j. use-object (owner_in ts e) [] (owner_owns e h.0 ts) (owner_owned e h.1 (owned e h.1) ts, tt) j (λ es. finish k p Int false (core.length_of (first_of es))) (λ es i m g. finish-owned k p Int false (core.length_of (first_of es)) i (m, first-owned es g))
+    owned (array_select p e x t) h = λ ts k j. use-owned (owner_in ts e ∷ operand_in ts x ∷ []) (owner_owned e h.1 (owned e h.1) ts, (part_owned x h.2 (owned x h.2) ts, tt)) j (λ es. finish k p t false (core.element_of (first_of es) (second_of es))) (λ es i f. finish-owned k p t false (core.element_of (first_of es) (second_of es)) i (first-owned es f, second-owned es f))
     owned (binary_op p o e b) h = λ ts k j. use-owned (operand_in ts e ∷ operand_in ts b ∷ []) (part_owned e h.0 (owned e h.0) ts, (part_owned b h.1 (owned b h.1) ts, tt)) j (λ es. finish k p (binary_result o) false (core.binary_of o (operand_of o (type_of_term e) (first_of es)) (operand_of o (type_of_term b) (second_of es)))) (λ es i f. finish-owned k p (binary_result o) false (core.binary_of o (operand_of o (type_of_term e) (first_of es)) (operand_of o (type_of_term b) (second_of es))) i (operand-owned o (type_of_term e) (first_of es) (first-owned es f), operand-owned o (type_of_term b) (second_of es) (second-owned es f)))
     owned (undefined_literal p) h = λ ts k j. finish-owned k p Undefined true core.undefined_value j tt
     owned (null_literal p) h = λ ts k j. finish-owned k p Null true core.null_value j tt

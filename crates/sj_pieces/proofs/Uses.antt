@@ -10,20 +10,23 @@ use Rattle.sj_core.specs.Lookup.{Lookup}
 use Rattle.sj_core.specs.Terms as core
 use Rattle.sj_core.specs.declared.callees.Callee.{Callee}
 use Rattle.sj_core.specs.declared.callees.Callee.TheVariants as callees
-use Rattle.sj_emit_expr.specs.Templates.{check_name, is_nonzero_literal, called_member}
+use Rattle.sj_emit_expr.specs.Templates.{check_name, element_setter, is_nonzero_literal, called_member}
 use Rattle.sj_emit_expr.specs.Tests.{test_name, cast_name, same_name}
-use Rattle.sj_emit_expr.specs.Uses.{looked_up_uses, call_uses, object_binding, function_binding, class_use, static_use, setter_use, load_use, store_use, helper_of, test_uses, cast_uses, uses_in, uses_in_all, uses_of, uses_of_all, uses_of_cases, is_same_binding, once_each, uses}
-use Rattle.sj_mangling.specs.Bindings.{method_binding}
+use Rattle.sj_emit_expr.specs.Uses.{looked_up_uses, call_uses, object_binding, function_binding, class_use, static_use, setter_use, load_use, store_use, helper_of, test_uses, cast_uses, base_uses, type_uses, uses_in, uses_in_all, uses_of, uses_of_all, uses_of_cases, is_same_binding, once_each, uses}
+use Rattle.sj_mangling.specs.Bindings.{class_binding, method_binding}
+use Rattle.sj_mangling.specs.declared.bindings.ClassBinding.TheVariants.{Constants}
 use Rattle.sj_mangling.specs.declared.bindings.MethodBinding.TheVariants.{Dispatch, Reflective}
 use Rattle.sj_names.specs.declared.method_names.MethodName.{MethodName}
+use Rattle.sj_names.specs.declared.references.BaseRef.{BaseRef}
+use Rattle.sj_names.specs.declared.references.BaseRef.TheVariants as bases
 use Rattle.sj_trees.specs.declared.operators.BinaryOp.{BinaryOp}
 use Rattle.sj_trees.specs.declared.operators.BinaryOp.TheVariants.{StrictEqual, StrictNotEqual, IntDivide, IntRemainder, LongDivide, LongRemainder}
 use Rattle.sj_trees.specs.declared.types.IrType.{IrType}
 use Rattle.sj_trees.specs.declared.types.IrType.TheVariants.{Any, Class, Array}
 use Rattle.sj_pieces.specs.Fits.{RunsFit}
-use Rattle.sj_pieces.specs.Ranges.{FitsType, FitsMethodName, FitsCallee, FitsExpression, FitExpressions, FitsStatement, FitStatements, FitCases}
+use Rattle.sj_pieces.specs.Ranges.{FitsBase, FitsType, FitsMethodName, FitsCallee, FitsExpression, FitExpressions, FitsStatement, FitStatements, FitCases}
 use Rattle.sj_pieces.proofs.Runs.{two, three, run-fits}
-use Rattle.sj_pieces.proofs.Names.{member-named, method-named, class-named, test-named, cast-named, static-named, setter-named, load-named, store-named}
+use Rattle.sj_pieces.proofs.Names.{member-named, method-named, class-named, constants-named, test-named, cast-named, static-named, setter-named, load-named, store-named, element-setter-named}
 
 abbrev Named : List Binding → Type 0
 Named bs = All IsBinding bs
@@ -45,14 +48,20 @@ helper-named _ _ = none
 
 test-uses-named : (t : IrType) → FitsType t → Named (test_uses t)
 test-uses-named (Class c) h = All-cons IsBinding (record { owner = c; name = test_name (Class c) }) [] (test-named (Class c) h) none
-test-uses-named (Array r) h = none
 test-uses-named t h = All-cons IsBinding (object_binding (test_name t)) [] (test-named t h) none
 
 cast-uses-named : (t : IrType) → FitsType t → Named (cast_uses t)
 cast-uses-named Any h = none
 cast-uses-named (Class c) h = All-cons IsBinding (record { owner = c; name = cast_name (Class c) }) [] (cast-named (Class c) h) none
-cast-uses-named (Array r) h = none
 cast-uses-named t h = All-cons IsBinding (object_binding (cast_name t)) [] (cast-named t h) none
+
+base-uses-named : (r : BaseRef) → FitsBase r → Named (base_uses r)
+base-uses-named (bases.Class c) h = All-cons IsBinding (record { owner = c; name = class_binding Constants c }) [] (constants-named c h) none
+base-uses-named _ h = none
+
+type-uses-named : (t : IrType) → FitsType t → Named (type_uses t)
+type-uses-named (Array r) h = base-uses-named r.base h.1
+type-uses-named _ h = none
 
 -- what calls name
 looked-up-named : (mixed : Bool) (m : MethodName) → FitsMethodName m → Named (looked_up_uses mixed m)
@@ -79,8 +88,12 @@ module _ (known : Lookup) where
     in-named (core.checked_value e) h f = All-cons IsBinding (object_binding check_name) (uses_in known e) refl (in-named e h f)
     in-named (core.made_of m es) h f = All-cons IsBinding (function_binding m) (class_use m.class ∷ uses_in_all known es) (member-named m h.0) (All-cons IsBinding (class_use m.class) (uses_in_all known es) (class-named m.class h.0.0) (all-named es h.1 f))
     in-named (core.receiver_call k e es) h f = let p = three known (calls_in e) (calls_in_all es) (own_call k) f in after (call_uses known k ++ uses_in known e) (uses_in_all known es) (after (call_uses known k) (uses_in known e) (call-named known k h.0 p.2) (in-named e h.1 p.0)) (all-named es h.2 p.1)
-    in-named (core.test_of t e) h f = after (test_uses t) (uses_in known e) (test-uses-named t h.0) (in-named e h.1 f)
-    in-named (core.cast_of t e) h f = after (cast_uses t) (uses_in known e) (cast-uses-named t h.0) (in-named e h.1 f)
+    in-named (core.test_of t e) h f = after (test_uses t ++ uses_in known e) (type_uses t) (after (test_uses t) (uses_in known e) (test-uses-named t h.0) (in-named e h.1 f)) (type-uses-named t h.0)
+    in-named (core.cast_of t e) h f = after (cast_uses t ++ uses_in known e) (type_uses t) (after (cast_uses t) (uses_in known e) (cast-uses-named t h.0) (in-named e h.1 f)) (type-uses-named t h.0)
+    in-named (core.new_array_of r e) h f = All-cons IsBinding (object_binding (codes "$mk")) (base_uses r.base ++ uses_in known e) refl (after (base_uses r.base) (uses_in known e) (base-uses-named r.base h.0.1) (in-named e h.1 f))
+    in-named (core.array_of r es) h f = All-cons IsBinding (object_binding (codes "$A")) (base_uses r.base ++ uses_in_all known es) refl (after (base_uses r.base) (uses_in_all known es) (base-uses-named r.base h.0.1) (all-named es h.1 f))
+    in-named (core.length_of e) h f = in-named e h f
+    in-named (core.element_of e i) h f = let p = two known (calls_in e) (calls_in i) f in All-cons IsBinding (object_binding (codes "$get")) (uses_in known e ++ uses_in known i) refl (after (uses_in known e) (uses_in known i) (in-named e h.0 p.0) (in-named i h.1 p.1))
     in-named (core.unary_of o e) h f = in-named e h f
     in-named (core.binary_of o e g) h f = let p = two known (calls_in e) (calls_in g) f in after (helper_of (is_nonzero_literal g) o ++ uses_in known e) (uses_in known g) (after (helper_of (is_nonzero_literal g) o) (uses_in known e) (helper-named (is_nonzero_literal g) o) (in-named e h.0 p.0)) (in-named g h.1 p.1)
     in-named _ h f = none
@@ -100,6 +113,7 @@ module _ (known : Lookup) where
     of-named (core.log_of p e) h f = in-named e h f
     of-named (core.assign_field p e c x g) h f = let q = two known (calls_in e) (calls_in g) f in after (uses_in known e) (uses_in known g) (in-named e h.0 q.0) (in-named g h.3 q.1)
     of-named (core.assign_static p c x e) h f = All-cons IsBinding (setter_use c x) (uses_in known e) (setter-named c x h.0 h.1) (in-named e h.2 f)
+    of-named (core.assign_element p t e i g) h f = let q = three known (calls_in e) (calls_in i) (calls_in g) f in All-cons IsBinding (object_binding (element_setter t)) (uses_in known e ++ uses_in known i ++ uses_in known g) (element-setter-named t) (after (uses_in known e ++ uses_in known i) (uses_in known g) (after (uses_in known e) (uses_in known i) (in-named e h.0 q.0) (in-named i h.1 q.1)) (in-named g h.2 q.2))
     of-named (core.store_module_of p c e) h f = All-cons IsBinding (store_use c) (uses_in known e) (store-named c h.0) (in-named e h.1 f)
     of-named (core.throw_of p e) h f = in-named e h f
     of-named (core.leave_label p l) h f = none

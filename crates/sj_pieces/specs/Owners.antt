@@ -1,4 +1,4 @@
--- Where fields are read and set and methods are looked up: in the core, and in the trees of which desugaring makes it.
+-- Where fields and lengths are read, fields are set and methods are looked up: in the core, and in the trees of which desugaring makes it.
 use Rattle.std.specs.Prelude.{◌≡◌, false, [], ◌∷◌, Option, None, Some, IsTrue}
 use Rattle.js_tree.specs.Rules.{is_receiver}
 use Rattle.sj_core.specs.Lookup.{Lookup}
@@ -7,7 +7,7 @@ use Rattle.sj_core.specs.declared.callees.Callee.{Callee}
 use Rattle.sj_core.specs.declared.callees.Callee.TheVariants as callees
 use Rattle.sj_emit_expr.specs.Names.{variable_name, label_name}
 use Rattle.sj_emit_expr.specs.Templates.{expression_template}
-use Rattle.sj_trees.specs.Term.{Term, Terms, no_terms, more_terms, Cases, no_cases, more_cases, var_def, block_of, labeled, assign, return_to, if_then, while_loop, do_while, throw, try_catch, try_finally, match_on, new_object, store_module, select, select_static, apply, apply_statically, apply_static, unary_op, binary_op, is_instance_of, as_instance_of, var_ref, log_line}
+use Rattle.sj_trees.specs.Term.{Term, Terms, no_terms, more_terms, Cases, no_cases, more_cases, var_def, block_of, labeled, assign, return_to, if_then, while_loop, do_while, throw, try_catch, try_finally, match_on, new_object, store_module, select, select_static, apply, apply_statically, apply_static, unary_op, binary_op, new_array, array_value, array_length, array_select, is_instance_of, as_instance_of, var_ref, log_line}
 use Rattle.sj_trees.specs.TypeOf.{type_of_term}
 use Rattle.sure_receivers.specs.Sure.{is_sure_type}
 
@@ -23,7 +23,7 @@ MayCall (callees.OfArray m) e = MayOwn e
 MayCall (callees.Reflective m) e = Unit {0}
 
 abbrev mutual
-  -- each field in the expression is one of what may stand before `.`, and so is each method that is looked up
+  -- each field and each length in the expression is one of what may stand before `.`, and so is each method that is looked up
   pub HasOwners : core.Expression → Type 0
   HasOwners (core.boxed_char e) = HasOwners e
   HasOwners (core.char_text e) = HasOwners e
@@ -36,6 +36,10 @@ abbrev mutual
   HasOwners (core.receiver_call k e es) = MayCall k e × HasOwners e × HaveOwners es
   HasOwners (core.test_of t e) = HasOwners e
   HasOwners (core.cast_of t e) = HasOwners e
+  HasOwners (core.new_array_of r e) = HasOwners e
+  HasOwners (core.array_of r es) = HaveOwners es
+  HasOwners (core.length_of e) = MayOwn e × HasOwners e
+  HasOwners (core.element_of e i) = HasOwners e × HasOwners i
   HasOwners (core.unary_of o e) = HasOwners e
   HasOwners (core.binary_of o e g) = HasOwners e × HasOwners g
   HasOwners _ = Unit {0}
@@ -55,6 +59,7 @@ abbrev mutual
   IsOwned (core.log_of p e) = HasOwners e
   IsOwned (core.assign_field p e c f g) = MayOwn e × HasOwners e × HasOwners g
   IsOwned (core.assign_static p c f e) = HasOwners e
+  IsOwned (core.assign_element p t e i g) = HasOwners e × HasOwners i × HasOwners g
   IsOwned (core.store_module_of p c e) = HasOwners e
   IsOwned (core.throw_of p e) = HasOwners e
   IsOwned (core.leave_label p l) = Unit {0}
@@ -75,12 +80,12 @@ abbrev mutual
   CasesOwned core.no_cases = Unit {0}
   CasesOwned (core.switch_case ks ss cs) = AreOwned ss × CasesOwned cs
 
--- each field in the method is one of what may stand before `.`, and so is each method that is looked up
+-- each field and each length in the method is one of what may stand before `.`, and so is each method that is looked up
 abbrev pub FieldsHaveOwners : core.Method → Type 0
 FieldsHaveOwners m = AreOwned m.body
 
 abbrev mutual
-  -- no field in the tree is one of a tree of a primitive type other than null, as in each tree that is typed; a case without keys is left out
+  -- no field, element or length in the tree is one of a tree of a primitive type other than null, as in each tree that is typed; a case without keys is left out
   pub OnObjects : Term → Type 0
   OnObjects (var_def p x t b e) = OnObjects e
   OnObjects (block_of p ts) = AllOnObjects ts
@@ -88,6 +93,7 @@ abbrev mutual
   OnObjects (assign p (var_ref q x t) e) = OnObjects e
   OnObjects (assign p (select q d c f t) e) = (is_sure_type (type_of_term d) ≡ false) × OnObjects d × OnObjects e
   OnObjects (assign p (select_static q c f t) e) = OnObjects e
+  OnObjects (assign p (array_select q d i t) e) = (is_sure_type (type_of_term d) ≡ false) × OnObjects d × OnObjects i × OnObjects e
   OnObjects (return_to p e l) = OnObjects e
   OnObjects (if_then p c a b t) = OnObjects c × OnObjects a × OnObjects b
   OnObjects (while_loop p c b) = OnObjects c × OnObjects b
@@ -105,6 +111,10 @@ abbrev mutual
   OnObjects (unary_op p o e) = OnObjects e
   OnObjects (is_instance_of p e t) = OnObjects e
   OnObjects (as_instance_of p e t) = OnObjects e
+  OnObjects (new_array p r e) = OnObjects e
+  OnObjects (array_value p r ts) = AllOnObjects ts
+  OnObjects (array_length p e) = (is_sure_type (type_of_term e) ≡ false) × OnObjects e
+  OnObjects (array_select p e i t) = (is_sure_type (type_of_term e) ≡ false) × OnObjects e × OnObjects i
   OnObjects (binary_op p o e d) = OnObjects e × OnObjects d
   OnObjects (log_line p e) = OnObjects e
   OnObjects _ = Unit {0}

@@ -3,9 +3,10 @@ use Rattle.std.specs.Prelude.{◌<◌, ◌^◌, ℕ, List, All, IfSome}
 use Rattle.js_tree.specs.Rules.{IsNumber, IsBig, IsUnit}
 use Rattle.sj_core.specs.declared.callees.Callee.{Callee}
 use Rattle.sj_core.specs.declared.callees.Callee.TheVariants as callees
-use Rattle.sj_core.specs.Terms.{Variable, named, numbered, receiver, Expression, number_value, long_value, text_value, variable_use, boxed_char, char_text, value_text, choice_of, static_call, field_of, static_of, module_of, checked_value, made_of, receiver_call, test_of, cast_of, unary_of, binary_of, Expressions, no_expressions, expression, Statement, constant_of, define_of, declare_of, assign_to, evaluate_of, return_of, log_of, assign_field, assign_static, store_module_of, throw_of, leave_label, break_nearest, if_of, while_of, loop_of, labeled_of, switch_of, try_of, finally_of, Statements, no_statements, statement, Cases, no_cases, switch_case, Method}
+use Rattle.sj_core.specs.Terms.{Variable, named, numbered, receiver, Expression, number_value, long_value, text_value, variable_use, boxed_char, char_text, value_text, choice_of, static_call, field_of, static_of, module_of, checked_value, made_of, receiver_call, test_of, cast_of, new_array_of, array_of, length_of, element_of, unary_of, binary_of, Expressions, no_expressions, expression, Statement, constant_of, define_of, declare_of, assign_to, evaluate_of, return_of, log_of, assign_field, assign_static, assign_element, store_module_of, throw_of, leave_label, break_nearest, if_of, while_of, loop_of, labeled_of, switch_of, try_of, finally_of, Statements, no_statements, statement, Cases, no_cases, switch_case, Method}
 use Rattle.sj_names.specs.declared.method_names.Member.{Member}
 use Rattle.sj_names.specs.declared.method_names.MethodName.{MethodName}
+use Rattle.sj_names.specs.declared.references.ArrayRef.{ArrayRef}
 use Rattle.sj_names.specs.declared.references.BaseRef.{BaseRef}
 use Rattle.sj_names.specs.declared.references.BaseRef.TheVariants as bases
 use Rattle.sj_names.specs.declared.references.TypeRef.{TypeRef}
@@ -20,6 +21,10 @@ abbrev pub FitsBase : BaseRef → Type 0
 FitsBase (bases.Class name) = AreBytes name
 FitsBase _ = Unit {0}
 
+-- at most 255 dimensions
+abbrev pub FitsArray : ArrayRef → Type 0
+FitsArray array = (array.dimensions < 2 ^ 8) × FitsBase array.base
+
 abbrev pub FitsReference : TypeRef → Type 0
 FitsReference (types.Class name) = AreBytes name
 FitsReference (types.Array array) = FitsBase array.base
@@ -27,7 +32,7 @@ FitsReference _ = Unit {0}
 
 abbrev pub FitsType : IrType → Type 0
 FitsType (Class name) = AreBytes name
-FitsType (Array array) = FitsBase array.base
+FitsType (Array array) = FitsArray array
 FitsType _ = Unit {0}
 
 abbrev pub FitsMethodName : MethodName → Type 0
@@ -66,6 +71,10 @@ abbrev mutual
   FitsExpression (receiver_call k e es) = FitsCallee k × FitsExpression e × FitExpressions es
   FitsExpression (test_of t e) = FitsType t × FitsExpression e
   FitsExpression (cast_of t e) = FitsType t × FitsExpression e
+  FitsExpression (new_array_of r e) = FitsArray r × FitsExpression e
+  FitsExpression (array_of r es) = FitsArray r × FitExpressions es
+  FitsExpression (length_of e) = FitsExpression e
+  FitsExpression (element_of e i) = FitsExpression e × FitsExpression i
   FitsExpression (unary_of o e) = FitsExpression e
   FitsExpression (binary_of o e g) = FitsExpression e × FitsExpression g
   FitsExpression _ = Unit {0}
@@ -85,6 +94,7 @@ abbrev mutual
   FitsStatement (log_of p e) = FitsExpression e
   FitsStatement (assign_field p e c f g) = FitsExpression e × AreBytes c × AreBytes f × FitsExpression g
   FitsStatement (assign_static p c f e) = AreBytes c × AreBytes f × FitsExpression e
+  FitsStatement (assign_element p t e i g) = FitsExpression e × FitsExpression i × FitsExpression g
   FitsStatement (store_module_of p c e) = AreBytes c × FitsExpression e
   FitsStatement (throw_of p e) = FitsExpression e
   FitsStatement (leave_label p l) = AreBytes l

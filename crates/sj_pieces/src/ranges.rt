@@ -1,11 +1,11 @@
 // What the types of a method's parts say of their values. It is known where a value is read, so each part is passed over once.
-ghost use Rattle.std.specs.Prelude.{All, IfSome};
+ghost use Rattle.std.specs.Prelude.{◌<◌, ◌^◌, All, IfSome};
 ghost use Rattle.js_tree.specs.Rules.{IsNumber, IsBig};
 ghost use Rattle.sj_core.specs.Views as core;
-ghost use Rattle.sj_pieces.specs.Ranges.{AreBytes, FitsBase, FitsReference, FitsType, FitsMethodName, FitsMember, FitsCallee, FitsVariable, FitsExpression, FitExpressions, FitsStatement, FitStatements, FitCases, FitsMethod};
+ghost use Rattle.sj_pieces.specs.Ranges.{AreBytes, FitsBase, FitsArray, FitsReference, FitsType, FitsMethodName, FitsMember, FitsCallee, FitsVariable, FitsExpression, FitExpressions, FitsStatement, FitStatements, FitCases, FitsMethod};
 
 use sj_core::{Callee, CoreCase, CoreExpression, CoreMethod, CoreStatement, CoreVariable};
-use sj_names::{BaseRef, LocalName, Member, MethodName, TypeRef};
+use sj_names::{ArrayRef, BaseRef, LocalName, Member, MethodName, TypeRef};
 use sj_trees::IrType;
 
 fn text_fits(text: &str)
@@ -18,6 +18,17 @@ fn base_fits(base: &BaseRef)
     if let BaseRef::Class(name) = base {
         text_fits(name.text());
     }
+}
+
+fn byte_fits(byte: u8)
+    ensures { byte < 2 ^ 8 }
+{}
+
+fn array_fits(array: &ArrayRef)
+    ensures { FitsArray array.now }
+{
+    byte_fits(array.dimensions);
+    base_fits(&array.base);
 }
 
 fn reference_fits(reference: &TypeRef)
@@ -51,7 +62,7 @@ fn type_fits(tpe: &IrType)
 {
     match tpe {
         IrType::Class(name) => text_fits(name.text()),
-        IrType::Array(array) => base_fits(&array.base),
+        IrType::Array(array) => array_fits(array),
         _ => {}
     }
 }
@@ -117,7 +128,16 @@ fn expression_fits(expression: &CoreExpression)
         | CoreExpression::CharText(operand)
         | CoreExpression::ValueText(operand)
         | CoreExpression::Checked(operand)
+        | CoreExpression::Length { array: operand }
         | CoreExpression::Unary(_, operand) => expression_fits(operand),
+        CoreExpression::NewArray { array, length } => {
+            array_fits(array);
+            expression_fits(length);
+        }
+        CoreExpression::Array { array, items } => {
+            array_fits(array);
+            expressions_fit(items);
+        }
         CoreExpression::Choice(test, yes, no) => {
             expression_fits(test);
             expression_fits(yes);
@@ -146,7 +166,11 @@ fn expression_fits(expression: &CoreExpression)
             type_fits(tpe);
             expression_fits(operand);
         }
-        CoreExpression::Binary(_, left, right) => {
+        CoreExpression::Binary(_, left, right)
+        | CoreExpression::Element {
+            array: left,
+            index: right,
+        } => {
             expression_fits(left);
             expression_fits(right);
         }
@@ -196,6 +220,17 @@ fn statement_fits(statement: &CoreStatement)
         CoreStatement::AssignStatic(_, class, name, value) => {
             text_fits(class.text());
             text_fits(name.text());
+            expression_fits(value);
+        }
+        CoreStatement::AssignElement {
+            position: _,
+            tpe: _,
+            array,
+            index,
+            value,
+        } => {
+            expression_fits(array);
+            expression_fits(index);
             expression_fits(value);
         }
         CoreStatement::StoreModule(_, class, value) => {

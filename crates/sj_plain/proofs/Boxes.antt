@@ -44,12 +44,12 @@ use Rattle.sj_plain.proofs.Orders.{OperandAlike, OperandsAlike, no_operands, mor
 use Rattle.sj_plain.proofs.Standing.{suits_open}
 use Rattle.sj_plain.proofs.Told.{tells}
 use Rattle.sj_plain.proofs.Tops.{top_seen}
-use Rattle.sj_plain.proofs.Worlds.{World, Grows, Stands, same_char, same_box}
+use Rattle.sj_plain.proofs.Worlds.{World, Keeps, Grows, Stands, same_char, same_box}
 
 -- what a binding at the top holds it holds where the emitted code has more for itself
 pub top-carry : (p : Place) (owned more : ℕ → Option js.Stored) → ((a : ℕ) (o : js.Stored) → owned a ≡ Some o → more a ≡ Some o) → (t : Top) (cell : js.Cell) → TopHolds p owned t cell → TopHolds p more t cell
 top-carry p owned more g (some_constants c) cell h = record { address = h.address; constants = h.constants; held = h.held; owned_there = g h.address (js.plain [] h.constants) h.owned_there; marked = h.marked; known = h.known }
-top-carry p owned more g (a_helper (ConstantsOf kinds.Char)) cell h = record { address = h.address; constants = h.constants; held = h.held; owned_there = g h.address (js.plain [] h.constants) h.owned_there; marked = h.marked }
+top-carry p owned more g (a_helper (ConstantsOf k)) cell h = record { address = h.address; constants = h.constants; held = h.held; owned_there = g h.address (js.plain [] h.constants) h.owned_there; marked = h.marked }
 top-carry p owned more g _ cell h = h
 
 module _ (p : Place) (w : World) (s : ir.State) (u : js.State) (same : SameState p w s u) (o : js.Stored) where
@@ -57,11 +57,14 @@ module _ (p : Place) (w : World) (s : ir.State) (u : js.State) (same : SameState
   abbrev pub more_owned : World
   more_owned = with_owned (js_objects.next_address u) o w
 
+  kept : Keeps w more_owned
+  kept = record { places = λ i a e. e; arrays = λ i k e. e; owns = owned-still p w s.heap u.heap same.heaps o; boxes = refl }
+
   pub state-owns : ((constants : Name → Option js.Value) → o ≡ js.plain [] constants → ⊥) → SameState p more_owned s (js_objects.with_stored o u)
-  state-owns classed = record { heaps = owns p w s.heap u.heap same.heaps o classed; tops = λ f t h. top-carry p w.owned more_owned.owned (owned-still p w s.heap u.heap same.heaps o) t (u.tops (p.home t) (top_name t)) (same.tops f t h); statics = λ f c n t h. holding-carry w more_owned t (λ i a e. e) (owned-still p w s.heap u.heap same.heaps o) refl (s.statics c n) (u.tops (p.home (a_static c n t)) (static_name c n)) (same.statics f c n t h); cells = λ f c h. holding-carry w more_owned (class_type c) (λ i a e. e) (owned-still p w s.heap u.heap same.heaps o) refl (Some (s.cells c)) (u.tops (p.home (a_cell c)) (cell_name c)) (same.cells f c h) }
+  state-owns classed = record { heaps = owns p w s.heap u.heap same.heaps o classed; tops = λ f t h. top-carry p w.owned more_owned.owned (owned-still p w s.heap u.heap same.heaps o) t (u.tops (p.home t) (top_name t)) (same.tops f t h); statics = λ f c n t h. holding-carry w more_owned t kept (s.statics c n) (u.tops (p.home (a_static c n t)) (static_name c n)) (same.statics f c n t h); cells = λ f c h. holding-carry w more_owned (class_type c) kept (Some (s.cells c)) (u.tops (p.home (a_cell c)) (cell_name c)) (same.cells f c h) }
 
   pub grows-owned : Grows w more_owned
-  grows-owned = record { places = λ i a e. e; classes = λ i a c e k. k; owns = owned-still p w s.heap u.heap same.heaps o; pends = λ a b e. e; boxes = refl }
+  grows-owned = record { places = λ i a e. e; classes = λ i a c e k. k; arrays = λ i k e. e; owns = owned-still p w s.heap u.heap same.heaps o; pends = λ a b e. e; boxes = refl }
 
   pub owned-there : more_owned.owned (js_objects.next_address u) ≡ Some o
   owned-there = ap (λ b. if b then Some o else w.owned (js_objects.next_address u)) (eq-eqb (js_objects.next_address u) (js_objects.next_address u) refl)

@@ -4,21 +4,31 @@ use Rattle.ir_mean.specs.Known.{is_hijacked}
 use Rattle.ir_mean.specs.States as ir
 use Rattle.js_mean.specs.States as js
 use Rattle.js_tree.specs.Terms.{Name}
-use Rattle.sj_plain.specs.Settings.{Place, TellsClass, links_of, HasNoEntries, SameStored, same_object, MadeSomewhere, SameState}
+use Rattle.helper_rules.specs.Words.{object_class}
+use Rattle.ir_mean.specs.World.{stored_class}
+use Rattle.sj_plain.specs.Settings.{Place, TellsClass, links_of, array_links, HasNoEntries, ArraysSomewhere, SameStored, same_object, same_array, MadeSomewhere, SameState}
+use Rattle.sj_plain.specs.Worlds.{ArrayAt}
 use Rattle.sj_plain.proofs.Heaps.{classes-same}
 use Rattle.sj_plain.proofs.Worlds.{World, Grows}
 
--- an object of this class, and what stands for it: an object of the class that stands for it, by its marker too, with no entry of a method of its own
+-- the classes that an object of this class extends, which of an array begin with that of arrays
+pub data LinksOf (p : Place) (c : List ℕ) : List js.ClassLink → Type 0 where
+  of_class : LinksOf p c (links_of p c)
+  of_arrays : c ≡ object_class → ArraysSomewhere p → LinksOf p c (array_links p)
+
+-- an object of this class or an array, and what stands for it: an object of the class that stands for it, by its marker too, with no entry of a method of its own
 pub record IsObject (p : Place) (w : World) (c : List ℕ) (o : Option ir.Stored) (q : Option js.Stored) : Type 0 where
-  pub fields : ir.Fields
-  pub stored : o ≡ Some (ir.object c fields)
+  pub stored : stored_class o ≡ Some c
+  pub links : List js.ClassLink
+  pub extended : LinksOf p c links
   pub properties : Name → Option js.Value
-  pub shown : q ≡ Some (js.plain (links_of p c) properties)
+  pub shown : q ≡ Some (js.plain links properties)
   pub tells : TellsClass w c properties
   pub bare : HasNoEntries properties
 
-object_is : (p : Place) (w : World) (c : List ℕ) (o : Option ir.Stored) (q : Option js.Stored) → SameStored p w c o q → IsObject p w c o q
-object_is p w _ _ _ (same_object c fields properties tells bare fs) = record { fields = fields; stored = refl; properties = properties; shown = refl; tells = tells; bare = bare }
+object_is : (p : Place) (w : World) (c : List ℕ) (k : Option ArrayAt) (o : Option ir.Stored) (q : Option js.Stored) → ((r : ArrayAt) → k ≡ Some r → ArraysSomewhere p) → SameStored p w c k o q → IsObject p w c o q
+object_is p w _ _ _ _ made (same_object c fields properties tells bare fs) = record { stored = refl; links = links_of p c; extended = of_class; properties = properties; shown = refl; tells = tells; bare = bare }
+object_is p w _ _ _ _ made (same_array r items properties tells bare told) = record { stored = refl; links = array_links p; extended = of_arrays refl (made r refl); properties = properties; shown = refl; tells = tells; bare = bare }
 
 module _ (p : Place) (w : World) (s : ir.State) (u : js.State) (same : SameState p w s u) (i a : ℕ) (there : w.place i ≡ Some a) where
   -- the world tells a class of what has an address
@@ -33,7 +43,7 @@ module _ (p : Place) (w : World) (s : ir.State) (u : js.State) (same : SameState
     class_made = same.heaps.made i c told
 
     pub object_there : IsObject p w c (slice_get s.heap i) (slice_get u.heap a)
-    object_there = let h = same.heaps.objects i a there in object_is p w c (slice_get s.heap i) (slice_get u.heap a) (subst (λ d. SameStored p w d (slice_get s.heap i) (slice_get u.heap a)) (classes-same h.class c (sym h.told ∙ told)) h.alike)
+    object_there = let h = same.heaps.objects i a there in object_is p w c (w.arrays i) (slice_get s.heap i) (slice_get u.heap a) (λ r e. (same.heaps.arrays i r e).made) (subst (λ d. SameStored p w d (w.arrays i) (slice_get s.heap i) (slice_get u.heap a)) (classes-same h.class c (sym h.told ∙ told)) h.alike)
 
 -- the classes of a world that has grown are those that it had
 pub same_class : (w y : World) (i a : ℕ) (c d : List ℕ) → Grows w y → w.place i ≡ Some a → w.classes i ≡ Some c → y.classes i ≡ Some d → c ≡ d

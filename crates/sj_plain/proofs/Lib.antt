@@ -1,3 +1,4 @@
+pub mod Arrays
 pub mod Standing
 pub mod Worlds
 pub mod Heaps
@@ -12,6 +13,7 @@ pub mod Tops
 pub mod Divided
 pub mod Objects
 pub mod Looked
+pub mod Instances
 pub mod Modules
 pub mod Received
 pub mod Reflected

@@ -13,6 +13,8 @@ use Rattle.ir_mean.specs.World as ir_world
 use Rattle.js_mean.specs.Meaning as js_meaning
 use Rattle.js_mean.specs.Objects as js_objects
 use Rattle.js_mean.specs.States as js
+use Rattle.js_tree.specs.Terms as tree
+use Rattle.sj_core.specs.declared.callees.Callee.{Callee}
 use Rattle.sj_core.specs.declared.callees.Callee.TheVariants as callees
 use Rattle.sj_core.specs.Terms as core
 use Rattle.sj_core.specs.Views.{expressions_of}
@@ -30,10 +32,12 @@ use Rattle.sj_names.specs.declared.references.ArrayRef.{ArrayRef}
 use Rattle.sj_trees.specs.Types.{class_type}
 use Rattle.sj_trees.specs.declared.types.IrType.{IrType}
 use Rattle.sj_trees.specs.declared.types.IrType.TheVariants.{Any, Array}
-use Rattle.sj_plain.specs.Settings.{Place, Setting, shown, usable, SameState, Valued, valued, thrown, Lawful, Inside, a_dispatch, top_function, ClassTold, of_object, of_kind, HasClass, IsInstance, Finds, LooksUp}
+use Rattle.sj_plain.specs.Settings.{Place, Setting, shown, usable, SameState, Valued, valued, thrown, Lawful, Inside, a_dispatch, top_function, SameStored, same_object, same_array, ClassTold, of_object, of_kind, HasClass, IsInstance, Finds, DispatchesAlike, LooksUp}
 use Rattle.sj_plain.specs.Standing.{suits}
+use Rattle.sj_plain.specs.Worlds.{ArrayAt, Shaped}
 use Rattle.sj_plain.proofs.Classes.{class_there, object_there}
-use Rattle.sj_plain.proofs.Orders.{OperandAlike, OperandsAlike, more_operands, operands-lift, all_shown, in_order_alike, valued-weaken}
+use Rattle.sj_plain.proofs.Orders.{OperandAlike, OperandsAlike, more_operands, operands-lift, all_shown, in_order_alike, text_of, valued-weaken}
+use Rattle.sj_plain.proofs.Told.{tells}
 use Rattle.sj_plain.proofs.Tops.{row_shown, top_seen}
 use Rattle.sj_plain.proofs.Worlds.{World, Grows, grows-refl, grows-trans, SameValue, Stands, same_undefined, same_null, same_boolean, same_char, same_box, same_number, same_long, same_text, same_reference, value-fits, value-lift, values-fit, SameValues}
 
@@ -68,7 +72,7 @@ some_class c d e = cc
 
 module _ (p : Place) (w : World) (s : ir.State) (u : js.State) (same : SameState p w s u) where
   object_told : (i a : ℕ) (d : List ℕ) → w.place i ≡ Some a → ir_world.stored_class (slice_get s.heap i) ≡ Some d → ClassTold w (ir.reference i) d
-  object_told i a d there e = subst (ClassTold w (ir.reference i)) (some_class h.0 d (sym (ap ir_world.stored_class (object_there p w s u same i a there h.0 h.1).stored) ∙ e)) (of_object i a h.0 there h.1)
+  object_told i a d there e = subst (ClassTold w (ir.reference i)) (some_class h.0 d (sym (object_there p w s u same i a there h.0 h.1).stored ∙ e)) (of_object i a h.0 there h.1)
     where
       h : (c : List ℕ) × (w.classes i ≡ Some c)
       h = class_there p w s u same i a there
@@ -85,7 +89,7 @@ module _ (p : Place) (w : World) (s : ir.State) (u : js.State) (same : SameState
   class_told raw _ _ d (same_reference i a there) e = object_told i a d there e
 
   pub told_class : (v : ir.Value) (d : List ℕ) → ClassTold w v d → ir_world.class_of_value s v ≡ Some d
-  told_class _ _ (of_object i a c there told) = ap ir_world.stored_class (object_there p w s u same i a there c told).stored
+  told_class _ _ (of_object i a c there told) = (object_there p w s u same i a there c told).stored
   told_class _ _ (of_kind v c h) = h s
 
   -- an instance by the test at run time is of a class that the world tells
@@ -153,30 +157,7 @@ module _ (z : Setting) (c : List ℕ) where
           by true k = subst (λ (b : Bool). Sim z.direction F (if b then ir.given v env s else wrong) (done (js.gives x u))) (sym k) (sim_done z.direction F (ir.ends (ir.gives v) env s) (js.gives x u) (taken y v x s u g a states k))
           by false k = subst (λ (b : Bool). Sim z.direction F (if b then ir.given v env s else wrong) (done (js.gives x u))) (sym k) (sim_wrong z.direction F _)
 
--- a value of a type of arrays is null, since none is made yet, and so no instance
-pub no_array : {A : Type 0} (classes : ir_world.World) (s : ir.State) (c : List ℕ) (r : ArrayRef) (v : ir.Value) → suits (Array r) v ≡ true → ir_world.is_instance classes s v c ≡ true → A
-no_array classes s c r ir.null h k = impossible k
-no_array classes s c r _ h k = impossible h
-
--- a call on an array: its receiver throws, or takes no call
-module _ (z : Setting) (r : ArrayRef) (m : MethodName) where
-  pub array_call_alike : (own t : IrType) → own ≡ Array r → (act : List ir.Value → ir.Run) (q : ir.Run) (rs : List ir.Run) (e : core.Expression) (es : List core.Expression) (w : World) (env : ir.Env) (s : ir.State) (sc : js.Scope) (u : js.State) → Sim z.direction (Valued z.place w env own) (q env s) (shown z e sc u) → Sim z.direction (Valued z.place w env t) (ir_meaning.in_order (as_instances z object q ∷ rs) act env s) (shown z (core.receiver_call (callees.OfArray m) e (expressions_of es)) sc u)
-  array_call_alike own t is act q rs e es w env s sc u one = sim_then z.direction (Taken z.place w env own object) F (as_instances z object q env s) (shown z e sc u) (ir.onward (λ v. ir_meaning.in_order rs (λ vs. act (v ∷ vs)))) (js.with_value after) (takes z object w env s sc u own q e one) each
-    where
-      F : ir.Ended → js.ExpressionEnd → Type 0
-      F = Valued z.place w env t
-
-      after : js.Value → js.State → Out js.ExpressionEnd
-      after x u = js_meaning.call_property z.place.program z.js_low (js_meaning.arguments z.place.program z.js_low (expression_templates z.place.name z.place.label (usable z).lookup (expressions_of es))) x (js_objects.callee z.place.program u x (method_binding Entry m)) sc u
-
-      each : (a : ir.Ended) (b : js.ExpressionEnd) → Taken z.place w env own object a b → Sim z.direction F (ir.onward (λ v. ir_meaning.in_order rs (λ vs. act (v ∷ vs))) a) (js.with_value after b)
-      each _ _ (taken_out y v x s u g a states) = sim_done z.direction F (ir.ends (ir.throws v) env s) (js.throws x u) (thrown y v x s u g a states)
-      each _ _ (taken y v x s u g a states k) = no_array z.place.classes s object r v (subst (λ (i : IrType). suits i v ≡ true) is a.suits) k
-
-module _ (z : Setting) (lawful : Lawful z) (c : List ℕ) (m : MethodName) (free : is_hijacked c ≡ false) (can : can_look_up (usable z) c m ≡ true) where
-  abbrev pub only_instances : ir.Run → ir.Run
-  only_instances r = λ env s. ir.go_on (r env s) (ir_meaning.only_instance z.place.classes c)
-
+module _ (z : Setting) (lawful : Lawful z) (c : List ℕ) (m : MethodName) (free : is_hijacked c ≡ false) where
   abbrev act : List ir.Value → ir.Run
   act = ir_meaning.call_instance z.place.classes z.low c m
 
@@ -188,66 +169,113 @@ module _ (z : Setting) (lawful : Lawful z) (c : List ℕ) (m : MethodName) (free
   behind true es sc x u = js_meaning.in_order (all_shown z es) (λ xs. js_meaning.call z.place.program z.js_low fun (x ∷ xs)) sc u
   behind false es sc x u = js_meaning.call_property z.place.program z.js_low (all_shown z es) x (js_objects.callee z.place.program u x (method_binding Entry m)) sc u
 
+  -- what an instance answers: that function runs on it, or it has the entry
+  abbrev Answers : Bool → (y : World) (v : ir.Value) (x : js.Value) → IsInstance z.place.classes y c v x → js.State → Type 0
+  Answers true y v x one u = DispatchesAlike z c m
+  Answers false y v x one u = Finds z m y one.its.class v x u
+
+  -- a way to call it on values of this type
+  pub record Way (own : IrType) : Type 0 where
+    pub callee : Callee
+    pub dispatches : Bool
+    pub shows : (e : core.Expression) (es : List core.Expression) (w : World) (s : ir.State) (sc : js.Scope) (u : js.State) → Inside z.place z.code sc → SameState z.place w s u → shown z (core.receiver_call callee e (expressions_of es)) sc u ≡ then_do (shown z e sc u) (js.with_value (behind dispatches es sc))
+    pub answers : (y : World) (v : ir.Value) (x : js.Value) (one : IsInstance z.place.classes y c v x) (s : ir.State) (u : js.State) → SameValue y own v x → SameState z.place y s u → Answers dispatches y v x one u
+    pub told : (t : IrType) (e : core.Expression) (es : core.Expressions) → tells t (text_of z (core.receiver_call callee e es)) ≡ true
+
   -- the arguments, and the call
-  behind_alike : (b : Bool) → LooksUp b z c m → (ts : List IrType) → FitAll (types_referred m.params) ts → (base y : World) (env : ir.Env) (s : ir.State) (sc : js.Scope) (u : js.State) (v : ir.Value) (x : js.Value) (rs : List ir.Run) (es : List core.Expression) → Grows base y → IsInstance z.place.classes y c v x → OperandsAlike z y env sc ts rs es → SameState z.place y s u → Sim z.direction (Valued z.place base env (call_type m.result)) (ir_meaning.in_order rs (λ vs. act (v ∷ vs)) env s) (behind b es sc x u)
-  behind_alike true looks ts fit base y env s sc u v x rs es g one others same = in_order_alike z base y env sc y ts (call_type m.result) rs es (λ vs. act (v ∷ vs)) (λ xs. js_meaning.call z.place.program z.js_low fun (x ∷ xs)) others acts y s u g (grows-refl y) (grows-refl y) same
+  behind_alike : (b : Bool) → (ts : List IrType) → FitAll (types_referred m.params) ts → (base y : World) (env : ir.Env) (s : ir.State) (sc : js.Scope) (u : js.State) (v : ir.Value) (x : js.Value) (rs : List ir.Run) (es : List core.Expression) → Grows base y → (one : IsInstance z.place.classes y c v x) → Answers b y v x one u → OperandsAlike z y env sc ts rs es → SameState z.place y s u → Sim z.direction (Valued z.place base env (call_type m.result)) (ir_meaning.in_order rs (λ vs. act (v ∷ vs)) env s) (behind b es sc x u)
+  behind_alike true ts fit base y env s sc u v x rs es g one looks others same = in_order_alike z base y env sc y ts (call_type m.result) rs es (λ vs. act (v ∷ vs)) (λ xs. js_meaning.call z.place.program z.js_low fun (x ∷ xs)) others acts y s u g (grows-refl y) (grows-refl y) same
     where
       acts : (k : World) (vs : List ir.Value) (xs : List js.Value) (s : ir.State) (u : js.State) → Grows y k → SameValues k ts vs xs → SameState z.place k s u → Sim z.direction (Valued z.place base env (call_type m.result)) (act (v ∷ vs) env s) (js_meaning.call z.place.program z.js_low fun (x ∷ xs) sc u)
       acts k vs xs s u h alike same = let one = instance_lift z.place.classes y k c v x h one in subst (λ o. Sim z.direction (Valued z.place base env (call_type m.result)) o (js_meaning.call z.place.program z.js_low fun (x ∷ xs) sc u)) (sym (call_is z.place k s u same z.low c m v one.its vs env)) (sim_weaken z.direction (Valued z.place k env (call_type m.result)) (Valued z.place base env (call_type m.result)) _ _ (λ a b. valued-weaken z base k env (call_type m.result) a b (grows-trans base y k g h)) (looks k v x one vs xs env s u (values-fit k (types_referred m.params) ts vs xs fit alike) same))
-  behind_alike false looks ts fit base y env s sc u v x rs es g one others same = subst (λ o. Sim z.direction (Valued z.place base env (call_type m.result)) (ir_meaning.in_order rs (λ vs. act (v ∷ vs)) env s) (js_meaning.call_property z.place.program z.js_low (all_shown z es) x o sc u)) (sym entry.is) (in_order_alike z base y env sc y ts (call_type m.result) rs es (λ vs. act (v ∷ vs)) (js_meaning.call_with_this z.place.program z.js_low x entry.found) others acts y s u g (grows-refl y) (grows-refl y) same)
+  behind_alike false ts fit base y env s sc u v x rs es g one entry others same = subst (λ o. Sim z.direction (Valued z.place base env (call_type m.result)) (ir_meaning.in_order rs (λ vs. act (v ∷ vs)) env s) (js_meaning.call_property z.place.program z.js_low (all_shown z es) x o sc u)) (sym entry.is) (in_order_alike z base y env sc y ts (call_type m.result) rs es (λ vs. act (v ∷ vs)) (js_meaning.call_with_this z.place.program z.js_low x entry.found) others acts y s u g (grows-refl y) (grows-refl y) same)
     where
-      entry : Finds z m y one.its.class v x u
-      entry = looks y v x one s u same
-
       acts : (k : World) (vs : List ir.Value) (xs : List js.Value) (s : ir.State) (u : js.State) → Grows y k → SameValues k ts vs xs → SameState z.place k s u → Sim z.direction (Valued z.place base env (call_type m.result)) (act (v ∷ vs) env s) (js_meaning.call_with_this z.place.program z.js_low x entry.found xs sc u)
       acts k vs xs s u h alike same = subst (λ o. Sim z.direction (Valued z.place base env (call_type m.result)) o (js_meaning.call_with_this z.place.program z.js_low x entry.found xs sc u)) (sym (call_is z.place k s u same z.low c m v (class_lift z.place.classes y k c v h one.its) vs env)) (sim_weaken z.direction (Valued z.place k env (call_type m.result)) (Valued z.place base env (call_type m.result)) _ _ (λ a b. valued-weaken z base k env (call_type m.result) a b (grows-trans base y k g h)) (entry.calls k h vs xs env sc s u (values-fit k (types_referred m.params) ts vs xs fit alike) same))
 
-  -- where a primitive value may be the receiver, the function that tells it apart is there
-  dispatched_there : (usable z).lookup.has_hijacked c ≡ true → (usable z).dispatched m ≡ true
-  dispatched_there = go ((usable z).dispatched m) ((usable z).lookup.has_hijacked c) (and_parts ((usable z).looked_up c m) ((usable z).dispatched m || not ((usable z).lookup.has_hijacked c)) can).1
-    where
-      go : (a b : Bool) → (a || not b) ≡ true → b ≡ true → a ≡ true
-      go true b h e = refl
-      go false true h e = impossible h
-      go false false h e = impossible e
+  module _ (can : can_look_up (usable z) c m ≡ true) where
+    -- where a primitive value may be the receiver, the function that tells it apart is there
+    dispatched_there : (usable z).lookup.has_hijacked c ≡ true → (usable z).dispatched m ≡ true
+    dispatched_there = go ((usable z).dispatched m) ((usable z).lookup.has_hijacked c) (and_parts ((usable z).looked_up c m) ((usable z).dispatched m || not ((usable z).lookup.has_hijacked c)) can).1
+      where
+        go : (a b : Bool) → (a || not b) ≡ true → b ≡ true → a ≡ true
+        go true b h e = refl
+        go false true h e = impossible h
+        go false false h e = impossible e
 
-  abbrev call_text : core.Expression → List core.Expression → core.Expression
-  call_text e es = core.receiver_call (callees.LookedUp c m) e (expressions_of es)
+    pub js_is : (b : Bool) → (usable z).lookup.has_hijacked c ≡ b → (e : core.Expression) (es : List core.Expression) (w : World) (s : ir.State) (sc : js.Scope) (u : js.State) → Inside z.place z.code sc → SameState z.place w s u → shown z (core.receiver_call (callees.LookedUp c m) e (expressions_of es)) sc u ≡ then_do (shown z e sc u) (js.with_value (behind b es sc))
+    js_is b h e es w s sc u inside same = ap (λ (q : Bool). js_meaning.evaluate z.place.program z.js_low (looked_up_template q m (expression_template z.place.name z.place.label (usable z).lookup e) (expression_templates z.place.name z.place.label (usable z).lookup (expressions_of es))) sc u) h ∙ by b h
+      where
+        by : (b : Bool) → (usable z).lookup.has_hijacked c ≡ b → js_meaning.evaluate z.place.program z.js_low (looked_up_template b m (expression_template z.place.name z.place.label (usable z).lookup e) (expression_templates z.place.name z.place.label (usable z).lookup (expressions_of es))) sc u ≡ then_do (shown z e sc u) (js.with_value (behind b es sc))
+        by true h = ap (λ o. then_do o (js.with_value (λ g. js_meaning.in_order (shown z e ∷ js_meaning.arguments z.place.program z.js_low (expression_templates z.place.name z.place.label (usable z).lookup (expressions_of es))) (js_meaning.call z.place.program z.js_low g) sc))) (top_seen z lawful.base (a_dispatch m) fun sc u (dispatched_there h) inside (same.tops z.code.file (a_dispatch m) (dispatched_there h))) ∙ ap (λ args. js_meaning.in_order (shown z e ∷ args) (js_meaning.call z.place.program z.js_low fun) sc u) (row_shown z es)
+        by false h = ap (λ args. then_do (shown z e sc u) (js.with_value (λ v s. js_meaning.call_property z.place.program z.js_low args v (js_objects.callee z.place.program s v (method_binding Entry m)) sc s))) (row_shown z es)
 
-  js_is : (b : Bool) → (usable z).lookup.has_hijacked c ≡ b → (e : core.Expression) (es : List core.Expression) (w : World) (s : ir.State) (sc : js.Scope) (u : js.State) → Inside z.place z.code sc → SameState z.place w s u → shown z (call_text e es) sc u ≡ then_do (shown z e sc u) (js.with_value (behind b es sc))
-  js_is b h e es w s sc u inside same = ap (λ (q : Bool). js_meaning.evaluate z.place.program z.js_low (looked_up_template q m (expression_template z.place.name z.place.label (usable z).lookup e) (expression_templates z.place.name z.place.label (usable z).lookup (expressions_of es))) sc u) h ∙ by b h
-    where
-      by : (b : Bool) → (usable z).lookup.has_hijacked c ≡ b → js_meaning.evaluate z.place.program z.js_low (looked_up_template b m (expression_template z.place.name z.place.label (usable z).lookup e) (expression_templates z.place.name z.place.label (usable z).lookup (expressions_of es))) sc u ≡ then_do (shown z e sc u) (js.with_value (behind b es sc))
-      by true h = ap (λ o. then_do o (js.with_value (λ g. js_meaning.in_order (shown z e ∷ js_meaning.arguments z.place.program z.js_low (expression_templates z.place.name z.place.label (usable z).lookup (expressions_of es))) (js_meaning.call z.place.program z.js_low g) sc))) (top_seen z lawful.base (a_dispatch m) fun sc u (dispatched_there h) inside (same.tops z.code.file (a_dispatch m) (dispatched_there h))) ∙ ap (λ args. js_meaning.in_order (shown z e ∷ args) (js_meaning.call z.place.program z.js_low fun) sc u) (row_shown z es)
-      by false h = ap (λ args. then_do (shown z e sc u) (js.with_value (λ v s. js_meaning.call_property z.place.program z.js_low args v (js_objects.callee z.place.program s v (method_binding Entry m)) sc s))) (row_shown z es)
+    pub looked_answers : (b : Bool) → LooksUp b z c m → (y : World) (v : ir.Value) (x : js.Value) (one : IsInstance z.place.classes y c v x) (s : ir.State) (u : js.State) → SameState z.place y s u → Answers b y v x one u
+    looked_answers true looks y v x one s u same = looks
+    looked_answers false looks y v x one s u same = looks y v x one s u same
 
-  abbrev looks_here : LooksUp ((usable z).lookup.has_hijacked c) z c m
-  looks_here = lawful.looks c m can
+    pub looked_told : (t : IrType) (b : Bool) (x : tree.Expression) (xs : tree.Expressions) → tells t (looked_up_template b m x xs) ≡ true
+    looked_told t true x xs = refl
+    looked_told t false x xs = refl
+
+    -- a method that is looked up
+    abbrev pub by_lookup : (own : IrType) → Way own
+    by_lookup own = record {
+      callee = callees.LookedUp c m;
+      dispatches = (usable z).lookup.has_hijacked c;
+      shows = js_is ((usable z).lookup.has_hijacked c) refl;
+      answers = λ y v x one s u a same. looked_answers ((usable z).lookup.has_hijacked c) (lawful.looks c m can) y v x one s u same;
+      told = λ t e es. looked_told t ((usable z).lookup.has_hijacked c) _ _;
+    }
 
   -- a receiver that is taken first, whatever it is behind
-  pub looked_call_alike : (own : IrType) (ts : List IrType) (r : ir.Run) (rs : List ir.Run) (e : core.Expression) (es : List core.Expression) → Fits (class_type c) own → FitAll (types_referred m.params) ts → (w : World) (env : ir.Env) (s : ir.State) (sc : js.Scope) (u : js.State) → Inside z.place z.code sc → OperandsAlike z w env sc (own ∷ ts) (r ∷ rs) (e ∷ es) → SameState z.place w s u → Sim z.direction (Valued z.place w env (call_type m.result)) (ir_meaning.in_order (only_instances r ∷ rs) act env s) (shown z (call_text e es) sc u)
-  looked_call_alike own ts r rs e es f fit w env s sc u inside (more_operands _ _ _ _ _ _ told one others) same = subst (λ o. Sim z.direction F (ir_meaning.in_order (only_instances r ∷ rs) act env s) o) (sym (js_is hijacked refl e es w s sc u inside same)) (sim_then z.direction (Taken z.place w env own c) F (only_instances r env s) (shown z e sc u) (ir.onward (λ v. ir_meaning.in_order rs (λ vs. act (v ∷ vs)))) (js.with_value (behind hijacked es sc)) (takes z c w env s sc u own r e (one w s u (grows-refl w) same)) each)
+  pub looked_call_alike : (own : IrType) (way : Way own) (ts : List IrType) (r : ir.Run) (rs : List ir.Run) (e : core.Expression) (es : List core.Expression) → Fits (class_type c) own → FitAll (types_referred m.params) ts → (w : World) (env : ir.Env) (s : ir.State) (sc : js.Scope) (u : js.State) → Inside z.place z.code sc → OperandsAlike z w env sc (own ∷ ts) (r ∷ rs) (e ∷ es) → SameState z.place w s u → Sim z.direction (Valued z.place w env (call_type m.result)) (ir_meaning.in_order (as_instances z c r ∷ rs) act env s) (shown z (core.receiver_call way.callee e (expressions_of es)) sc u)
+  looked_call_alike own way ts r rs e es f fit w env s sc u inside (more_operands _ _ _ _ _ _ told one others) same = subst (λ o. Sim z.direction F (ir_meaning.in_order (as_instances z c r ∷ rs) act env s) o) (sym (way.shows e es w s sc u inside same)) (sim_then z.direction (Taken z.place w env own c) F (as_instances z c r env s) (shown z e sc u) (ir.onward (λ v. ir_meaning.in_order rs (λ vs. act (v ∷ vs)))) (js.with_value (behind way.dispatches es sc)) (takes z c w env s sc u own r e (one w s u (grows-refl w) same)) each)
     where
-      hijacked : Bool
-      hijacked = (usable z).lookup.has_hijacked c
-
       F : ir.Ended → js.ExpressionEnd → Type 0
       F = Valued z.place w env (call_type m.result)
 
-      each : (a : ir.Ended) (b : js.ExpressionEnd) → Taken z.place w env own c a b → Sim z.direction F (ir.onward (λ v. ir_meaning.in_order rs (λ vs. act (v ∷ vs))) a) (js.with_value (behind hijacked es sc) b)
+      each : (a : ir.Ended) (b : js.ExpressionEnd) → Taken z.place w env own c a b → Sim z.direction F (ir.onward (λ v. ir_meaning.in_order rs (λ vs. act (v ∷ vs))) a) (js.with_value (behind way.dispatches es sc) b)
       each _ _ (taken_out y v x s u g a states) = sim_done z.direction F (ir.ends (ir.throws v) env s) (js.throws x u) (thrown y v x s u g a states)
-      each _ _ (taken y v x s u g a states k) = behind_alike hijacked looks_here ts fit w y env s sc u v x rs es g (record { stands = value-fits y (class_type c) own v x f a; its = has_class z.place y s u states c own v x free a k }) (operands-lift z w y env sc ts rs es g others) states
+      each _ _ (taken y v x s u g a states k) = let one : IsInstance z.place.classes y c v x = record { stands = value-fits y (class_type c) own v x f a; its = has_class z.place y s u states c own v x free a k } in behind_alike way.dispatches ts fit w y env s sc u v x rs es g one (way.answers y v x one s u a states) (operands-lift z w y env sc ts rs es g others) states
 
   -- a receiver whose value is known to be an instance
-  pub known_call_alike : (own : IrType) (ts : List IrType) (v : ir.Value) (rs : List ir.Run) (e : core.Expression) (es : List core.Expression) → Fits (class_type c) own → FitAll (types_referred m.params) ts → (w : World) (env : ir.Env) (s : ir.State) (sc : js.Scope) (u : js.State) → Inside z.place z.code sc → HasClass z.place.classes w c v → OperandAlike z w env sc own (ir.given v) (shown z e) → OperandsAlike z w env sc ts rs es → SameState z.place w s u → Sim z.direction (Valued z.place w env (call_type m.result)) (ir_meaning.in_order rs (λ vs. act (v ∷ vs)) env s) (shown z (call_text e es) sc u)
-  known_call_alike own ts v rs e es f fit w env s sc u inside one first others same = subst (λ o. Sim z.direction F (ir_meaning.in_order rs (λ vs. act (v ∷ vs)) env s) o) (sym (js_is hijacked refl e es w s sc u inside same)) (sim_then z.direction (λ a b. Valued z.place w env own a b × (a ≡ ir.ends (ir.gives v) env s)) F (ir.given v env s) (shown z e sc u) (ir.onward (λ v. ir_meaning.in_order rs (λ vs. act (v ∷ vs)))) (js.with_value (behind hijacked es sc)) (sim_known z.direction (Valued z.place w env own) (ir.ends (ir.gives v) env s) (shown z e sc u) (first w s u (grows-refl w) same)) (λ a b h. each a b h.0 h.1))
+  pub known_call_alike : (own : IrType) (way : Way own) (ts : List IrType) (v : ir.Value) (rs : List ir.Run) (e : core.Expression) (es : List core.Expression) → Fits (class_type c) own → FitAll (types_referred m.params) ts → (w : World) (env : ir.Env) (s : ir.State) (sc : js.Scope) (u : js.State) → Inside z.place z.code sc → HasClass z.place.classes w c v → OperandAlike z w env sc own (ir.given v) (shown z e) → OperandsAlike z w env sc ts rs es → SameState z.place w s u → Sim z.direction (Valued z.place w env (call_type m.result)) (ir_meaning.in_order rs (λ vs. act (v ∷ vs)) env s) (shown z (core.receiver_call way.callee e (expressions_of es)) sc u)
+  known_call_alike own way ts v rs e es f fit w env s sc u inside one first others same = subst (λ o. Sim z.direction F (ir_meaning.in_order rs (λ vs. act (v ∷ vs)) env s) o) (sym (way.shows e es w s sc u inside same)) (sim_then z.direction (λ a b. Valued z.place w env own a b × (a ≡ ir.ends (ir.gives v) env s)) F (ir.given v env s) (shown z e sc u) (ir.onward (λ v. ir_meaning.in_order rs (λ vs. act (v ∷ vs)))) (js.with_value (behind way.dispatches es sc)) (sim_known z.direction (Valued z.place w env own) (ir.ends (ir.gives v) env s) (shown z e sc u) (first w s u (grows-refl w) same)) (λ a b h. each a b h.0 h.1))
     where
-      hijacked : Bool
-      hijacked = (usable z).lookup.has_hijacked c
-
       F : ir.Ended → js.ExpressionEnd → Type 0
       F = Valued z.place w env (call_type m.result)
 
-      each : (a : ir.Ended) (b : js.ExpressionEnd) → Valued z.place w env own a b → a ≡ ir.ends (ir.gives v) env s → Sim z.direction F (ir.onward (λ v. ir_meaning.in_order rs (λ vs. act (v ∷ vs))) a) (js.with_value (behind hijacked es sc) b)
+      each : (a : ir.Ended) (b : js.ExpressionEnd) → Valued z.place w env own a b → a ≡ ir.ends (ir.gives v) env s → Sim z.direction F (ir.onward (λ v. ir_meaning.in_order rs (λ vs. act (v ∷ vs))) a) (js.with_value (behind way.dispatches es sc) b)
       each _ _ (thrown y q j s2 u2 g a states) e = absurd (cc)
-      each _ _ (valued y q j s2 u2 g a states) e = let is : q ≡ v = ap value_given e in subst (λ k. Sim z.direction F (ir_meaning.in_order rs (λ vs. act (k ∷ vs)) env s2) (behind hijacked es sc j u2)) (sym is) (behind_alike hijacked looks_here ts fit w y env s2 sc u2 v j rs es g (record { stands = value-fits y (class_type c) own v j f (subst (λ k. SameValue y own k j) is a); its = class_lift z.place.classes w y c v g one }) (operands-lift z w y env sc ts rs es g others) states)
+      each _ _ (valued y q j s2 u2 g a states) e = let is : q ≡ v = ap value_given e in subst (λ k. Sim z.direction F (ir_meaning.in_order rs (λ vs. act (k ∷ vs)) env s2) (behind way.dispatches es sc j u2)) (sym is) (let its : IsInstance z.place.classes y c v j = record { stands = value-fits y (class_type c) own v j f (subst (λ k. SameValue y own k j) is a); its = class_lift z.place.classes w y c v g one } in behind_alike way.dispatches ts fit w y env s2 sc u2 v j rs es g its (way.answers y v j its s2 u2 (subst (λ k. SameValue y own k j) is a) states) (operands-lift z w y env sc ts rs es g others) states)
+
+-- what stands at the address of an array is of the class of objects
+array_class : (p : Place) (w : World) (c : List ℕ) (k : ArrayAt) (n : Option ArrayAt) (o : Option ir.Stored) (q : Option js.Stored) → n ≡ Some k → SameStored p w c n o q → c ≡ object
+array_class p w _ k _ _ _ e (same_object c fields properties tells bare fs) = impossible (cc)
+array_class p w _ k _ _ _ e (same_array r items properties tells bare told) = refl
+
+-- a method of an array: what is an instance at its type is an array, which has the entry
+module _ (z : Setting) (lawful : Lawful z) (m : MethodName) (has : (usable z).on_arrays m ≡ true) (r : ArrayRef) where
+  class_is : (y : World) (s : ir.State) (u : js.State) → SameState z.place y s u → (i a : ℕ) (k : ArrayAt) → y.place i ≡ Some a → y.arrays i ≡ Some k → (c : List ℕ) → ClassTold y (ir.reference i) c → c ≡ object
+  class_is y s u same i a k there at c told = let h = same.heaps.objects i a there in some_class c h.class (sym (told_class z.place y s u same (ir.reference i) c told) ∙ (object_there z.place y s u same i a there h.class h.told).stored) ∙ array_class z.place y h.class k (y.arrays i) (slice_get s.heap i) (slice_get u.heap a) at h.alike
+
+  pub array_answers : (y : World) (v : ir.Value) (x : js.Value) (one : IsInstance z.place.classes y object v x) (s : ir.State) (u : js.State) → Stands y false v x → suits (Array r) v ≡ true → Shaped y v (Array r) → SameState z.place y s u → Finds z m y one.its.class v x u
+  array_answers y _ _ one s u (same_reference i a there) k h same = subst (λ c. Finds z m y c (ir.reference i) (js.object a) u) (sym (class_is y s u same i a h.at there h.told one.its.class one.its.told)) (lawful.array_calls m has y i a h.at there h.told s u same)
+  array_answers y _ _ one s u same_null k h same = let e = told_class z.place y s u same ir.null one.its.class one.its.told in impossible (cc)
+  array_answers y _ _ one s u same_undefined k h same = impossible k
+  array_answers y _ _ one s u (same_boolean b) k h same = impossible k
+  array_answers y _ _ one s u (same_char q c f) k h same = impossible q
+  array_answers y _ _ one s u (same_box q c a f b) k h same = impossible k
+  array_answers y _ _ one s u (same_number n f) k h same = impossible k
+  array_answers y _ _ one s u (same_long n f) k h same = impossible k
+  array_answers y _ _ one s u (same_text us) k h same = impossible k
+
+  abbrev pub on_array : (own : IrType) → own ≡ Array r → Way z lawful object m refl own
+  on_array own is = record {
+    callee = callees.OfArray m;
+    dispatches = false;
+    shows = λ e es w s sc u inside same. ap (λ args. then_do (shown z e sc u) (js.with_value (λ v s. js_meaning.call_property z.place.program z.js_low args v (js_objects.callee z.place.program s v (method_binding Entry m)) sc s))) (row_shown z es);
+    answers = λ y v x one s u a same. let b = subst (λ t. SameValue y t v x) is a in array_answers y v x one s u b.stands b.suits b.shaped same;
+    told = λ t e es. refl;
+  }

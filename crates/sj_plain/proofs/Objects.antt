@@ -32,15 +32,15 @@ use Rattle.sj_trees.specs.Types.{class_type}
 use Rattle.sj_trees.specs.declared.types.IrType.{IrType}
 use Rattle.sj_trees.specs.declared.types.IrType.TheVariants.{NoType}
 use Rattle.body_rules.proofs.Statics.{read_static}
-use Rattle.sj_plain.specs.Settings.{Setting, shown, usable, IsField, FieldsDiffer, SameField, same_field, no_field, SameStored, same_object, HasNoEntries, SameHeap, SameState, Valued, valued, thrown, Based, Lawful, a_constructor, a_class, a_method, a_static, a_setter, a_cell, cell_name, a_helper, Holding, holding, top_function, top_call, links_of, Inside, Makes, makes, Built, built, failed, zeroed, IsReceiver}
+use Rattle.sj_plain.specs.Settings.{Setting, shown, usable, IsField, FieldsDiffer, SameField, same_field, no_field, SameStored, same_object, same_array, HasNoEntries, SameHeap, SameState, Valued, valued, thrown, Based, Lawful, a_constructor, a_class, a_method, a_static, a_setter, a_cell, cell_name, a_helper, Holding, holding, top_function, top_call, links_of, Inside, Makes, makes, Built, built, failed, zeroed, IsReceiver}
 use Rattle.body_rules.specs.Standing.{Fits, FitAll, types_referred, call_type}
-use Rattle.sj_plain.specs.Worlds.{with_pending, with_born}
+use Rattle.sj_plain.specs.Worlds.{ArrayAt, with_pending, with_born}
 use Rattle.sj_plain.proofs.Heaps.{writes, births, stored-carry, holding-carry, numbers-same, place-there}
 use Rattle.sj_plain.proofs.Orders.{ActsAlike, OperandAlike, OperandsAlike, all_shown, in_order_alike, valued-weaken}
 use Rattle.sj_plain.proofs.Standing.{open-refers, type-open}
 use Rattle.sj_plain.proofs.Tops.{row_shown, top_seen}
 use Rattle.std.proofs.lemmas.Slice.Eq.{bytes_eq-Decides}
-use Rattle.sj_plain.proofs.Worlds.{World, Grows, grows-refl, grows-trans, SameValue, Stands, same_undefined, same_null, same_boolean, same_char, same_box, same_number, same_long, same_text, same_reference, value-fits, value-carry, values-fit, SameValues, no_values, one_more}
+use Rattle.sj_plain.proofs.Worlds.{World, Keeps, grown-keeps, shaped-class, Grows, grows-refl, grows-trans, SameValue, Stands, same_undefined, same_null, same_boolean, same_char, same_box, same_number, same_long, same_text, same_reference, value-fits, value-carry, values-fit, SameValues, no_values, one_more}
 
 -- two texts that are the same by their test
 same-class : (d c : List ℕ) (b : Bool) → (is_same_text d c && b) ≡ true → d ≡ c
@@ -55,8 +55,9 @@ no_entries_with c f x properties bare m = bare m
 
 module _ (z : Setting) (law : Based z) where
   -- a field that is read
-  selected : (base y : World) (env : ir.Env) (sc : js.Scope) (s : ir.State) (u : js.State) (c f : List ℕ) (t : IrType) (k : List ℕ) (o : Option ir.Stored) (q : Option js.Stored) → IsField z.place.classes c f t → Grows base y → SameState z.place y s u → SameStored z.place y k o q → Sim z.direction (Valued z.place base env t) (ir_meaning.value_or_wrong (ir_meaning.field_of c f o) env s) (js_meaning.value_or_wrong (js_objects.stored_property z.place.program q (property_name c f)) sc u)
-  selected base y env sc s u c f t _ _ _ has g same (same_object d fields properties told bare fs) = field (fields c f) (properties (property_name c f)) refl (fs c f t has)
+  selected : (base y : World) (env : ir.Env) (sc : js.Scope) (s : ir.State) (u : js.State) (c f : List ℕ) (t : IrType) (k : List ℕ) (n : Option ArrayAt) (o : Option ir.Stored) (q : Option js.Stored) → IsField z.place.classes c f t → Grows base y → SameState z.place y s u → SameStored z.place y k n o q → Sim z.direction (Valued z.place base env t) (ir_meaning.value_or_wrong (ir_meaning.field_of c f o) env s) (js_meaning.value_or_wrong (js_objects.stored_property z.place.program q (property_name c f)) sc u)
+  selected base y env sc s u c f t _ _ _ _ has g same (same_array k items properties told bare its) = sim_wrong z.direction (Valued z.place base env t) _
+  selected base y env sc s u c f t _ _ _ _ has g same (same_object d fields properties told bare fs) = field (fields c f) (properties (property_name c f)) refl (fs c f t has)
     where
       field : (v : Option ir.Value) (x : Option js.Value) → properties (property_name c f) ≡ x → SameField y t v x → Sim z.direction (Valued z.place base env t) (ir_meaning.value_or_wrong v env s) (js_meaning.value_or_wrong (js_objects.value_on (js_objects.or_value (properties (property_name c f)) (js_objects.method_on z.place.program (links_of z.place d) (property_name c f))) (property_name c f)) sc u)
       field _ _ e (same_field v x a) = subst (λ r. Sim z.direction (Valued z.place base env t) (done (ir.ends (ir.gives v) env s)) (js_meaning.value_or_wrong (js_objects.value_on (js_objects.or_value r (js_objects.method_on z.place.program (links_of z.place d) (property_name c f))) (property_name c f)) sc u)) (sym e) (sim_done z.direction (Valued z.place base env t) (ir.ends (ir.gives v) env s) (js.gives x u) (valued y v x s u g a same))
@@ -66,7 +67,7 @@ module _ (z : Setting) (law : Based z) where
   select_acts base env sc own c f t has y _ _ s u g (one_more _ v x _ _ _ a no_values) same = by v x a.stands
     where
       by : (v : ir.Value) (x : js.Value) → Stands y (is_char own) v x → Sim z.direction (Valued z.place base env t) (ir_meaning.select_field c f (v ∷ []) env s) (js_meaning.read_property z.place.program (property_name c f) (x ∷ []) sc u)
-      by _ _ (same_reference i a e) = let h = same.heaps.objects i a e in selected base y env sc s u c f t h.class (slice_get s.heap i) (slice_get u.heap a) has g same h.alike
+      by _ _ (same_reference i a e) = let h = same.heaps.objects i a e in selected base y env sc s u c f t h.class (y.arrays i) (slice_get s.heap i) (slice_get u.heap a) has g same h.alike
       by _ _ _ = sim_wrong z.direction (Valued z.place base env t) _
 
   -- a field of a receiver
@@ -105,22 +106,23 @@ module _ (z : Setting) (law : Based z) where
       go true e = same_field v x (subst (λ k. SameValue y k v x) (differ.types c f t i has (subst (λ n. IsField z.place.classes n f i) (same-class d c (is_same_text g f) e) (subst (λ n. IsField z.place.classes d n i) (same-name (is_same_text d c) g f e) there))) a)
       go false e = fs d g i there
 
-  written_there : FieldsDiffer z.place → (F : ir.Ended → js.StatementEnd → Type 0) (y : World) (env : ir.Env) (sc : js.Scope) (s : ir.State) (u : js.State) (i a : ℕ) (v : ir.Value) (x : js.Value) (c f : List ℕ) (t : IrType) (k : List ℕ) (o : Option ir.Stored) (q : Option js.Stored) → IsField z.place.classes c f t → y.place i ≡ Some a → y.classes i ≡ Some k → SameValue y t v x → SameState z.place y s u → ((s : ir.State) (u : js.State) → SameState z.place y s u → F (ir.ends (ir.gives ir.undefined) env s) (js.ends js.normally sc u)) → SameStored z.place y k o q → Sim z.direction F (ir_meaning.assigned (ir_meaning.set_field c f v i o s) env s) (js_meaning.with_state (js_objects.set_stored a q (property_name c f) x u) sc u)
-  written_there differ F y env sc s u i a v x c f t _ _ _ has there known alike same goes (same_object d fields properties told bare fs) = by (fields c f)
+  written_there : FieldsDiffer z.place → (F : ir.Ended → js.StatementEnd → Type 0) (y : World) (env : ir.Env) (sc : js.Scope) (s : ir.State) (u : js.State) (i a : ℕ) (v : ir.Value) (x : js.Value) (c f : List ℕ) (t : IrType) (k : List ℕ) (n : Option ArrayAt) (o : Option ir.Stored) (q : Option js.Stored) → IsField z.place.classes c f t → y.place i ≡ Some a → y.classes i ≡ Some k → y.arrays i ≡ n → SameValue y t v x → SameState z.place y s u → ((s : ir.State) (u : js.State) → SameState z.place y s u → F (ir.ends (ir.gives ir.undefined) env s) (js.ends js.normally sc u)) → SameStored z.place y k n o q → Sim z.direction F (ir_meaning.assigned (ir_meaning.set_field c f v i o s) env s) (js_meaning.with_state (js_objects.set_stored a q (property_name c f) x u) sc u)
+  written_there differ F y env sc s u i a v x c f t _ _ _ _ has there known none alike same goes (same_array k items properties told bare its) = sim_wrong z.direction F _
+  written_there differ F y env sc s u i a v x c f t _ _ _ _ has there known none alike same goes (same_object d fields properties told bare fs) = by (fields c f)
     where
       with_it : js.Stored
       with_it = js.plain (links_of z.place d) (js_objects.with_property (property_name c f) x properties)
 
       by : (old : Option ir.Value) → Sim z.direction F (ir_meaning.assigned (ir_meaning.if_there old (ir.at_address i (ir.object d (ir.with_field c f v fields)) s)) env s) (done (js.ends js.normally sc (js_objects.at_address a with_it u)))
       by None = sim_wrong z.direction F _
-      by (Some old) = sim_done z.direction F (ir.ends (ir.gives ir.undefined) env (ir.at_address i (ir.object d (ir.with_field c f v fields)) s)) (js.ends js.normally sc (js_objects.at_address a with_it u)) (goes _ _ (record { heaps = writes z.place y s.heap u.heap same.heaps i a d (ir.object d (ir.with_field c f v fields)) with_it there known (same_object d (ir.with_field c f v fields) (js_objects.with_property (property_name c f) x properties) (record { address = told.address; constants = told.constants; held = told.held; owned = told.owned; marked = told.marked; known = told.known }) (no_entries_with c f x properties bare) (written differ y v x c f t fields properties has alike fs)); tops = same.tops; statics = same.statics; cells = same.cells }))
+      by (Some old) = sim_done z.direction F (ir.ends (ir.gives ir.undefined) env (ir.at_address i (ir.object d (ir.with_field c f v fields)) s)) (js.ends js.normally sc (js_objects.at_address a with_it u)) (goes _ _ (record { heaps = writes z.place y s.heap u.heap same.heaps i a d (ir.object d (ir.with_field c f v fields)) with_it there known none (same_object d (ir.with_field c f v fields) (js_objects.with_property (property_name c f) x properties) (record { address = told.address; constants = told.constants; held = told.held; owned = told.owned; marked = told.marked; known = told.known }) (no_entries_with c f x properties bare) (written differ y v x c f t fields properties has alike fs)); tops = same.tops; statics = same.statics; cells = same.cells }))
 
   -- a field of an object is written: the IR gives undef, and the statement ends normally, in states that stand for each other
   pub field_written : FieldsDiffer z.place → (F : ir.Ended → js.StatementEnd → Type 0) (y : World) (env : ir.Env) (sc : js.Scope) (s : ir.State) (u : js.State) (own : IrType) (r v : ir.Value) (q x : js.Value) (c f : List ℕ) (t : IrType) → IsField z.place.classes c f t → SameValue y own r q → SameValue y t v x → SameState z.place y s u → ((s : ir.State) (u : js.State) → SameState z.place y s u → F (ir.ends (ir.gives ir.undefined) env s) (js.ends js.normally sc u)) → Sim z.direction F (ir_meaning.assign_field c f (r ∷ v ∷ []) env s) (js_meaning.with_state (js_objects.set_property q (property_name c f) x u) sc u)
   field_written differ F y env sc s u own r v q x c f t has object alike same goes = by r q object.stands
     where
       by : (r : ir.Value) (q : js.Value) → Stands y (is_char own) r q → Sim z.direction F (ir_meaning.assign_field c f (r ∷ v ∷ []) env s) (js_meaning.with_state (js_objects.set_property q (property_name c f) x u) sc u)
-      by _ _ (same_reference i a e) = let h = same.heaps.objects i a e in written_there differ F y env sc s u i a v x c f t h.class (slice_get s.heap i) (slice_get u.heap a) has e h.told alike same goes h.alike
+      by _ _ (same_reference i a e) = let h = same.heaps.objects i a e in written_there differ F y env sc s u i a v x c f t h.class (y.arrays i) (slice_get s.heap i) (slice_get u.heap a) has e h.told refl alike same goes h.alike
       by _ _ _ = sim_wrong z.direction F _
 
   pending-kept : (w : World) (a b : ℕ) (o d : js.Stored) → ((b : js.Stored) → w.pending a ≡ Some b → ⊥) → w.pending b ≡ Some d → (t : Bool) → (b == a) ≡ t → (if t then Some o else w.pending b) ≡ Some d
@@ -142,13 +144,13 @@ module _ (z : Setting) (law : Based z) where
   classed-still y s u h i b c d e k true l = absurd (place-there z.place y s u h i b e (numbers-same i (length s) l))
   classed-still y s u h i b c d e k false l = k
 
-  values-carry : (u w : World) (ts : List IrType) (vs : List ir.Value) (xs : List js.Value) → ((i a : ℕ) → u.place i ≡ Some a → w.place i ≡ Some a) → ((a : ℕ) (o : js.Stored) → u.owned a ≡ Some o → w.owned a ≡ Some o) → u.boxes ≡ w.boxes → SameValues u ts vs xs → SameValues w ts vs xs
-  values-carry u w _ _ _ g h k no_values = no_values
-  values-carry u w _ _ _ g h k (one_more t v x ts vs xs a others) = one_more t v x ts vs xs (value-carry u w t v x g h k a) (values-carry u w ts vs xs g h k others)
+  values-carry : (u w : World) (ts : List IrType) (vs : List ir.Value) (xs : List js.Value) → Keeps u w → SameValues u ts vs xs → SameValues w ts vs xs
+  values-carry u w _ _ _ g no_values = no_values
+  values-carry u w _ _ _ g (one_more t v x ts vs xs a others) = one_more t v x ts vs xs (value-carry u w t v x g a) (values-carry u w ts vs xs g others)
 
   -- the constructor runs on the object that the emitted code has made before the arguments, and the IR behind them
-  construct_acts : (c : List ℕ) (m : MethodName) (ts : List IrType) (w : World) (env : ir.Env) (sc : js.Scope) (a : ℕ) (o : js.Stored) → (usable z).built (member c Constructor m) ≡ true → (usable z).made c ≡ true → is_hijacked c ≡ false → FitAll (types_referred m.params) ts → ((b : js.Stored) → w.pending a ≡ Some b → ⊥) → SameStored z.place w c (Some (zeroed z.place c)) (Some o) → ActsAlike z w (with_pending a o w) env ts (class_type c) (ir_meaning.construct z.place.classes z.low c m) (λ xs. js_meaning.call z.place.program z.js_low (top_function z.place (a_constructor (member c Constructor m))) (js.object a ∷ xs)) sc
-  construct_acts c m ts w env sc a o linked made free fit fresh shape y vs xs s u g alike same = subst (λ q. Sim z.direction (Valued z.place w env (class_type c)) (ir_meaning.construct z.place.classes z.low c m vs env s) q) (then_do-right (js_call u)) (sim_then z.direction (Built z.place born env (js.object a)) (Valued z.place w env (class_type c)) (ir_meaning.call z.low (ir_world.member_of z.place.classes c Constructor m) (Some (ir.reference i)) vs env (ir.with_stored (zeroed z.place c) s)) (js_call u) (ir.onward (λ v. ir.given (ir.reference i))) done (law.builds (member c Constructor m) linked born (ir.reference i) (js.object a) vs xs env (ir.with_stored (zeroed z.place c) s) u (record { stands = record { stands = same_reference i a (here-some i a (y.place i)); suits = open-refers (class_type c) i (type-open c free) }; there = λ e. cc }) (values-carry y born (types_referred m.params) vs xs placed (λ b d e. e) refl (values-fit y (types_referred m.params) ts vs xs fit alike)) states) each)
+  construct_acts : (c : List ℕ) (m : MethodName) (ts : List IrType) (w : World) (env : ir.Env) (sc : js.Scope) (a : ℕ) (o : js.Stored) → (usable z).built (member c Constructor m) ≡ true → (usable z).made c ≡ true → is_hijacked c ≡ false → FitAll (types_referred m.params) ts → ((b : js.Stored) → w.pending a ≡ Some b → ⊥) → SameStored z.place w c None (Some (zeroed z.place c)) (Some o) → ActsAlike z w (with_pending a o w) env ts (class_type c) (ir_meaning.construct z.place.classes z.low c m) (λ xs. js_meaning.call z.place.program z.js_low (top_function z.place (a_constructor (member c Constructor m))) (js.object a ∷ xs)) sc
+  construct_acts c m ts w env sc a o linked made free fit fresh shape y vs xs s u g alike same = subst (λ q. Sim z.direction (Valued z.place w env (class_type c)) (ir_meaning.construct z.place.classes z.low c m vs env s) q) (then_do-right (js_call u)) (sim_then z.direction (Built z.place born env (js.object a)) (Valued z.place w env (class_type c)) (ir_meaning.call z.low (ir_world.member_of z.place.classes c Constructor m) (Some (ir.reference i)) vs env (ir.with_stored (zeroed z.place c) s)) (js_call u) (ir.onward (λ v. ir.given (ir.reference i))) done (law.builds (member c Constructor m) linked born (ir.reference i) (js.object a) vs xs env (ir.with_stored (zeroed z.place c) s) u (record { stands = record { stands = same_reference i a (here-some i a (y.place i)); suits = open-refers (class_type c) i (type-open c free); shaped = shaped-class born c (ir.reference i) }; there = λ e. cc }) (values-carry y born (types_referred m.params) vs xs kept (values-fit y (types_referred m.params) ts vs xs fit alike)) states) each)
     where
       i : ℕ
       i = ir.next_address s
@@ -162,14 +164,17 @@ module _ (z : Setting) (law : Based z) where
       placed : (j b : ℕ) → y.place j ≡ Some b → born.place j ≡ Some b
       placed j b e = placed-still y s.heap u.heap same.heaps j b a e (j == i) refl
 
+      kept : Keeps y born
+      kept = record { places = placed; arrays = λ j k e. e; owns = λ b d e. e; boxes = refl }
+
       states : SameState z.place born (ir.with_stored (zeroed z.place c) s) u
-      states = record { heaps = births z.place y s.heap u.heap same.heaps a o c (zeroed z.place c) (g.pends a o (here-some a o (w.pending a))) free (record { file = z.code.file; made = made }) (stored-carry z.place w y g.places g.owns g.boxes c (Some (zeroed z.place c)) (Some o) shape); tops = same.tops; statics = λ q d n t l. holding-carry y born t placed (λ b d e. e) refl (s.statics d n) (u.tops (z.place.home (a_static d n t)) (static_name d n)) (same.statics q d n t l); cells = λ q d l. holding-carry y born (class_type d) placed (λ b d e. e) refl (Some (s.cells d)) (u.tops (z.place.home (a_cell d)) (cell_name d)) (same.cells q d l) }
+      states = record { heaps = births z.place y s.heap u.heap same.heaps a o c (zeroed z.place c) (g.pends a o (here-some a o (w.pending a))) free (record { file = z.code.file; made = made }) (stored-carry z.place w y (record { places = g.places; arrays = g.arrays; owns = g.owns; boxes = g.boxes }) c None (Some (zeroed z.place c)) (Some o) shape); tops = same.tops; statics = λ q d n t l. holding-carry y born t kept (s.statics d n) (u.tops (z.place.home (a_static d n t)) (static_name d n)) (same.statics q d n t l); cells = λ q d l. holding-carry y born (class_type d) kept (Some (s.cells d)) (u.tops (z.place.home (a_cell d)) (cell_name d)) (same.cells q d l) }
 
       grown : Grows w born
-      grown = record { places = λ j b e. placed j b (g.places j b e); classes = λ j b d e k. classed-still y s.heap u.heap same.heaps j b c d (g.places j b e) (g.classes j b d e k) (j == i) refl; owns = g.owns; boxes = g.boxes; pends = λ b d e. pending-left w y a b d fresh e (g.pends b d (pending-kept w a b o d fresh e (b == a) refl)) (b == a) refl }
+      grown = record { places = λ j b e. placed j b (g.places j b e); classes = λ j b d e k. classed-still y s.heap u.heap same.heaps j b c d (g.places j b e) (g.classes j b d e k) (j == i) refl; arrays = g.arrays; owns = g.owns; boxes = g.boxes; pends = λ b d e. pending-left w y a b d fresh e (g.pends b d (pending-kept w a b o d fresh e (b == a) refl)) (b == a) refl }
 
       each : (e : ir.Ended) (b : js.ExpressionEnd) → Built z.place born env (js.object a) e b → Sim z.direction (Valued z.place w env (class_type c)) (ir.onward (λ v. ir.given (ir.reference i)) e) (done b)
-      each _ _ (built w2 v s2 u2 h states) = sim_done z.direction (Valued z.place w env (class_type c)) (ir.ends (ir.gives (ir.reference i)) env s2) (js.gives (js.object a) u2) (valued w2 (ir.reference i) (js.object a) s2 u2 (grows-trans w born w2 grown h) (record { stands = same_reference i a (h.places i a (here-some i a (y.place i))); suits = open-refers (class_type c) i (type-open c free) }) states)
+      each _ _ (built w2 v s2 u2 h states) = sim_done z.direction (Valued z.place w env (class_type c)) (ir.ends (ir.gives (ir.reference i)) env s2) (js.gives (js.object a) u2) (valued w2 (ir.reference i) (js.object a) s2 u2 (grows-trans w born w2 grown h) (record { stands = same_reference i a (h.places i a (here-some i a (y.place i))); suits = open-refers (class_type c) i (type-open c free); shaped = shaped-class w2 c (ir.reference i) }) states)
       each _ _ (failed w2 v x s2 u2 h e states) = sim_done z.direction (Valued z.place w env (class_type c)) (ir.ends (ir.throws v) env s2) (js.throws x u2) (thrown w2 v x s2 u2 (grows-trans w born w2 grown h) e states)
 
   new_shown : (c : List ℕ) (w : World) (s : ir.State) (sc : js.Scope) (u : js.State) → (usable z).made c ≡ true → Inside z.place z.code sc → SameState z.place w s u → js_meaning.evaluate z.place.program z.js_low (tree.new_of (class_name c) tree.no_expressions) sc u ≡ js_meaning.construct z.place.program z.js_low (links_of z.place c) (links_of z.place c) [] u
@@ -198,7 +203,7 @@ module _ (z : Setting) (law : Based z) where
       each _ _ (makes a o u2 fresh shape states) = in_order_alike z w w env sc (with_pending a o w) ts (class_type c) rs es' act (λ xs. js_meaning.call z.place.program z.js_low fun (js.object a ∷ xs)) operands (construct_acts c m ts w env sc a o linked made free fit fresh shape) (with_pending a o w) s u2 (grown a o fresh) (grown a o fresh) (grows-refl (with_pending a o w)) states
         where
           grown : (a : ℕ) (o : js.Stored) → ((b : js.Stored) → w.pending a ≡ Some b → ⊥) → Grows w (with_pending a o w)
-          grown a o fresh = record { places = λ j b e. e; classes = λ j b d e k. k; owns = λ b d e. e; boxes = refl; pends = λ b d e. pending-kept w a b o d fresh e (b == a) refl }
+          grown a o fresh = record { places = λ j b e. e; classes = λ j b d e k. k; arrays = λ j k e. e; owns = λ b d e. e; boxes = refl; pends = λ b d e. pending-kept w a b o d fresh e (b == a) refl }
 
   -- a member runs on a receiver
   receive_acts : (m : Member) (own : IrType) (ts : List IrType) (w : World) (env : ir.Env) (sc : js.Scope) → (usable z).received (called_member (usable z).lookup m.namespace m) ≡ true → Fits (class_type m.class) own → FitAll (types_referred m.method.params) ts → ActsAlike z w w env (own ∷ ts) (call_type m.method.result) (ir_meaning.call_on z.place.classes z.low (ir_meaning.static_target z.place.classes m.class m.namespace m.method)) (js_meaning.call z.place.program z.js_low (top_function z.place (a_method (called_member (usable z).lookup m.namespace m)))) sc

@@ -143,13 +143,13 @@ GivenIf w t (ir_operators.answers v) o = Given w t v o
 GivenIf w t (ir_operators.raises c message) o = ⊥
 
 pub number_given : (w : World) (t : IrType) (z : ℤ) (o : Option js.Value) → o ≡ Some (js.number z) → FitsSigned w32 z → suits t (ir.number z) ≡ true → Given w t (ir.number z) o
-number_given w t z o e f k = record { value = js.number z; is = e; alike = record { stands = same_number z f; suits = k } }
+number_given w t z o e f k = record { value = js.number z; is = e; alike = record { stands = same_number z f; suits = k; shaped = tt } }
 
 boolean_given : (w : World) (b : Bool) (o : Option js.Value) → o ≡ Some (js.boolean b) → Given w Boolean (ir.boolean b) o
-boolean_given w b o e = record { value = js.boolean b; is = e; alike = record { stands = same_boolean b; suits = refl } }
+boolean_given w b o e = record { value = js.boolean b; is = e; alike = record { stands = same_boolean b; suits = refl; shaped = tt } }
 
 pub long_given : (w : World) (z : ℤ) (o : Option js.Value) → o ≡ Some (js.big_int z) → FitsSigned w64 z → Given w Long (ir.long z) o
-long_given w z o e f = record { value = js.big_int z; is = e; alike = record { stands = same_long z f; suits = refl } }
+long_given w z o e f = record { value = js.big_int z; is = e; alike = record { stands = same_long z f; suits = refl; shaped = tt } }
 
 booleans_alike : (w : World) (op : BinaryOp) (a b : Bool) → is_direct op ≡ true → GivenIf w (binary_result op) (ir_operators.boolean_value op a b) (template_value op (js.boolean a) (js.boolean b))
 booleans_alike w BooleanEqual a b h = boolean_given w (ir_operators.is_same_boolean a b) _ (ap (λ (c : Bool). Some (js.boolean c)) (same-boolean a b))

@@ -1,18 +1,18 @@
 -- A plain tree and its expression are alike.
 use Rattle.std.proofs.Common.{◌≡◌, zero, suc, Bool, true, false, List, [], ◌∷◌, None, Option, refl, sym, ap, ◌∙◌, subst, inl, inr, if◌then◌else◌, ⊎_elim}
-use Rattle.std.specs.Prelude.{ℤ, pos, negsuc, FitsSigned, ℕ, ◌&&◌, ◌||◌, ◌⊎◌, not}
+use Rattle.std.specs.Prelude.{ℤ, ◌^◌, codes, length, pos, negsuc, FitsSigned, ℕ, ◌&&◌, ◌||◌, ◌⊎◌, not}
 use Rattle.std.proofs.lemmas.Bool.{and_parts}
 use Rattle.body_rules.proofs.Direct.{Direct, ByLookup, OnArray, ByName, Applied, directly, by_lookup, on_array, by_name, applied}
 use Rattle.ir_mean.proofs.HijackedCalls.{hijacked_call, takes_any}
 use Rattle.ir_mean.proofs.LookedUpCalls.{calls_instance, takes_instances}
 use Rattle.body_rules.proofs.BuiltFormsDirect.{array_valued, IsLookedUp}
-use Rattle.body_rules.proofs.Fitting.{fits-unary, fits-dividend, operates, not_no_type, unary-operand-value, left-operand-value, right-operand-value}
+use Rattle.body_rules.proofs.Fitting.{fits-lowest, fits-unary, fits-dividend, operates, not_no_type, unary-operand-value, left-operand-value, right-operand-value}
 use Rattle.body_rules.proofs.Locals.{there}
 use Rattle.body_rules.proofs.RulesGive.{when_not, ArgumentsFit, Takes, its_types, texts, of_division, of_identity, each_made, arguments_there, operation}
 use Rattle.body_rules.specs.Subtyping.{IsSubtyping}
 use Rattle.body_rules.specs.Typing.{Scene, Typed, TypedAll, may_check}
-use Rattle.body_rules.specs.Boxes.{is_boxed, any_is_boxed, operands_are_boxed, boxes_as_text, any_boxes_as_text}
-use Rattle.body_rules.specs.Built.{Usable, may_make, divides}
+use Rattle.body_rules.specs.Boxes.{is_boxed, any_is_boxed, any_item_boxed, operands_are_boxed, boxes_as_text, any_boxes_as_text}
+use Rattle.body_rules.specs.Built.{Usable, may_make, divides, has_base, is_based, can_cast, are_countable}
 use Rattle.body_rules.specs.Plain.{is_plain, are_plain, is_no_type}
 use Rattle.sj_names.specs.declared.method_names.Namespace.{Namespace}
 use Rattle.sj_names.specs.declared.method_names.MethodName.{MethodName}
@@ -33,14 +33,14 @@ use Rattle.js_tree.specs.Terms as tree
 use Rattle.sj_core.specs.declared.callees.Callee.TheVariants as callees
 use Rattle.sj_core.specs.Terms as core
 use Rattle.sj_core.specs.Views.{expressions_of}
-use Rattle.body_rules.specs.Coercions.{is_char, coerced, coerced_arguments, coerced_receiver}
+use Rattle.body_rules.specs.Coercions.{is_char, coerced, coerced_arguments, coerced_items, coerced_receiver}
 use Rattle.sj_names.specs.declared.references.TypeRef.{TypeRef}
 use Rattle.body_rules.specs.Desugar.{member, types_of, received_text, expression_of, all_expressions}
 use Rattle.body_rules.specs.Texts.{operand_of}
 use Rattle.body_rules.specs.Templates.{check_name, member_name, looked_up_template, expression_template, expression_templates, binary_template, unary_template, is_nonzero_literal}
 use Rattle.sj_names.proofs.Same.{impossible}
 use Rattle.sj_names.specs.declared.method_names.Member.{Member}
-use Rattle.sj_trees.specs.Term.{Term, Terms, no_terms, more_terms, var_def, skip, block_of, labeled, assign, return_to, if_then, while_loop, do_while, throw, try_catch, try_finally, match_on, new_object, select, select_static, apply, apply_statically, this_ref, apply_static, unary_op, binary_op, is_instance_of, as_instance_of, log_line, undefined_literal, null_literal, boolean_literal, char_literal, byte_literal, short_literal, int_literal, long_literal, string_literal, var_ref, load_module, store_module}
+use Rattle.sj_trees.specs.Term.{Term, Terms, no_terms, more_terms, var_def, skip, block_of, labeled, assign, return_to, if_then, while_loop, do_while, throw, try_catch, try_finally, match_on, new_object, new_array, array_value, array_length, array_select, select, select_static, apply, apply_statically, this_ref, apply_static, unary_op, binary_op, is_instance_of, as_instance_of, log_line, undefined_literal, null_literal, boolean_literal, char_literal, byte_literal, short_literal, int_literal, long_literal, string_literal, var_ref, load_module, store_module}
 use Rattle.sj_trees.specs.TypeOf.{type_of_term, unary_result, binary_result}
 use Rattle.sj_trees.specs.declared.operators.BinaryOp.{BinaryOp}
 use Rattle.sj_trees.specs.declared.operators.BinaryOp.TheVariants.{StrictEqual, StrictNotEqual, StringConcatenate, IntDivide, IntRemainder, LongDivide, LongRemainder, LongShiftLeft, LongShiftRightLogical, LongShiftRightArithmetic}
@@ -48,10 +48,10 @@ use Rattle.sj_trees.specs.declared.operators.UnaryOp.{UnaryOp}
 use Rattle.sj_trees.specs.declared.operators.UnaryOp.TheVariants.{CharToInt, ByteToInt, ShortToInt}
 use Rattle.sj_trees.specs.declared.positions.Position.{Position}
 use Rattle.sj_trees.specs.declared.types.IrType.{IrType}
-use Rattle.sj_trees.specs.Types.{class_type, reference_type}
-use Rattle.sj_trees.specs.declared.types.IrType.TheVariants.{Any, Undefined, Null, Boolean, Char, Byte, Short, Int, Long, String}
+use Rattle.sj_trees.specs.Types.{class_type, element_type, reference_type}
+use Rattle.sj_trees.specs.declared.types.IrType.TheVariants.{Any, Array, Undefined, Null, Boolean, Char, Byte, Short, Int, Long, String}
 use Rattle.body_rules.specs.Operators.{is_simple, Operates, of_its_types, joins, divided, compared, a_quotient, a_remainder, a_long_quotient, a_long_remainder, DividesBy, by_int, by_long}
-use Rattle.body_rules.specs.Rules.{left_operand, right_operand, unary_operand, Yields, nothing_wanted, fitting}
+use Rattle.body_rules.specs.Rules.{AllFit, left_operand, right_operand, unary_operand, Yields, nothing_wanted, fitting}
 use Rattle.sj_plain.specs.Conditions.{InScope, IsNoConstruction, Plain}
 use Rattle.body_rules.specs.Locals.{Scope}
 use Rattle.sj_plain.specs.Settings.{Setting, shown, SameState, Inside, Valued, valued, Lawful, Holding, holding, Sees, Receiving, no_receiver, on_receiver, usable, a_function, function_of_member, function_call}
@@ -61,7 +61,11 @@ use Rattle.sj_plain.proofs.Divided.{divided_operands}
 use Rattle.sj_plain.proofs.Divisions.{division_alike, dividend_alone}
 use Rattle.sj_plain.proofs.Operators.{template_value, is_direct}
 use Rattle.sj_plain.proofs.Reflected.{reflected_call_alike}
-use Rattle.sj_plain.proofs.Looked.{as_instances, array_call_alike, looked_call_alike}
+use Rattle.body_rules.proofs.Arrays.{ItemsOf, items-of, items-value, array-value, element-value, below-is}
+use Rattle.sj_names.specs.declared.references.ArrayRef.{ArrayRef}
+use Rattle.sj_plain.proofs.Arrays.{StandForEach, stand-for-each, items_coerced, new_array_alike, array_alike, length_alike, item_alike, any_test_alike, any_cast_alike}
+use Rattle.sj_plain.proofs.Instances.{OnInstances, by_class, by_array}
+use Rattle.sj_plain.proofs.Looked.{as_instances, looked_call_alike}
 use Rattle.sj_plain.proofs.Modules.{load_alike}
 use Rattle.sj_plain.proofs.Objects.{select_alike, static_alike, new_alike, received_call_alike, checked_alike}
 use Rattle.sure_receivers.specs.Sure.{is_sure}
@@ -71,9 +75,9 @@ use Rattle.sj_plain.proofs.Orders.{ActsAlike, OperandAlike, OperandsAlike, no_op
 use Rattle.sj_plain.proofs.Shifts.{left_shift_alike, right_shift_alike, zero_shift_alike, joined_alike}
 use Rattle.sj_plain.proofs.Boxes.{operand_coerced, operands_coerced, stood, stood-fits, operand_stood, all_stood, all-stood-fit, StandsFor, StandForAll, stands-for, stand-for-all, receiver-coerced}
 use Rattle.sj_plain.proofs.Templates.{fits-exact, unit_is_int, by_value, by_one_value, one_template_value, binary_shown, binary_acts, unary_shown, unary_acts}
-use Rattle.sj_plain.proofs.Tests.{test_alike, cast_alike, compared_alike, test_told, cast_told, identity_told}
+use Rattle.sj_plain.proofs.Tests.{compared_alike, test_told, cast_told, identity_told}
 use Rattle.sj_plain.proofs.Told.{may_be_long, tells, tells-narrow, no_ratio}
-use Rattle.sj_plain.proofs.Worlds.{World, Grows, grows-refl, SameValue, Stands, same_undefined, same_null, same_boolean, same_char, same_number, same_long, same_text, value-lift, values-fit, no_values, one_more}
+use Rattle.sj_plain.proofs.Worlds.{World, Grows, grows-refl, Shaped, SameValue, Stands, same_undefined, same_null, same_boolean, same_char, same_number, same_long, same_text, value-lift, values-fit, no_values, one_more}
 
 pub holding-lift : (u w : World) (t : IrType) (o : Option ir.Value) (cell : js.Cell) → Grows u w → Holding u t o cell → Holding w t o cell
 holding-lift u w t _ _ g (holding v x a) = holding v x (value-lift u w t v x g a)
@@ -104,14 +108,14 @@ module _ (z : Setting) (lawful : Lawful z) (scope : Scope) where
   gives_alike : (w : World) (env : ir.Env) (t : IrType) (s : ir.State) (u : js.State) (v : ir.Value) (x : js.Value) → SameValue w t v x → SameState z.place w s u → Sim z.direction (Valued z.place w env t) (done (ir.ends (ir.gives v) env s)) (done (js.gives x u))
   gives_alike w env t s u v x a same = sim_done z.direction (Valued z.place w env t) (ir.ends (ir.gives v) env s) (js.gives x u) (valued w v x s u (grows-refl w) a same)
 
-  literal_alike : (w : World) (env : ir.Env) (t : IrType) (s : ir.State) (u : js.State) (v : ir.Value) (x : js.Value) → Stands w (is_char t) v x → suits t v ≡ true → SameState z.place w s u → Sim z.direction (Valued z.place w env t) (done (ir.ends (ir.gives v) env s)) (done (js.gives x u))
-  literal_alike w env t s u v x a k same = gives_alike w env t s u v x (record { stands = a; suits = k }) same
+  literal_alike : (w : World) (env : ir.Env) (t : IrType) (s : ir.State) (u : js.State) (v : ir.Value) (x : js.Value) → Stands w (is_char t) v x → suits t v ≡ true → Shaped w v t → SameState z.place w s u → Sim z.direction (Valued z.place w env t) (done (ir.ends (ir.gives v) env s)) (done (js.gives x u))
+  literal_alike w env t s u v x a k r same = gives_alike w env t s u v x (record { stands = a; suits = k; shaped = r }) same
 
-  number_alike : (w : World) (env : ir.Env) (t : IrType) (s : ir.State) (sc : js.Scope) (u : js.State) (v : ir.Value) (n : ℤ) → FitsSigned w32 n → Stands w (is_char t) v (js.number n) → suits t v ≡ true → SameState z.place w s u → Sim z.direction (Valued z.place w env t) (done (ir.ends (ir.gives v) env s)) (js_meaning.literal n sc u)
-  number_alike w env t s sc u v n f a k same = subst (λ (b : Bool). Sim z.direction (Valued z.place w env t) (done (ir.ends (ir.gives v) env s)) (if b then done (js.gives (js.number n) u) else wrong)) (sym (fits-exact n f)) (literal_alike w env t s u v (js.number n) a k same)
+  number_alike : (w : World) (env : ir.Env) (t : IrType) (s : ir.State) (sc : js.Scope) (u : js.State) (v : ir.Value) (n : ℤ) → FitsSigned w32 n → Stands w (is_char t) v (js.number n) → suits t v ≡ true → Shaped w v t → SameState z.place w s u → Sim z.direction (Valued z.place w env t) (done (ir.ends (ir.gives v) env s)) (js_meaning.literal n sc u)
+  number_alike w env t s sc u v n f a k r same = subst (λ (b : Bool). Sim z.direction (Valued z.place w env t) (done (ir.ends (ir.gives v) env s)) (if b then done (js.gives (js.number n) u) else wrong)) (sym (fits-exact n f)) (literal_alike w env t s u v (js.number n) a k r same)
 
   long_alike : (w : World) (env : ir.Env) (s : ir.State) (sc : js.Scope) (u : js.State) (n : ℤ) → FitsSigned w64 n → SameState z.place w s u → Sim z.direction (Valued z.place w env Long) (done (ir.ends (ir.gives (ir.long n)) env s)) (js_meaning.literal_of_big n sc u)
-  long_alike w env s sc u n f same = subst (λ (b : Bool). Sim z.direction (Valued z.place w env Long) (done (ir.ends (ir.gives (ir.long n)) env s)) (if b then done (js.gives (js.big_int n) u) else wrong)) (sym (in_range-fits n f)) (literal_alike w env Long s u (ir.long n) (js.big_int n) (same_long n f) refl same)
+  long_alike w env s sc u n f same = subst (λ (b : Bool). Sim z.direction (Valued z.place w env Long) (done (ir.ends (ir.gives (ir.long n)) env s)) (if b then done (js.gives (js.big_int n) u) else wrong)) (sym (in_range-fits n f)) (literal_alike w env Long s u (ir.long n) (js.big_int n) (same_long n f) refl tt same)
 
   local_alike : (w : World) (env : ir.Env) (t : IrType) (s : ir.State) (u : js.State) (o : Option ir.Value) (cell outer : js.Cell) → Holding w t o cell → SameState z.place w s u → Sim z.direction (Valued z.place w env t) (ir_meaning.local_value o env s) (js_meaning.cell_value (js_meaning.or_outer cell outer) u)
   local_alike w env t s u _ _ outer (holding v x a) same = gives_alike w env t s u v x a same
@@ -411,15 +415,67 @@ module _ (z : Setting) (lawful : Lawful z) (scope : Scope) where
 
     test_tree : (p : Position) (e : Term) (t : IrType) → Kept (is_instance_of p e t) → StandsFor z Any (type_of_term e) → TreeAlike e → TreeAlike (is_instance_of p e t)
     test_tree p e t h f one = record {
-      alike = λ w env s sc u sees same. test_alike z lawful t (stood Any (type_of_term e) f.0) h.0.built (stood-fits Any (type_of_term e) f.0) (ir_meaning.step z.place.classes z.low e) (coerced Any (type_of_term e) (expression_of z.code.sure e)) w env s sc u sees.inside (brought e f one w env sc sees) same;
+      alike = λ w env s sc u sees same. any_test_alike z lawful t (stood Any (type_of_term e) f.0) h.0.finds its.0 its.1 (stood-fits Any (type_of_term e) f.0) (ir_meaning.step z.place.classes z.low e) (coerced Any (type_of_term e) (expression_of z.code.sure e)) w env s sc u sees.inside (brought e f one w env sc sees) same;
       told = test_told z lawful t (coerced Any (type_of_term e) (expression_of z.code.sure e));
     }
+      where
+        its : ((usable z).tests t ≡ true) × (is_based (usable z) t ≡ true)
+        its = and_parts ((usable z).tests t) (is_based (usable z) t) h.0.built
 
     cast_tree : (p : Position) (e : Term) (t : IrType) → Kept (as_instance_of p e t) → StandsFor z Any (type_of_term e) → TreeAlike e → TreeAlike (as_instance_of p e t)
     cast_tree p e t h f one = record {
-      alike = λ w env s sc u sees same. cast_alike z lawful t (stood Any (type_of_term e) f.0) h.0.built (stood-fits Any (type_of_term e) f.0) (ir_meaning.step z.place.classes z.low e) (coerced Any (type_of_term e) (expression_of z.code.sure e)) w env s sc u sees.inside (brought e f one w env sc sees) same;
+      alike = λ w env s sc u sees same. any_cast_alike z lawful t (stood Any (type_of_term e) f.0) h.0.finds its.0 its.1 (stood-fits Any (type_of_term e) f.0) (ir_meaning.step z.place.classes z.low e) (coerced Any (type_of_term e) (expression_of z.code.sure e)) w env s sc u sees.inside (brought e f one w env sc sees) same;
       told = cast_told z lawful t (type_of_term e) (expression_of z.code.sure e) one.told;
     }
+      where
+        its : (can_cast (usable z) t ≡ true) × (is_based (usable z) t ≡ true)
+        its = and_parts (can_cast (usable z) t) (is_based (usable z) t) h.0.built
+
+    -- arrays
+    new_array_tree : (p : Position) (r : ArrayRef) (e : Term) → Kept (new_array p r e) → TreeAlike e → TreeAlike (new_array p r e)
+    new_array_tree p r e h one = record {
+      alike = λ w env s sc u sees same. new_array_alike z lawful r h.0.finds its.0 its.1 (type_of_term e) (fits-lowest z.place.classes law Int (type_of_term e) refl h.0.meets) (ir_meaning.step z.place.classes z.low e) (expression_of z.code.sure e) w env s sc u sees.inside (with_tree e one w env sc sees [] [] [] no_operands) same;
+      told = refl;
+    }
+      where
+        its : ((usable z).helper (codes "$mk") ≡ true) × (has_base (usable z) r.base ≡ true)
+        its = and_parts ((usable z).helper (codes "$mk")) (has_base (usable z) r.base) h.0.built
+
+    array_tree_of : (p : Position) (r : ArrayRef) (ts : Terms) → Kept (array_value p r ts) → Makes (any_item_boxed (element_type r) ts) → RowAlike ts → TreeAlike (array_value p r ts)
+    array_tree_of p r ts h may operands = record {
+      alike = λ w env s sc u sees same. array_alike z lawful r h.0.finds its.0 more.0 (types_of ts) fit.0 (below-is (length (types_of ts)) (2 ^ 31) more.1) (ir_meaning.operands z.place.classes z.low ts) (coerced_items (element_type r) (types_of ts) (all_expressions z.code.sure ts)) (coerced_items (element_type r) (types_of ts) (all_expressions z.code.sure ts)) refl w env s sc u sees.inside (items_coerced z lawful.base w env sc sees.inside (element_type r) (types_of ts) (ir_meaning.operands z.place.classes z.low ts) (all_expressions z.code.sure ts) fit.0 fit.1 (operands w env sc sees)) same;
+      told = refl;
+    }
+      where
+        its : ((usable z).helper (codes "$A") ≡ true) × ((has_base (usable z) r.base && are_countable ts) ≡ true)
+        its = and_parts ((usable z).helper (codes "$A")) (has_base (usable z) r.base && are_countable ts) h.0.built
+
+        more : (has_base (usable z) r.base ≡ true) × (are_countable ts ≡ true)
+        more = and_parts (has_base (usable z) r.base) (are_countable ts) its.1
+
+        fit : StandForEach z (element_type r) (types_of ts)
+        fit = stand-for-each z lawful ts (element_type r) may h.0.meets
+
+    length_tree : (p : Position) (e : Term) → Kept (array_length p e) → TreeAlike e → TreeAlike (array_length p e)
+    length_tree p e h one = record {
+      alike = λ w env s sc u sees same. length_alike z lawful (type_of_term e) (ir_meaning.receiving z.place.classes (is_sure env.sure e) z.low (ir_meaning.step z.place.classes z.low e)) (received_text (is_sure z.code.sure e) (expression_of z.code.sure e)) w env s sc u (receiver_alike e one h.0.built w env sc sees) same;
+      told = refl;
+    }
+
+    item_tree : (p : Position) (e i : Term) (t : IrType) → Kept (array_select p e i t) → TreeAlike e → TreeAlike i → TreeAlike (array_select p e i t)
+    item_tree p e i t h one other = record {
+      alike = λ w env s sc u sees same. subst (λ k. Sim z.direction (Valued z.place w env k) (ir_meaning.in_order (ir_meaning.receiving z.place.classes (is_sure env.sure e) z.low (ir_meaning.step z.place.classes z.low e) ∷ ir_meaning.step z.place.classes z.low i ∷ []) (ir_meaning.select_item z.place.classes z.low) env s) (shown z (core.element_of (received_text (is_sure z.code.sure e) (expression_of z.code.sure e)) (expression_of z.code.sure i)) sc u)) its.element (item_alike z lawful its.reference its.dimensions built.0 (type_of_term e) (type_of_term i) its.fits (fits-lowest z.place.classes law Int (type_of_term i) refl h.0.meets.1) (ir_meaning.receiving z.place.classes (is_sure env.sure e) z.low (ir_meaning.step z.place.classes z.low e)) (ir_meaning.step z.place.classes z.low i) (received_text (is_sure z.code.sure e) (expression_of z.code.sure e)) (expression_of z.code.sure i) w env s sc u sees.inside (in_front (receiver_alike e one built.1 w env sc sees) (with_tree i other w env sc sees [] [] [] no_operands)) same);
+      told = refl;
+    }
+      where
+        built : ((usable z).helper (codes "$get") ≡ true) × (may_check (usable z) scene.sure e ≡ true)
+        built = and_parts ((usable z).helper (codes "$get")) (may_check (usable z) scene.sure e) h.0.built
+
+        its : ItemsOf (type_of_term e) t
+        its = items-of (type_of_term e) t h.0.finds h.0.meets.0
+
+        in_front : {w : World} {env : ir.Env} {sc : js.Scope} {own : IrType} {q : ir.Run} {x : core.Expression} {ts : List IrType} {rs : List ir.Run} {es : List core.Expression} → OperandsAlike z w env sc (own ∷ []) (q ∷ []) (x ∷ []) → OperandsAlike z w env sc ts rs es → OperandsAlike z w env sc (own ∷ ts) (q ∷ rs) (x ∷ es)
+        in_front (more_operands own q x _ _ _ told one no_operands) others = more_operands own q x _ _ _ told one others
 
     -- a call on a receiver: of a private or a public member, as that of a constructor has no value
     receiving_tree : (p : Position) (e : Term) (c : List ℕ) (n : Namespace) (m : MethodName) (ts : Terms) (t : IrType) → Kept (apply_statically p e c n m ts t) → Makes (is_boxed Any e || any_is_boxed m.params ts) → IsNoConstruction (apply_statically p e c n m ts t) → TreeAlike e → (ArgumentsFit z.place.classes (usable z) ts m.params → RowAlike ts) → TreeAlike (apply_statically p e c n m ts t)
@@ -444,51 +500,15 @@ module _ (z : Setting) (lawful : Lawful z) (scope : Scope) where
         written : expression_of z.code.sure (apply p e m ts t) ≡ expression_of z.code.sure (apply_statically p e d.is.direct.class Public m ts t)
         written = ap (λ k. core.receiver_call k (coerced_receiver (type_of_term e) (received_text (is_sure z.code.sure e) (expression_of z.code.sure e))) (expressions_of (coerced_arguments m.params (types_of ts) (all_expressions z.code.sure ts)))) d.is.callee
 
-    -- a call that is looked up tells no type by its text
-    looked_told : (t : IrType) (b : Bool) (m : MethodName) (x : tree.Expression) (xs : tree.Expressions) → tells t (looked_up_template b m x xs) ≡ true
-    looked_told t true m x xs = refl
-    looked_told t false m x xs = refl
-
-    -- a call of a method that is looked up
-    looked_tree : (p : Position) (e : Term) (m : MethodName) (ts : Terms) (t : IrType) (d : ByLookup z.place.classes (usable z) scene e m) → t ≡ call_type m.result → MayStand (usable z) (class_type d.is.lookup.class) (type_of_term e) × ArgumentsFit z.place.classes (usable z) ts m.params → TreeAlike e → (ArgumentsFit z.place.classes (usable z) ts m.params → RowAlike ts) → TreeAlike (apply p e m ts t)
-    looked_tree p e m ts t d result may one others = record {
-      alike = λ w env s sc u sees same. by_equal w env t _ _ _ _ ((λ i. ir_meaning.in_order (takes env i ∷ ir_meaning.operands z.place.classes z.low ts) (ir_meaning.call_method z.place.classes z.low (type_of_term e) m m.result) env s) ∙ (λ i. ir_meaning.in_order ((λ env' s'. ir.go_on (received env env' s') (ir_meaning.only_instance z.place.classes l.class)) ∷ ir_meaning.operands z.place.classes z.low ts) (runs i) env s)) (λ i. shown z (written i) sc u) (subst (λ k. Sim z.direction (Valued z.place w env k) (ir_meaning.in_order ((λ env' s'. ir.go_on (received env env' s') (ir_meaning.only_instance z.place.classes l.class)) ∷ ir_meaning.operands z.place.classes z.low ts) (ir_meaning.call_instance z.place.classes z.low l.class m) env s) (shown z (core.receiver_call (callees.LookedUp l.class m) (coerced (class_type l.class) (type_of_term e) (received_text (is_sure z.code.sure e) (expression_of z.code.sure e))) (expressions_of (coerced_arguments m.params (types_of ts) (all_expressions z.code.sure ts)))) sc u)) (sym result) (looked_call_alike z lawful l.class m l.free l.there (stood (class_type l.class) (type_of_term e) on.0) (all_stood (types_referred m.params) (types_of ts) fit.0) (received env) (ir_meaning.operands z.place.classes z.low ts) (coerced (class_type l.class) (type_of_term e) (received_text (is_sure z.code.sure e) (expression_of z.code.sure e))) (coerced_arguments m.params (types_of ts) (all_expressions z.code.sure ts)) (stood-fits (class_type l.class) (type_of_term e) on.0) (all-stood-fit (types_referred m.params) (types_of ts) fit.0) w env s sc u sees.inside (in_front _ _ _ w env sc _ _ _ (receiver_stood l.class (type_of_term e) on _ _ w env sc sees.inside (receiver_alike e one d.checked w env sc sees)) (passed m.params ts fit w env sc sees.inside (others may.1 w env sc sees))) same));
-      told = subst (λ x. tells t (expression_template z.place.name z.place.label (usable z).lookup x) ≡ true) (sym written) (looked_told t ((usable z).lookup.has_hijacked l.class) m _ _);
+    -- a call on an instance of a class
+    instance_tree : (p : Position) (e : Term) (m : MethodName) (ts : Terms) (t : IrType) → OnInstances z lawful scene e m → t ≡ call_type m.result → ArgumentsFit z.place.classes (usable z) ts m.params → TreeAlike e → (ArgumentsFit z.place.classes (usable z) ts m.params → RowAlike ts) → TreeAlike (apply p e m ts t)
+    instance_tree p e m ts t d result may one others = record {
+      alike = λ w env s sc u sees same. by_equal w env t _ _ _ _ ((λ i. ir_meaning.in_order (d.takes (received env) i ∷ ir_meaning.operands z.place.classes z.low ts) (ir_meaning.call_method z.place.classes z.low (type_of_term e) m m.result) env s) ∙ (λ i. ir_meaning.in_order (as_instances z d.class (received env) ∷ ir_meaning.operands z.place.classes z.low ts) (d.runs i) env s)) (λ i. shown z (written i) sc u) (subst (λ k. Sim z.direction (Valued z.place w env k) (ir_meaning.in_order (as_instances z d.class (received env) ∷ ir_meaning.operands z.place.classes z.low ts) (ir_meaning.call_instance z.place.classes z.low d.class m) env s) (shown z (core.receiver_call d.way.callee (coerced (class_type d.class) (type_of_term e) receiver) (expressions_of (coerced_arguments m.params (types_of ts) (all_expressions z.code.sure ts)))) sc u)) (sym result) (looked_call_alike z lawful d.class m d.free (stood (class_type d.class) (type_of_term e) d.on.0) d.way (all_stood (types_referred m.params) (types_of ts) fit.0) (received env) (ir_meaning.operands z.place.classes z.low ts) (coerced (class_type d.class) (type_of_term e) receiver) (coerced_arguments m.params (types_of ts) (all_expressions z.code.sure ts)) (stood-fits (class_type d.class) (type_of_term e) d.on.0) (all-stood-fit (types_referred m.params) (types_of ts) fit.0) w env s sc u sees.inside (in_front _ _ _ w env sc _ _ _ (receiver_stood d.class (type_of_term e) d.on _ _ w env sc sees.inside (receiver_alike e one d.checked w env sc sees)) (passed m.params ts fit w env sc sees.inside (others may w env sc sees))) same));
+      told = subst (λ x. tells t (expression_template z.place.name z.place.label (usable z).lookup x) ≡ true) (sym written) (d.way.told t (coerced (class_type d.class) (type_of_term e) receiver) (expressions_of (coerced_arguments m.params (types_of ts) (all_expressions z.code.sure ts))));
     }
       where
-        l : IsLookedUp (usable z) (type_of_term e) m
-        l = d.is.lookup
-
-        on : StandsFor z (class_type l.class) (type_of_term e)
-        on = stands-for z lawful (class_type l.class) (type_of_term e) (l.below z.place.classes) may.0
-
         fit : StandForAll z (types_referred m.params) (types_of ts)
-        fit = stand-for-all z lawful ts m.params may.1
-
-        received : ir.Env → ir.Run
-        received env = ir_meaning.receiving z.place.classes (is_sure env.sure e) z.low (ir_meaning.step z.place.classes z.low e)
-
-        takes : (env : ir.Env) → ir_meaning.taking z.place.classes (ir_meaning.class_looked_up (type_of_term e) m.result) (received env) ≡ (λ env' s'. ir.go_on (received env env' s') (ir_meaning.only_instance z.place.classes l.class))
-        takes env = takes_instances z.place.classes (type_of_term e) m l.class l.receiver l.free d.is.result d.is.named (received env)
-
-        runs : ir_meaning.call_method z.place.classes z.low (type_of_term e) m m.result ≡ ir_meaning.call_instance z.place.classes z.low l.class m
-        runs = calls_instance z.place.classes (type_of_term e) m l.class l.receiver l.free d.is.result d.is.named z.low
-
-        written : expression_of z.code.sure (apply p e m ts t) ≡ core.receiver_call (callees.LookedUp l.class m) (coerced (class_type l.class) (type_of_term e) (received_text (is_sure z.code.sure e) (expression_of z.code.sure e))) (expressions_of (coerced_arguments m.params (types_of ts) (all_expressions z.code.sure ts)))
-        written = ap (λ k. core.receiver_call k (coerced_receiver (type_of_term e) (received_text (is_sure z.code.sure e) (expression_of z.code.sure e))) (expressions_of (coerced_arguments m.params (types_of ts) (all_expressions z.code.sure ts)))) d.is.callee ∙ ap (λ x. core.receiver_call (callees.LookedUp l.class m) x (expressions_of (coerced_arguments m.params (types_of ts) (all_expressions z.code.sure ts)))) (receiver-coerced l.class (type_of_term e) (received_text (is_sure z.code.sure e) (expression_of z.code.sure e)))
-
-    -- a call of a method of an array
-    first_alike : (t : IrType) (r : ir.Run) (e : core.Expression) (w : World) (env : ir.Env) (sc : js.Scope) → OperandsAlike z w env sc (t ∷ []) (r ∷ []) (e ∷ []) → OperandAlike z w env sc t r (shown z e)
-    first_alike _ _ _ w env sc (more_operands t r e _ _ _ told one no_operands) = one
-
-    array_tree : (p : Position) (e : Term) (m : MethodName) (ts : Terms) (t : IrType) → OnArray z.place.classes (usable z) scene e m → TreeAlike e → TreeAlike (apply p e m ts t)
-    array_tree p e m ts t d one = record {
-      alike = λ w env s sc u sees same. by_equal w env t _ _ _ _ (λ i. ir_meaning.in_order (taken env i ∷ ir_meaning.operands z.place.classes z.low ts) act env s) (λ i. shown z (written i) sc u) (array_call_alike z d.array.reference m (type_of_term e) t d.array.is act (received env) (ir_meaning.operands z.place.classes z.low ts) receiver (coerced_arguments m.params (types_of ts) (all_expressions z.code.sure ts)) w env s sc u (first_alike (type_of_term e) (received env) receiver w env sc (receiver_alike e one d.checked w env sc sees) w s u (grows-refl w) same));
-      told = subst (λ x. tells t (expression_template z.place.name z.place.label (usable z).lookup x) ≡ true) (sym written) refl;
-    }
-      where
-        act : List ir.Value → ir.Run
-        act = ir_meaning.call_method z.place.classes z.low (type_of_term e) m m.result
+        fit = stand-for-all z lawful ts m.params may
 
         receiver : core.Expression
         receiver = received_text (is_sure z.code.sure e) (expression_of z.code.sure e)
@@ -496,11 +516,8 @@ module _ (z : Setting) (lawful : Lawful z) (scope : Scope) where
         received : ir.Env → ir.Run
         received env = ir_meaning.receiving z.place.classes (is_sure env.sure e) z.low (ir_meaning.step z.place.classes z.low e)
 
-        taken : (env : ir.Env) → ir_meaning.taking z.place.classes (ir_meaning.class_looked_up (type_of_term e) m.result) (received env) ≡ as_instances z object (received env)
-        taken env = takes_instances z.place.classes (type_of_term e) m object d.array.receiver refl d.is.result d.is.named (received env)
-
-        written : expression_of z.code.sure (apply p e m ts t) ≡ core.receiver_call (callees.OfArray m) receiver (expressions_of (coerced_arguments m.params (types_of ts) (all_expressions z.code.sure ts)))
-        written = ap (λ k. core.receiver_call k (coerced_receiver (type_of_term e) receiver) (expressions_of (coerced_arguments m.params (types_of ts) (all_expressions z.code.sure ts)))) d.is.callee ∙ ap (λ k. core.receiver_call (callees.OfArray m) (coerced_receiver k receiver) (expressions_of (coerced_arguments m.params (types_of ts) (all_expressions z.code.sure ts)))) d.array.is
+        written : expression_of z.code.sure (apply p e m ts t) ≡ core.receiver_call d.way.callee (coerced (class_type d.class) (type_of_term e) receiver) (expressions_of (coerced_arguments m.params (types_of ts) (all_expressions z.code.sure ts)))
+        written = ap (λ k. core.receiver_call k (coerced_receiver (type_of_term e) receiver) (expressions_of (coerced_arguments m.params (types_of ts) (all_expressions z.code.sure ts)))) d.called ∙ ap (λ x. core.receiver_call d.way.callee x (expressions_of (coerced_arguments m.params (types_of ts) (all_expressions z.code.sure ts)))) (receiver-coerced d.class (type_of_term e) receiver)
 
     -- a call by a reflective name
     named_tree : (p : Position) (e : Term) (m : MethodName) (ts : Terms) (t : IrType) (d : ByName z.place.classes (usable z) scene e m) → t ≡ call_type m.result → MayStand (usable z) (class_type object) (type_of_term e) × ArgumentsFit z.place.classes (usable z) ts m.params → TreeAlike e → (ArgumentsFit z.place.classes (usable z) ts m.params → RowAlike ts) → TreeAlike (apply p e m ts t)
@@ -530,8 +547,8 @@ module _ (z : Setting) (lawful : Lawful z) (scope : Scope) where
         by : Applied z.place.classes (usable z) scene p e m ts t → TreeAlike (apply p e m ts t)
         by (directly d) = applied_tree p e m ts t d (receiving_tree p e d.is.direct.class Public m ts t (d.here, h.1, h.2) may tt (one d.is.direct.class (d.is.direct.below z.place.classes)) others)
         by (by_name d) = named_tree p e m ts t d h.0.meets.1 (looked_stand z.place.classes (usable z) e object m ts may h.0.finds h.0.meets.2) (one object (to_any refl d.value)) others
-        by (on_array d) = array_tree p e m ts t d (one object (to_any refl (array_valued (type_of_term e) d.array)))
-        by (by_lookup d) = looked_tree p e m ts t d h.0.meets.1 (looked_stand z.place.classes (usable z) e d.is.lookup.class m ts may h.0.finds h.0.meets.2) (one d.is.lookup.class (d.is.lookup.below z.place.classes)) others
+        by (on_array d) = instance_tree p e m ts t (by_array z lawful scene e m d) h.0.meets.1 (looked_stand z.place.classes (usable z) e object m ts may h.0.finds h.0.meets.2).1 (one object (to_any refl (array_valued (type_of_term e) d.array))) others
+        by (by_lookup d) = let stand = looked_stand z.place.classes (usable z) e d.is.lookup.class m ts may h.0.finds h.0.meets.2 in instance_tree p e m ts t (by_class z lawful scene e m d stand.0) h.0.meets.1 stand.1 (one d.is.lookup.class (d.is.lookup.below z.place.classes)) others
 
     mutual
       -- both directions at once: what a plain tree comes to, its expression comes to
@@ -563,17 +580,24 @@ module _ (z : Setting) (lawful : Lawful z) (scope : Scope) where
       tree_alike (apply_static p c n m ts t) h boxed k v = let parts = each_made (usable z) (any_is_boxed m.params ts) (any_boxes_as_text ts) boxed in call_tree p c n m ts t h parts.0 (trees_alike ts m.params h.1 parts.1 k (arguments_there z.place.classes (usable z) ts m.params parts.0 h.0.finds h.0.meets.2))
       tree_alike (unary_op p o e) h boxed k v = unary_tree p o e (fits-unary z.place.classes law o (type_of_term e) h.0.meets) (tree_alike e h.1 boxed k (value_apart z.place.classes (usable z) scene e h.1 (value_below z.place.classes law (type_of_term e) (unary_operand o) h.0.meets (value_none (unary_operand o) (unary-operand-value o)))))
       tree_alike (binary_op p o e d) h boxed k v = let x = and_parts (is_plain e) (is_plain d) k in let whole = each_made (usable z) (operands_are_boxed o e d) (boxes_as_text e || boxes_as_text d) boxed in let parts = each_made (usable z) (boxes_as_text e) (boxes_as_text d) whole.1 in operation_tree p o e d h whole.0 (λ v. tree_alike e h.1 parts.0 x.0 (value_apart z.place.classes (usable z) scene e h.1 v)) (λ v. tree_alike d h.2 parts.1 x.1 (value_apart z.place.classes (usable z) scene d h.2 v))
+      tree_alike (new_array p r e) h boxed k v = new_array_tree p r e h (tree_alike e h.1 boxed k (value_apart z.place.classes (usable z) scene e h.1 (value_below z.place.classes law (type_of_term e) Int h.0.meets refl)))
+      tree_alike (array_value p r ts) h boxed k v = let parts = each_made (usable z) (any_item_boxed (element_type r) ts) (any_boxes_as_text ts) boxed in array_tree_of p r ts h parts.0 (items_alike ts (element_type r) (value_none (element_type r) (element-value r)) h.1 parts.1 k h.0.meets)
+      tree_alike (array_length p e) h boxed k v = length_tree p e h (tree_alike e h.1 boxed k (value_apart z.place.classes (usable z) scene e h.1 (array-value (type_of_term e) h.0.meets)))
+      tree_alike (array_select p e i t) h boxed k v =
+          let x = and_parts (is_plain e) (is_plain i) k in
+          let parts = each_made (usable z) (boxes_as_text e) (boxes_as_text i) boxed in
+          item_tree p e i t h (tree_alike e h.1 parts.0 x.0 (value_apart z.place.classes (usable z) scene e h.1 (items-value (type_of_term e) t h.0.meets.0))) (tree_alike i h.2 parts.1 x.1 (value_apart z.place.classes (usable z) scene i h.2 (value_below z.place.classes law (type_of_term i) Int h.0.meets.1 refl)))
       tree_alike (is_instance_of p e t) h boxed k v = let parts = each_made (usable z) (is_boxed Any e) (boxes_as_text e) boxed in test_tree p e t h (standing_any e parts.0 h.0.meets.1) (tree_alike e h.1 parts.1 k (value_apart z.place.classes (usable z) scene e h.1 (value_below z.place.classes law (type_of_term e) Any h.0.meets.1 refl)))
       tree_alike (as_instance_of p e t) h boxed k v = let parts = each_made (usable z) (is_boxed Any e) (boxes_as_text e) boxed in cast_tree p e t h (standing_any e parts.0 h.0.meets.1) (tree_alike e h.1 parts.1 k (value_apart z.place.classes (usable z) scene e h.1 (value_below z.place.classes law (type_of_term e) Any h.0.meets.1 refl)))
-      tree_alike (undefined_literal p) h boxed k v = record { alike = λ w env s sc u sees same. literal_alike w env Undefined s u ir.undefined js.undefined same_undefined refl same; told = refl }
-      tree_alike (null_literal p) h boxed k v = record { alike = λ w env s sc u sees same. literal_alike w env Null s u ir.null js.null same_null refl same; told = refl }
-      tree_alike (boolean_literal p b) h boxed k v = record { alike = λ w env s sc u sees same. literal_alike w env Boolean s u (ir.boolean b) (js.boolean b) (same_boolean b) refl same; told = refl }
-      tree_alike (char_literal p n) h boxed k v = record { alike = λ w env s sc u sees same. number_alike w env Char s sc u (ir.char n) (pos n) (unit_is_int n h.finds) (same_char refl n h.finds) refl same; told = refl }
-      tree_alike (byte_literal p n) h boxed k v = record { alike = λ w env s sc u sees same. number_alike w env Byte s sc u (ir.number n) n h.finds (same_number n h.finds) refl same; told = refl }
-      tree_alike (short_literal p n) h boxed k v = record { alike = λ w env s sc u sees same. number_alike w env Short s sc u (ir.number n) n h.finds (same_number n h.finds) refl same; told = refl }
-      tree_alike (int_literal p n) h boxed k v = record { alike = λ w env s sc u sees same. number_alike w env Int s sc u (ir.number n) n h.finds (same_number n h.finds) refl same; told = refl }
+      tree_alike (undefined_literal p) h boxed k v = record { alike = λ w env s sc u sees same. literal_alike w env Undefined s u ir.undefined js.undefined same_undefined refl tt same; told = refl }
+      tree_alike (null_literal p) h boxed k v = record { alike = λ w env s sc u sees same. literal_alike w env Null s u ir.null js.null same_null refl tt same; told = refl }
+      tree_alike (boolean_literal p b) h boxed k v = record { alike = λ w env s sc u sees same. literal_alike w env Boolean s u (ir.boolean b) (js.boolean b) (same_boolean b) refl tt same; told = refl }
+      tree_alike (char_literal p n) h boxed k v = record { alike = λ w env s sc u sees same. number_alike w env Char s sc u (ir.char n) (pos n) (unit_is_int n h.finds) (same_char refl n h.finds) refl tt same; told = refl }
+      tree_alike (byte_literal p n) h boxed k v = record { alike = λ w env s sc u sees same. number_alike w env Byte s sc u (ir.number n) n h.finds (same_number n h.finds) refl tt same; told = refl }
+      tree_alike (short_literal p n) h boxed k v = record { alike = λ w env s sc u sees same. number_alike w env Short s sc u (ir.number n) n h.finds (same_number n h.finds) refl tt same; told = refl }
+      tree_alike (int_literal p n) h boxed k v = record { alike = λ w env s sc u sees same. number_alike w env Int s sc u (ir.number n) n h.finds (same_number n h.finds) refl tt same; told = refl }
       tree_alike (long_literal p n) h boxed k v = record { alike = λ w env s sc u sees same. long_alike w env s sc u n h.finds same; told = refl }
-      tree_alike (string_literal p us) h boxed k v = record { alike = λ w env s sc u sees same. literal_alike w env String s u (ir.text us) (js.text us) (same_text us) refl same; told = refl }
+      tree_alike (string_literal p us) h boxed k v = record { alike = λ w env s sc u sees same. literal_alike w env String s u (ir.text us) (js.text us) (same_text us) refl tt same; told = refl }
       tree_alike (var_ref p x t) h boxed k v = record { alike = λ w env s sc u sees same. local_alike w env t s u (env.locals x) (sc.bindings (z.place.name (core.named x))) (js_meaning.top_cell (owner z.place.program sc.file (z.place.name (core.named x))) (z.place.name (core.named x)) u) (sees.locals x t (seen x t (there scene x t h.finds))) same; told = refl }
       tree_alike (var_def p x t b e) h boxed k v = impossible k
       tree_alike (skip p) h boxed k v = impossible k
@@ -589,12 +613,16 @@ module _ (z : Setting) (lawful : Lawful z) (scope : Scope) where
       tree_alike (store_module p c e) h boxed k v = impossible k
       tree_alike (match_on p e cs d t) h boxed k v = impossible k
       tree_alike (log_line p e) h boxed k v = impossible k
-      tree_alike _ h boxed k v = impossible h.built
 
       trees_alike : (ts : Terms) (rs : List TypeRef) → TypedAll z.place.classes (usable z) scene ts → Makes (any_boxes_as_text ts) → are_plain ts ≡ true → ArgumentsFit z.place.classes (usable z) ts rs → RowAlike ts
       trees_alike no_terms rs h boxed k fit w env sc sees = no_operands
       trees_alike (more_terms t ts) [] h boxed k fit w env sc sees = absurd fit
       trees_alike (more_terms t ts) (r ∷ rs) h boxed k fit w env sc sees = let x = and_parts (is_plain t) (are_plain ts) k in let parts = each_made (usable z) (boxes_as_text t) (any_boxes_as_text ts) boxed in with_tree t (tree_alike t h.0 parts.0 x.0 (value_apart z.place.classes (usable z) scene t h.0 (value_below z.place.classes law (type_of_term t) (reference_type r) fit.0.0 (value_none (reference_type r) fit.1)))) w env sc sees _ _ _ (trees_alike ts rs h.1 parts.1 x.1 fit.2 w env sc sees)
+
+      -- items, each of which has a value
+      items_alike : (ts : Terms) (t : IrType) → is_no_type t ≡ false → TypedAll z.place.classes (usable z) scene ts → Makes (any_boxes_as_text ts) → are_plain ts ≡ true → AllFit z.place.classes ts t → RowAlike ts
+      items_alike no_terms t n h boxed k fit w env sc sees = no_operands
+      items_alike (more_terms e ts) t n h boxed k fit w env sc sees = let x = and_parts (is_plain e) (are_plain ts) k in let parts = each_made (usable z) (boxes_as_text e) (any_boxes_as_text ts) boxed in with_tree e (tree_alike e h.0 parts.0 x.0 (value_apart z.place.classes (usable z) scene e h.0 (value_below z.place.classes law (type_of_term e) t fit.0 n))) w env sc sees _ _ _ (items_alike ts t n h.1 parts.1 x.1 fit.1 w env sc sees)
 
   pub plain_alike : (t : Term) → Plain z.place.classes (usable z) z.code scope t → TreeAlike t
   plain_alike t p = tree_alike p.scene p.seen p.surely p.owned t p.typed p.boxed p.plain p.apart

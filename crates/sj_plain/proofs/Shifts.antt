@@ -27,10 +27,10 @@ use Rattle.sj_trees.specs.declared.types.IrType.{IrType}
 use Rattle.sj_trees.specs.declared.types.IrType.TheVariants.{Char, Int, Long, String}
 use Rattle.sj_plain.specs.Settings.{Setting, shown, SameState, Valued, usable}
 use Rattle.sj_plain.specs.Standing.{suits}
-use Rattle.body_rules.specs.Standing.{is_bare, Fits}
+use Rattle.body_rules.specs.Standing.{is_joined, Fits}
 use Rattle.sj_plain.proofs.Orders.{OperandAlike, converted, two_converted, in_order-then}
 use Rattle.sj_plain.proofs.Operators.{wrapped_value, long_given, GivenIf}
-use Rattle.sj_plain.proofs.Standing.{fits-suits, bare-refers, bare-chars}
+use Rattle.sj_plain.proofs.Standing.{fits-suits, joined-refers, joined-bare, bare-chars}
 use Rattle.sj_plain.proofs.Templates.{alone_shown, value_alike, wrapped_shown, by_value, binary-act, same_act}
 use Rattle.sj_plain.proofs.Worlds.{World, Stands, same_undefined, same_null, same_boolean, same_char, same_box, same_number, same_long, same_text, same_reference, SameValue}
 
@@ -119,7 +119,7 @@ small_unit : (u : ℕ) → u < 2 ^ 16 → u % 2 ^ 16 ≡ u
 small_unit u h = omega arith
 
 -- no value of a type other than char is one
-value_texts : (w : World) (t : IrType) → is_bare t ≡ true → (v : ir.Value) (x : js.Value) → Stands w (is_char t) v x → ((u : ℕ) → suits t (ir.char u) ≡ false) → suits t v ≡ true → Texts v (js_operators.binary_value Op.Add (js.text []) x)
+value_texts : (w : World) (t : IrType) → is_joined t ≡ true → (v : ir.Value) (x : js.Value) → Stands w (is_char t) v x → ((u : ℕ) → suits t (ir.char u) ≡ false) → suits t v ≡ true → Texts v (js_operators.binary_value Op.Add (js.text []) x)
 value_texts w t b _ _ same_undefined h k = record { of_value = refl; is = refl }
 value_texts w t b _ _ same_null h k = record { of_value = refl; is = refl }
 value_texts w t b _ _ (same_boolean true) h k = record { of_value = refl; is = refl }
@@ -129,7 +129,7 @@ value_texts w t b _ _ (same_box r u a f i) h k = impossible (sym (h u) ∙ k)
 value_texts w t b _ _ (same_number z f) h k = record { of_value = refl; is = refl }
 value_texts w t b _ _ (same_long z f) h k = record { of_value = refl; is = refl }
 value_texts w t b _ _ (same_text us) h k = record { of_value = refl; is = refl }
-value_texts w t b _ _ (same_reference i a e) h k = impossible (sym (bare-refers t i b) ∙ k)
+value_texts w t b _ _ (same_reference i a e) h k = impossible (sym (joined-refers t i b) ∙ k)
 
 char_texts : (w : World) (v : ir.Value) (x : js.Value) → Stands w true v x → suits Char v ≡ true → Texts v (text_value Char x)
 char_texts w _ _ (same_box r u a f i) k = impossible (sym r)
@@ -153,10 +153,10 @@ string_texts w _ _ (same_number z f) k = impossible k
 string_texts w _ _ (same_long z f) k = impossible k
 string_texts w _ _ (same_reference i a e) k = impossible k
 
-pub texts : (w : World) (t : IrType) → is_bare t ≡ true → (v : ir.Value) (x : js.Value) → Stands w (is_char t) v x → suits t v ≡ true → Texts v (text_value t x)
+pub texts : (w : World) (t : IrType) → is_joined t ≡ true → (v : ir.Value) (x : js.Value) → Stands w (is_char t) v x → suits t v ≡ true → Texts v (text_value t x)
 texts w String b v x a k = string_texts w v x a k
 texts w Char b v x a k = char_texts w v x a k
-texts w t b v x a k = value_texts w t b v x a (λ u. bare-chars t u b refl) k
+texts w t b v x a k = value_texts w t b v x a (λ u. bare-chars t u (joined-bare t b) refl) k
 
 pub join_is : (v v' : ir.Value) → ir_operators.binary_value StringConcatenate v v' ≡ ir_operators.any_value StringConcatenate v v'
 join_is (ir.boolean a) (ir.boolean b) = refl
@@ -166,7 +166,7 @@ join_is (ir.long a) (ir.number b) = refl
 join_is v v' = refl
 
 join_given : (w : World) (v v' : ir.Value) (o o' : Option js.Value) → Texts v o → Texts v' o' → GivenIf w String (ir_operators.any_value StringConcatenate v v') (js_operators.binary_value Op.Add (units_value v) (units_value v'))
-join_given w v v' o o' a b = subst (λ (t : Option (List ℕ)). GivenIf w String (ir_operators.joined t (ir_operators.text_of v')) (js_operators.binary_value Op.Add (units_value v) (units_value v'))) (sym a.of_value) (subst (λ (t : Option (List ℕ)). GivenIf w String (ir_operators.joined (Some (units (ir_operators.text_of v))) t) (js_operators.binary_value Op.Add (units_value v) (units_value v'))) (sym b.of_value) (record { value = js.text (units (ir_operators.text_of v) ++ units (ir_operators.text_of v')); is = refl; alike = record { stands = same_text (units (ir_operators.text_of v) ++ units (ir_operators.text_of v')); suits = refl } }))
+join_given w v v' o o' a b = subst (λ (t : Option (List ℕ)). GivenIf w String (ir_operators.joined t (ir_operators.text_of v')) (js_operators.binary_value Op.Add (units_value v) (units_value v'))) (sym a.of_value) (subst (λ (t : Option (List ℕ)). GivenIf w String (ir_operators.joined (Some (units (ir_operators.text_of v))) t) (js_operators.binary_value Op.Add (units_value v) (units_value v'))) (sym b.of_value) (record { value = js.text (units (ir_operators.text_of v) ++ units (ir_operators.text_of v')); is = refl; alike = record { stands = same_text (units (ir_operators.text_of v) ++ units (ir_operators.text_of v')); suits = refl; shaped = tt } }))
 
 module _ (z : Setting) where
   -- `BigInt((e & 63))`
@@ -231,5 +231,5 @@ module _ (z : Setting) where
         given y _ _ _ _ (a_long a f) (an_int b g) = long_given y (longs.shifted_right_with_zeros a b) _ (ap (λ o. wrapped_value (js_operators.big o)) (on_longs.right_shift-is (pos (cast_unsigned w64 a)) b) ∙ ap (λ n. Some (js.big_int n)) (on_longs.zero_shift-is a b f)) (on_longs.zero_shift-fits a b f)
 
     -- texts that are joined
-    pub joined_alike : is_bare left ≡ true → is_bare right ≡ true → Sim z.direction (Valued z.place w env String) (ir_meaning.in_order (r ∷ q ∷ []) (ir_meaning.binary z.place.classes z.low StringConcatenate) env s) (shown z (core.binary_of StringConcatenate (text_of left e) (text_of right d)) sc u)
+    pub joined_alike : is_joined left ≡ true → is_joined right ≡ true → Sim z.direction (Valued z.place w env String) (ir_meaning.in_order (r ∷ q ∷ []) (ir_meaning.binary z.place.classes z.low StringConcatenate) env s) (shown z (core.binary_of StringConcatenate (text_of left e) (text_of right d)) sc u)
     joined_alike bare other_bare = subst (λ o. Sim z.direction (Valued z.place w env String) (ir_meaning.in_order (r ∷ q ∷ []) (ir_meaning.binary z.place.classes z.low StringConcatenate) env s) o) (sym (in_order-converted (text_value left) (text_value right) (shown z e) (shown z d) (shown z (text_of left e)) (shown z (text_of right d)) (js_meaning.binary Op.Add) (by_value (js_operators.binary_value Op.Add)) (text_shown left e) (text_shown right d) (binary-act Op.Add) sc u)) (two_converted z w env sc String left right (text_value left) (text_value right) units_value units_value (λ y v x a. (texts y left bare v x a.stands a.suits).is) (λ y v x a. (texts y right other_bare v x a.stands a.suits).is) r q (shown z e) (shown z d) (ir_meaning.binary z.place.classes z.low StringConcatenate) (by_value (js_operators.binary_value Op.Add)) (λ y v v' x x' s u g a b same. value_alike z w y env String sc s u (ir_operators.binary_value StringConcatenate v v') (js_operators.binary_value Op.Add (units_value v) (units_value v')) (subst (λ o. GivenIf y String o (js_operators.binary_value Op.Add (units_value v) (units_value v'))) (sym (join_is v v')) (join_given y v v' _ _ (texts y left bare v x a.stands a.suits) (texts y right other_bare v' x' b.stands b.suits))) g same) one other s u same)

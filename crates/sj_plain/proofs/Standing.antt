@@ -10,7 +10,7 @@ use Rattle.sj_trees.specs.Types.{class_type}
 use Rattle.sj_trees.specs.declared.types.IrType.{IrType}
 use Rattle.sj_trees.specs.declared.types.IrType.TheVariants.{Any, Nothing, Undefined, Boolean, Char, Byte, Short, Int, Long, String, Class, Null, Array, NoType}
 use Rattle.sj_plain.specs.Standing.{suits}
-use Rattle.body_rules.specs.Standing.{is_bare, Fits}
+use Rattle.body_rules.specs.Standing.{is_bare, is_array_type, is_joined, Fits}
 use Rattle.ir_mean.specs.Known.{is_hijacked}
 
 not-true : (b : Bool) → not b ≡ true → b ≡ false
@@ -32,22 +32,22 @@ type-open c free = go (pointwise nat_eq c (codes "java.lang.Object"))
     go true = refl
     go false = class-open c free
 
--- a reference that suits a type isn't of a bare one
-not_bare : (t : IrType) (i : ℕ) → suits t (ir.reference i) ≡ true → is_bare t ≡ false
-not_bare Any i h = refl
-not_bare (Class c) i h = not-true (is_bare (Class c)) h
-not_bare (Array r) i h = impossible h
-not_bare Null i h = impossible h
-not_bare NoType i h = impossible h
-not_bare Nothing i h = impossible h
-not_bare Undefined i h = impossible h
-not_bare Boolean i h = impossible h
-not_bare Char i h = impossible h
-not_bare Byte i h = impossible h
-not_bare Short i h = impossible h
-not_bare Int i h = impossible h
-not_bare Long i h = impossible h
-not_bare String i h = impossible h
+-- a reference that suits a type isn't of a bare one, but for those of arrays
+not_bare : (t : IrType) (i : ℕ) → is_array_type t ≡ false → suits t (ir.reference i) ≡ true → is_bare t ≡ false
+not_bare (Array r) i n h = impossible (sym n)
+not_bare Any i n h = refl
+not_bare (Class c) i n h = not-true (is_bare (Class c)) h
+not_bare Null i n h = impossible h
+not_bare NoType i n h = impossible h
+not_bare Nothing i n h = impossible h
+not_bare Undefined i n h = impossible h
+not_bare Boolean i n h = impossible h
+not_bare Char i n h = impossible h
+not_bare Byte i n h = impossible h
+not_bare Short i n h = impossible h
+not_bare Int i n h = impossible h
+not_bare Long i n h = impossible h
+not_bare String i n h = impossible h
 
 either_way : (a b : Bool) → (a || b) ≡ true → b ≡ false → a ≡ true
 either_way true b h k = refl
@@ -93,7 +93,7 @@ suits_open String u h = impossible h
 refers_open : (t : IrType) (i : ℕ) → not (is_bare t) ≡ true → suits t (ir.reference i) ≡ true
 refers_open Any i h = refl
 refers_open (Class c) i h = h
-refers_open (Array r) i h = impossible h
+refers_open (Array r) i h = refl
 refers_open Char i h = impossible h
 refers_open Null i h = impossible h
 refers_open NoType i h = impossible h
@@ -120,12 +120,23 @@ null-suits r _ h = impossible h
 
 array-suits : (r q : ArrayRef) (v : ir.Value) → suits (Array q) v ≡ true → suits (Array r) v ≡ true
 array-suits r q ir.null h = refl
+array-suits r q (ir.reference i) h = refl
 array-suits r q _ h = impossible h
+
+-- a reference suits each type for which the one that it suits may stand
+array-open : (expected : IrType) (q : ArrayRef) (i : ℕ) → Fits expected (Array q) → suits expected (ir.reference i) ≡ true
+array-open (Array r) q i f = refl
+array-open expected q i f = refers_open expected i f
+
+refers-suit : (expected own : IrType) (i : ℕ) → Fits expected own → suits own (ir.reference i) ≡ true → (b : Bool) → is_array_type own ≡ b → suits expected (ir.reference i) ≡ true
+refers-suit expected (Array q) i f h true n = array-open expected q i f
+refers-suit expected own i f h true n = impossible n
+refers-suit expected own i f h false n = refers_open expected i (open-fits expected own f (not_bare own i n h))
 
 pub fits-suits : (expected own : IrType) (v : ir.Value) → Fits expected own → suits own v ≡ true → suits expected v ≡ true
 fits-suits expected Nothing v f h = impossible h
 fits-suits expected own (ir.char u) f h = char-suits expected own u f h
-fits-suits expected own (ir.reference i) f h = refers_open expected i (open-fits expected own f (not_bare own i h))
+fits-suits expected own (ir.reference i) f h = refers-suit expected own i f h (is_array_type own) refl
 fits-suits Nothing own v f h = impossible f
 fits-suits Undefined Undefined v f h = h
 fits-suits Undefined own v f h = impossible f
@@ -155,28 +166,36 @@ fits-suits (Array r) own v f h = impossible f
 fits-suits NoType Char v f h = impossible f
 fits-suits NoType own v f h = refl
 
--- no reference suits a bare type
-pub bare-refers : (t : IrType) (i : ℕ) → is_bare t ≡ true → suits t (ir.reference i) ≡ false
-bare-refers Any i b = impossible b
-bare-refers (Class c) i b = ap not b
-bare-refers (Array r) i b = refl
-bare-refers Null i b = refl
-bare-refers NoType i b = refl
-bare-refers Nothing i b = refl
-bare-refers Undefined i b = refl
-bare-refers Boolean i b = refl
-bare-refers Char i b = refl
-bare-refers Byte i b = refl
-bare-refers Short i b = refl
-bare-refers Int i b = refl
-bare-refers Long i b = refl
-bare-refers String i b = refl
+-- what refers to no array stands at no type of arrays
+pub no-array : (expected own : IrType) (i : ℕ) → Fits expected own → is_array_type own ≡ false → suits own (ir.reference i) ≡ true → is_array_type expected ≡ false
+no-array (Array r) Null i f n h = impossible h
+no-array (Array r) Nothing i f n h = impossible h
+no-array (Array r) (Array q) i f n h = impossible (sym n)
+no-array (Array r) own i f n h = impossible f
+no-array _ own i f n h = refl
+
+-- no reference suits a type at which no object stands
+pub joined-refers : (t : IrType) (i : ℕ) → is_joined t ≡ true → suits t (ir.reference i) ≡ false
+joined-refers Any i b = impossible b
+joined-refers (Class c) i b = ap not b
+joined-refers (Array r) i b = impossible b
+joined-refers Null i b = refl
+joined-refers NoType i b = refl
+joined-refers Nothing i b = refl
+joined-refers Undefined i b = refl
+joined-refers Boolean i b = refl
+joined-refers Char i b = refl
+joined-refers Byte i b = refl
+joined-refers Short i b = refl
+joined-refers Int i b = refl
+joined-refers Long i b = refl
+joined-refers String i b = refl
 
 -- and one suits any other
 pub open-refers : (t : IrType) (i : ℕ) → is_bare t ≡ false → suits t (ir.reference i) ≡ true
 open-refers Any i b = refl
 open-refers (Class c) i b = ap not b
-open-refers (Array r) i b = impossible (sym b)
+open-refers (Array r) i b = refl
 open-refers Null i b = impossible (sym b)
 open-refers NoType i b = impossible (sym b)
 open-refers Nothing i b = impossible (sym b)
@@ -188,6 +207,12 @@ open-refers Short i b = impossible (sym b)
 open-refers Int i b = impossible (sym b)
 open-refers Long i b = impossible (sym b)
 open-refers String i b = impossible (sym b)
+
+pub joined-bare : (t : IrType) → is_joined t ≡ true → is_bare t ≡ true
+joined-bare (Array r) h = impossible h
+joined-bare Any h = impossible h
+joined-bare (Class c) h = h
+joined-bare _ h = refl
 
 -- no char suits a bare type but that of chars
 pub bare-chars : (t : IrType) (u : ℕ) → is_bare t ≡ true → is_char t ≡ false → suits t (ir.char u) ≡ false

@@ -201,13 +201,13 @@ exact_number : (n : ℤ) → FitsSigned w32 n → js_operators.exact n ≡ Some 
 exact_number n f = ap (λ (b : Bool). if b then Some (js.number n) else None) (fits-exact n f)
 
 one_value_alike : (w : World) (o : UnaryOp) (v : ir.Value) (x : js.Value) → Stands w (is_char (unary_operand o)) v x → GivenIf w (unary_result o) (ir_operators.unary_value o v) (one_template_value o x)
-one_value_alike w BooleanNot _ _ (same_boolean b) = record { value = js.boolean (not b); is = refl; alike = record { stands = same_boolean (not b); suits = refl } }
+one_value_alike w BooleanNot _ _ (same_boolean b) = record { value = js.boolean (not b); is = refl; alike = record { stands = same_boolean (not b); suits = refl; shaped = tt } }
 one_value_alike w CharToInt _ _ (same_box r u a f b) = impossible (sym r)
 one_value_alike w CharToInt _ _ (same_char r u f) = number_given w Int (pos u) _ refl (unit_is_int u f) refl
 one_value_alike w ByteToInt _ _ (same_number a f) = number_given w Int a _ refl f refl
 one_value_alike w ShortToInt _ _ (same_number a f) = number_given w Int a _ refl f refl
 one_value_alike w IntToLong _ _ (same_number a f) = long_given w a _ refl (int_is_long a f)
-one_value_alike w IntToChar _ _ (same_number a f) = record { value = js.number (pos (modulo a (2 ^ 16))); is = ap (λ (b : ℤ). Some (js.number b)) (to_unit-is a); alike = record { stands = same_char refl (modulo a (2 ^ 16)) (unit-below a); suits = refl } }
+one_value_alike w IntToChar _ _ (same_number a f) = record { value = js.number (pos (modulo a (2 ^ 16))); is = ap (λ (b : ℤ). Some (js.number b)) (to_unit-is a); alike = record { stands = same_char refl (modulo a (2 ^ 16)) (unit-below a); suits = refl; shaped = tt } }
 one_value_alike w IntToByte _ _ (same_number a f) = number_given w Byte (signed.wrapped_to_byte a) _ (ap (λ (b : ℤ). Some (js.number b)) (to_byte-is a)) (byte-fits a) refl
 one_value_alike w IntToShort _ _ (same_number a f) = number_given w Short (signed.wrapped_to_short a) _ (ap (λ (b : ℤ). Some (js.number b)) (to_short-is a)) (short-fits a) refl
 one_value_alike w LongToInt _ _ (same_long a f) = number_given w Int (signed.wrapped a) _ (ap js_operators.exact (to_int-is a) ∙ exact_number (signed.wrapped a) (wrapped-fits a)) (wrapped-fits a) refl

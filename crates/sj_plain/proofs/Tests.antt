@@ -27,7 +27,7 @@ use Rattle.sj_trees.specs.declared.operators.UnaryOp.TheVariants.{BooleanNot}
 use Rattle.sj_trees.specs.declared.types.IrType.{IrType}
 use Rattle.sj_trees.specs.declared.types.IrType.TheVariants.{Any, Boolean, Char, Array}
 use Rattle.body_rules.specs.Operators.{IsIdentity, a_sameness, a_difference}
-use Rattle.body_rules.specs.Standing.{Fits, MayStand}
+use Rattle.body_rules.specs.Standing.{Fits, MayStand, is_array_type}
 use Rattle.sj_plain.specs.Settings.{Setting, usable, shown, SameState, Valued, valued, thrown, Lawful, Inside, HasFunction, CastsAlike, a_test, a_cast, a_helper, top_function}
 use Rattle.sj_plain.specs.Standing.{suits, Takes}
 use Rattle.sj_plain.proofs.Boxes.{stood, stood-fits, takes-any, both_stood, may-box}
@@ -74,30 +74,30 @@ module _ (z : Setting) (lawful : Lawful z) where
   abbrev One : World → ir.Env → js.Scope → IrType → ir.Run → core.Expression → Type 0
   One w env sc own r e = OperandsAlike z w env sc (own ∷ []) (r ∷ []) (e ∷ [])
 
-  test_acts : (t own : IrType) → (usable z).tests t ≡ true → Fits Any own → (base : World) (env : ir.Env) (sc : js.Scope) → ActsAlike z base base env (own ∷ []) Boolean (ir_meaning.test z.place.classes t) (js_meaning.call z.place.program z.js_low (top_function z.place (a_test t))) sc
-  test_acts t own has f base env sc y _ _ s u g (one_more _ v x _ _ _ a no_values) same = sim_weaken z.direction (Valued z.place y env Boolean) (Valued z.place base env Boolean) _ _ (λ a b. valued-weaken z base y env Boolean a b g) ((lawful.tests t has).1 y v x env s u (value-fits y Any own v x f a) same)
+  test_acts : (t own : IrType) → is_array_type t ≡ false → (usable z).tests t ≡ true → Fits Any own → (base : World) (env : ir.Env) (sc : js.Scope) → ActsAlike z base base env (own ∷ []) Boolean (ir_meaning.test z.place.classes t) (js_meaning.call z.place.program z.js_low (top_function z.place (a_test t))) sc
+  test_acts t own other has f base env sc y _ _ s u g (one_more _ v x _ _ _ a no_values) same = sim_weaken z.direction (Valued z.place y env Boolean) (Valued z.place base env Boolean) _ _ (λ a b. valued-weaken z base y env Boolean a b g) ((lawful.tests t other has).1 y v x env s u (value-fits y Any own v x f a) same)
 
   -- a test of an operand that may stand for any
-  pub test_alike : (t own : IrType) → (usable z).tests t ≡ true → Fits Any own → (r : ir.Run) (e : core.Expression) (w : World) (env : ir.Env) (s : ir.State) (sc : js.Scope) (u : js.State) → Inside z.place z.code sc → One w env sc own r e → SameState z.place w s u → Sim z.direction (Valued z.place w env Boolean) (ir_meaning.in_order (r ∷ []) (ir_meaning.test z.place.classes t) env s) (shown z (core.test_of t e) sc u)
-  test_alike t own has f r e w env s sc u inside operand same = subst (λ o. Sim z.direction (Valued z.place w env Boolean) (ir_meaning.in_order (r ∷ []) (ir_meaning.test z.place.classes t) env s) o) (sym js_is) (in_order_alike z w w env sc w (own ∷ []) Boolean (r ∷ []) (e ∷ []) (ir_meaning.test z.place.classes t) (js_meaning.call z.place.program z.js_low fun) operand (test_acts t own has f w env sc) w s u (grows-refl w) (grows-refl w) (grows-refl w) same)
+  pub test_alike : (t own : IrType) → is_array_type t ≡ false → (usable z).tests t ≡ true → Fits Any own → (r : ir.Run) (e : core.Expression) (w : World) (env : ir.Env) (s : ir.State) (sc : js.Scope) (u : js.State) → Inside z.place z.code sc → One w env sc own r e → SameState z.place w s u → Sim z.direction (Valued z.place w env Boolean) (ir_meaning.in_order (r ∷ []) (ir_meaning.test z.place.classes t) env s) (shown z (core.test_of t e) sc u)
+  test_alike t own other has f r e w env s sc u inside operand same = subst (λ o. Sim z.direction (Valued z.place w env Boolean) (ir_meaning.in_order (r ∷ []) (ir_meaning.test z.place.classes t) env s) o) (sym js_is) (in_order_alike z w w env sc w (own ∷ []) Boolean (r ∷ []) (e ∷ []) (ir_meaning.test z.place.classes t) (js_meaning.call z.place.program z.js_low fun) operand (test_acts t own other has f w env sc) w s u (grows-refl w) (grows-refl w) (grows-refl w) same)
     where
       fun : js.Value
       fun = top_function z.place (a_test t)
 
       js_is : shown z (core.test_of t e) sc u ≡ call_shown fun e sc u
-      js_is = ap (λ c. js_meaning.evaluate z.place.program z.js_low c sc u) (test_called t (lawful.tests t has).0 (text_of z e)) ∙ ap (λ o. then_do o (js.with_value (λ g. js_meaning.in_order (shown z e ∷ []) (js_meaning.call z.place.program z.js_low g) sc))) (top_seen z lawful.base (a_test t) fun sc u has inside (same.tops z.code.file (a_test t) has))
+      js_is = ap (λ c. js_meaning.evaluate z.place.program z.js_low c sc u) (test_called t (lawful.tests t other has).0 (text_of z e)) ∙ ap (λ o. then_do o (js.with_value (λ g. js_meaning.in_order (shown z e ∷ []) (js_meaning.call z.place.program z.js_low g) sc))) (top_seen z lawful.base (a_test t) fun sc u has inside (same.tops z.code.file (a_test t) has))
 
   cast_acts : (t own : IrType) → CastsAlike z t → Fits Any own → (base : World) (env : ir.Env) (sc : js.Scope) → ActsAlike z base base env (own ∷ []) t (ir_meaning.cast z.place.classes z.low t) (js_meaning.call z.place.program z.js_low (top_function z.place (a_cast t))) sc
   cast_acts t own casts f base env sc y _ _ s u g (one_more _ v x _ _ _ a no_values) same = sim_weaken z.direction (Valued z.place y env t) (Valued z.place base env t) _ _ (λ a b. valued-weaken z base y env t a b g) (casts y v x env s u (value-fits y Any own v x f a) same)
 
-  called_cast : (t own : IrType) → (usable z).casts t ≡ true → Fits Any own → (r : ir.Run) (e : core.Expression) (w : World) (env : ir.Env) (s : ir.State) (sc : js.Scope) (u : js.State) → Inside z.place z.code sc → One w env sc own r e → SameState z.place w s u → Sim z.direction (Valued z.place w env t) (ir_meaning.in_order (r ∷ []) (ir_meaning.cast z.place.classes z.low t) env s) (shown z (core.cast_of t e) sc u)
-  called_cast t own has f r e w env s sc u inside operand same = subst (λ o. Sim z.direction (Valued z.place w env t) (ir_meaning.in_order (r ∷ []) (ir_meaning.cast z.place.classes z.low t) env s) o) (sym js_is) (in_order_alike z w w env sc w (own ∷ []) t (r ∷ []) (e ∷ []) (ir_meaning.cast z.place.classes z.low t) (js_meaning.call z.place.program z.js_low fun) operand (cast_acts t own (lawful.casts t has).1 f w env sc) w s u (grows-refl w) (grows-refl w) (grows-refl w) same)
+  called_cast : (t own : IrType) → is_array_type t ≡ false → (usable z).casts t ≡ true → Fits Any own → (r : ir.Run) (e : core.Expression) (w : World) (env : ir.Env) (s : ir.State) (sc : js.Scope) (u : js.State) → Inside z.place z.code sc → One w env sc own r e → SameState z.place w s u → Sim z.direction (Valued z.place w env t) (ir_meaning.in_order (r ∷ []) (ir_meaning.cast z.place.classes z.low t) env s) (shown z (core.cast_of t e) sc u)
+  called_cast t own other has f r e w env s sc u inside operand same = subst (λ o. Sim z.direction (Valued z.place w env t) (ir_meaning.in_order (r ∷ []) (ir_meaning.cast z.place.classes z.low t) env s) o) (sym js_is) (in_order_alike z w w env sc w (own ∷ []) t (r ∷ []) (e ∷ []) (ir_meaning.cast z.place.classes z.low t) (js_meaning.call z.place.program z.js_low fun) operand (cast_acts t own (lawful.casts t other has).1 f w env sc) w s u (grows-refl w) (grows-refl w) (grows-refl w) same)
     where
       fun : js.Value
       fun = top_function z.place (a_cast t)
 
       js_is : shown z (core.cast_of t e) sc u ≡ call_shown fun e sc u
-      js_is = ap (λ c. js_meaning.evaluate z.place.program z.js_low c sc u) (cast_called t (lawful.casts t has).0 (text_of z e)) ∙ ap (λ o. then_do o (js.with_value (λ g. js_meaning.in_order (shown z e ∷ []) (js_meaning.call z.place.program z.js_low g) sc))) (top_seen z lawful.base (a_cast t) fun sc u has inside (same.tops z.code.file (a_cast t) has))
+      js_is = ap (λ c. js_meaning.evaluate z.place.program z.js_low c sc u) (cast_called t (lawful.casts t other has).0 (text_of z e)) ∙ ap (λ o. then_do o (js.with_value (λ g. js_meaning.in_order (shown z e ∷ []) (js_meaning.call z.place.program z.js_low g) sc))) (top_seen z lawful.base (a_cast t) fun sc u has inside (same.tops z.code.file (a_cast t) has))
 
   any_cast : (own : IrType) → Fits Any own → (r : ir.Run) (e : core.Expression) (w : World) (env : ir.Env) (s : ir.State) (sc : js.Scope) (u : js.State) → One w env sc own r e → SameState z.place w s u → Sim z.direction (Valued z.place w env Any) (ir_meaning.in_order (r ∷ []) (ir_meaning.cast z.place.classes z.low Any) env s) (shown z e sc u)
   any_cast own f r e w env s sc u operand same = subst (λ o. Sim z.direction (Valued z.place w env Any) (ir_meaning.in_order (r ∷ []) (ir_meaning.cast z.place.classes z.low Any) env s) o) (then_do-right (shown z e sc u)) (sim_then z.direction (Valued z.place w env own) (Valued z.place w env Any) (r env s) (shown z e sc u) (ir.onward (λ v. ir_meaning.cast z.place.classes z.low Any (v ∷ []))) done (alike operand w s u (grows-refl w) same) each)
@@ -110,9 +110,9 @@ module _ (z : Setting) (lawful : Lawful z) where
       each _ _ (thrown y v x k q g a states) = sim_done z.direction (Valued z.place w env Any) (ir.ends (ir.throws v) env k) (js.throws x q) (thrown y v x k q g a states)
 
   -- a cast of an operand that may stand for any
-  pub cast_alike : (t own : IrType) → can_cast (usable z) t ≡ true → Fits Any own → (r : ir.Run) (e : core.Expression) (w : World) (env : ir.Env) (s : ir.State) (sc : js.Scope) (u : js.State) → Inside z.place z.code sc → One w env sc own r e → SameState z.place w s u → Sim z.direction (Valued z.place w env t) (ir_meaning.in_order (r ∷ []) (ir_meaning.cast z.place.classes z.low t) env s) (shown z (core.cast_of t e) sc u)
-  cast_alike Any own has f r e w env s sc u inside operand same = any_cast own f r e w env s sc u operand same
-  cast_alike t own has f r e w env s sc u inside operand same = called_cast t own has f r e w env s sc u inside operand same
+  pub cast_alike : (t own : IrType) → is_array_type t ≡ false → can_cast (usable z) t ≡ true → Fits Any own → (r : ir.Run) (e : core.Expression) (w : World) (env : ir.Env) (s : ir.State) (sc : js.Scope) (u : js.State) → Inside z.place z.code sc → One w env sc own r e → SameState z.place w s u → Sim z.direction (Valued z.place w env t) (ir_meaning.in_order (r ∷ []) (ir_meaning.cast z.place.classes z.low t) env s) (shown z (core.cast_of t e) sc u)
+  cast_alike Any own other has f r e w env s sc u inside operand same = any_cast own f r e w env s sc u operand same
+  cast_alike t own other has f r e w env s sc u inside operand same = called_cast t own other has f r e w env s sc u inside operand same
 
   abbrev equal : js.Value
   equal = top_function z.place (a_helper Equal)
@@ -128,7 +128,7 @@ module _ (z : Setting) (lawful : Lawful z) where
   turned_alike base env sc _ _ (valued y v x s u g a states) = by v x a.stands a.suits
     where
       by : (v : ir.Value) (x : js.Value) → Stands y false v x → suits Boolean v ≡ true → Sim z.direction (Valued z.place base env Boolean) (turned (ir.ends (ir.gives v) env s)) (js_meaning.negated (x ∷ []) sc u)
-      by _ _ (same_boolean b) h = sim_done z.direction (Valued z.place base env Boolean) (ir.ends (ir.gives (ir.boolean (not b))) env s) (js.gives (js.boolean (not b)) u) (valued y (ir.boolean (not b)) (js.boolean (not b)) s u g (record { stands = same_boolean (not b); suits = refl }) states)
+      by _ _ (same_boolean b) h = sim_done z.direction (Valued z.place base env Boolean) (ir.ends (ir.gives (ir.boolean (not b))) env s) (js.gives (js.boolean (not b)) u) (valued y (ir.boolean (not b)) (js.boolean (not b)) s u g (record { stands = same_boolean (not b); suits = refl; shaped = tt }) states)
       by _ _ _ h = impossible h
   turned_alike base env sc _ _ (thrown y v x s u g a states) = sim_done z.direction (Valued z.place base env Boolean) (ir.ends (ir.throws v) env s) (js.throws x u) (thrown y v x s u g a states)
 

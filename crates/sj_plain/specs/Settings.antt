@@ -1,5 +1,5 @@
 -- What a body is compared in: the two programs, how things are named, and what the levels below give.
-use Rattle.std.specs.Prelude.{◌≡◌, ◌↔◌, ℕ, ◌^◌, ◌<◌, Bool, true, false, ◌&&◌, not, List, [], ◌∷◌, map, slice_get, codes, nat_eq, pos, Option, Some, None, is_some}
+use Rattle.std.specs.Prelude.{◌≡◌, ◌↔◌, ℕ, ◌^◌, ◌<◌, Bool, true, false, ◌&&◌, ◌||◌, not, List, [], ◌∷◌, map, slice_get, length, codes, nat_eq, pos, Option, Some, None, is_some}
 use Rattle.std.specs.Cmp.Lexicographic.{pointwise}
 use Rattle.std.specs.List.{Contains}
 use Rattle.js_tree.specs.Terms.{Name}
@@ -7,9 +7,10 @@ use Rattle.outcomes.specs.Agreement.{Direction, Room, Sim}
 use Rattle.outcomes.specs.Outcome.{Out, done}
 use Rattle.helper_rules.specs.Helpers.{helper_name}
 use Rattle.helper_rules.specs.declared.kinds.Helper.{Helper}
-use Rattle.helper_rules.specs.declared.kinds.Helper.TheVariants.{BoxedChar, ConstantsOf, NotNull}
+use Rattle.helper_rules.specs.Words.{object_class, kind_class}
+use Rattle.helper_rules.specs.declared.kinds.Helper.TheVariants.{ArrayClass, BoxedChar, ConstantsOf, NotNull}
 use Rattle.helper_rules.specs.declared.kinds.Helper.TheVariants as helpers
-use Rattle.helper_rules.specs.declared.kinds.Kind.TheVariants as kinds
+use Rattle.helper_rules.specs.declared.kinds.Kind.{Kind}
 use Rattle.ir_mean.specs.Dispatch.{chain_of, is_ancestor}
 use Rattle.ir_mean.specs.Meaning as ir_meaning
 use Rattle.ir_mean.specs.Operators.{binary_value}
@@ -23,33 +24,37 @@ use Rattle.js_mean.specs.Shows.{object_shown, class_marked}
 use Rattle.outcomes.specs.Shown as shown_ends
 use Rattle.sj_core.specs.Terms as core
 use Rattle.body_rules.specs.Coercions.{is_char}
-use Rattle.body_rules.specs.Tests.{test_name, cast_name}
+use Rattle.body_rules.specs.Tests.{array_text, test_name, cast_name}
 use Rattle.body_rules.specs.Templates.{called_member, check_name, member_name, static_name, setter_name, load_name, store_name, expression_template, statement_templates}
 use Rattle.sj_mangling.specs.Bindings.{class_binding, field_binding, method_binding}
 use Rattle.sj_mangling.specs.declared.bindings.ClassBinding.TheVariants.{Class, Constants, Marker, Instance}
 use Rattle.sj_mangling.specs.declared.bindings.FieldBinding.TheVariants.{Property}
 use Rattle.sj_mangling.specs.declared.bindings.MethodBinding.TheVariants.{Entry, Dispatch, Reflective}
+use Rattle.sj_names.specs.Bases.{spelled_base}
 use Rattle.sj_names.specs.Same.{is_same_text}
+use Rattle.sj_names.specs.declared.references.ArrayRef.{ArrayRef}
+use Rattle.sj_names.specs.declared.references.BaseRef.{BaseRef}
 use Rattle.sj_names.specs.declared.method_names.Member.{Member}
 use Rattle.sj_names.specs.declared.method_names.MethodName.{MethodName}
 use Rattle.body_rules.specs.Subtyping.{IsSubtyping}
 use Rattle.sj_plain.specs.Standing.{suits}
-use Rattle.sj_plain.specs.Worlds.{World, with_pending, Grows, SameValue, SameValues}
+use Rattle.sj_plain.specs.Worlds.{World, ArrayAt, with_pending, Grows, SameValue, SameValues}
 use Rattle.ir_mean.specs.Ancestors.{IsAncestor}
 use Rattle.ir_mean.specs.Known.{is_hijacked}
 use Rattle.ir_mean.specs.Subtypes.{IsSub}
 use Rattle.body_rules.specs.Built.{Usable, has_static, has_cell, can_box, divides, compares, can_look_up}
 use Rattle.body_rules.specs.Locals.{Scope, HasValue}
-use Rattle.body_rules.specs.Standing.{types_referred, call_type}
+use Rattle.body_rules.specs.Standing.{is_array_type, types_referred, call_type}
+use Rattle.body_rules.specs.Typing.{HasDimensions}
 use Rattle.sj_trees.specs.declared.classes.ClassDef.{ClassDef}
 use Rattle.sj_trees.specs.declared.classes.FieldDef.{FieldDef}
 use Rattle.sj_trees.specs.TypeOf.{binary_result}
-use Rattle.sj_trees.specs.Types.{class_type}
+use Rattle.sj_trees.specs.Types.{class_type, element_type}
 use Rattle.sj_trees.specs.declared.operators.BinaryOp.{BinaryOp}
 use Rattle.sj_trees.specs.declared.operators.BinaryOp.TheVariants.{IntDivide, IntRemainder, LongDivide, StrictEqual}
 use Rattle.body_rules.specs.Rules.{left_operand, right_operand}
 use Rattle.sj_trees.specs.declared.types.IrType.{IrType}
-use Rattle.sj_trees.specs.declared.types.IrType.TheVariants.{Any, Boolean, Array, NoType}
+use Rattle.sj_trees.specs.declared.types.IrType.TheVariants.{Any, Undefined, Null, Boolean, Char, Byte, Short, Int, Long, String, Array, NoType}
 
 -- a binding at the top of a file of the emitted code: the function of a static member, of one that runs on a receiver, and of a constructor; the function that tells
 -- the receivers of a method apart, and the one by which receivers are called under a reflective name; a class, and
@@ -101,7 +106,7 @@ is_usable has (a_constructor m) = has.built m
 is_usable has (a_dispatch m) = has.dispatched m
 is_usable has (a_reflection m) = has.reflected m
 is_usable has (a_class c) = has.live c
-is_usable has (some_constants c) = has.live c
+is_usable has (some_constants c) = has.live c || has.bases c
 is_usable has (a_static c f t) = has.static_field c f t
 is_usable has (a_setter c f t) = has.static_setter c f t
 is_usable has (a_cell c) = has_cell has c
@@ -111,9 +116,9 @@ is_usable has (a_test t) = has.tests t
 is_usable has (a_cast t) = has.casts t
 is_usable has (a_helper h) = has.helper (helper_name h)
 
--- and names it: any but the constants of a class, which the class alone names, and its cell, which the functions that load and store its one object name
+-- and names it: any but the constants of a class that is no base of arrays, which the class alone names, and its cell, which the functions that load and store its one object name
 abbrev pub is_named : Usable → Top → Bool
-is_named has (some_constants c) = false
+is_named has (some_constants c) = has.bases c
 is_named has (a_cell c) = false
 is_named has t = is_usable has t
 
@@ -220,10 +225,59 @@ box_link p = record { file = p.home (a_helper BoxedChar); name = helper_name Box
 abbrev pub HasNoEntries : (Name → Option js.Value) → Type 0
 HasNoEntries properties = (m : MethodName) → properties (method_binding Entry m) ≡ None
 
+-- where the class of arrays is declared, and the classes that it extends
+abbrev pub array_link : Place → js.ClassLink
+array_link p = record { file = p.home (a_helper ArrayClass); name = helper_name ArrayClass }
+
+abbrev pub array_links : Place → List js.ClassLink
+array_links p = array_link p ∷ links_of p object_class
+
+-- the constants of a class, which the emitted code has for itself and which tell its marker
+pub record IsConstantsOf (owned : ℕ → Option js.Stored) (c : List ℕ) (x : js.Value) : Type 0 where
+  pub address : ℕ
+  pub constants : Name → Option js.Value
+  pub is : x ≡ js.object address
+  pub owned_there : owned address ≡ Some (js.plain [] constants)
+  pub marked : constants (codes "s") ≡ Some (js.text (class_binding Marker c))
+
+-- the value that stands for the base of an array: the constants of a class, or the letter of a primitive type
+abbrev pub StandsForBase : (ℕ → Option js.Stored) → BaseRef → js.Value → Type 0
+StandsForBase owned (BaseRef.Class c) x = IsConstantsOf owned c x
+StandsForBase owned b x = x ≡ js.text (spelled_base b)
+
+-- the properties of an array: its dimensions, its base, and the address of its items
+pub record TellsArray (w : World) (k : ArrayAt) (properties : Name → Option js.Value) : Type 0 where
+  pub dimensions : properties (codes "n") ≡ Some (js.number (pos k.kind.dimensions))
+  pub base : js.Value
+  pub held : properties (codes "e") ≡ Some base
+  pub stands : StandsForBase w.owned k.kind.base base
+  pub items : properties (codes "a") ≡ Some (js.object k.items)
+
 -- what stands at an address of the IR, and what stands at the address that it has in the world: an object of this class, made by the class that stands for
--- it and by those that this one extends, with a property for each field and no entry of a method
-pub data SameStored (p : Place) (w : World) : List ℕ → Option ir.Stored → Option js.Stored → Type 0 where
-  same_object : (c : List ℕ) (fields : ir.Fields) (properties : Name → Option js.Value) → TellsClass w c properties → HasNoEntries properties → ((d f : List ℕ) (t : IrType) → IsField p.classes d f t → SameField w t (fields d f) (properties (field_binding Property d f))) → SameStored p w c (Some (ir.object c fields)) (Some (js.plain (links_of p c) properties))
+-- it and by those that this one extends, with a property for each field and no entry of a method; or an array, whose class is that of objects
+pub data SameStored (p : Place) (w : World) : List ℕ → Option ArrayAt → Option ir.Stored → Option js.Stored → Type 0 where
+  same_object : (c : List ℕ) (fields : ir.Fields) (properties : Name → Option js.Value) → TellsClass w c properties → HasNoEntries properties → ((d f : List ℕ) (t : IrType) → IsField p.classes d f t → SameField w t (fields d f) (properties (field_binding Property d f))) → SameStored p w c None (Some (ir.object c fields)) (Some (js.plain (links_of p c) properties))
+  same_array : (k : ArrayAt) (items : List ir.Value) (properties : Name → Option js.Value) → TellsClass w object_class properties → HasNoEntries properties → TellsArray w k properties → SameStored p w object_class (Some k) (Some (ir.array k.kind items)) (Some (js.plain (array_links p) properties))
+
+-- the items of an array, and what stands for each
+pub data SameItems (w : World) (t : IrType) : List ir.Value → List js.Value → Type 0 where
+  no_items : SameItems w t [] []
+  more_items : (v : ir.Value) (x : js.Value) (vs : List ir.Value) (xs : List js.Value) → SameValue w t v x → SameItems w t vs xs → SameItems w t (v ∷ vs) (x ∷ xs)
+
+-- the code of some file can make arrays
+pub record ArraysSomewhere (p : Place) : Type 0 where
+  pub file : Name
+  pub made : (p.has file).helper (helper_name ArrayClass) ≡ true
+
+-- an array of the IR, with as many items as an int can tell, and the items that stand for them
+pub record SameArray (p : Place) (w : World) (k : ArrayAt) (o : Option ir.Stored) (q : Option js.Stored) : Type 0 where
+  pub values : List ir.Value
+  pub stored : o ≡ Some (ir.array k.kind values)
+  pub items : List js.Value
+  pub shown : q ≡ Some (js.array items)
+  pub alike : SameItems w (element_type k.kind) values items
+  pub short : length values < 2 ^ 31
+  pub made : ArraysSomewhere p
 
 -- constants with the marker of a class under `s` have the markers of the classes that stand above it, and of no other
 abbrev pub MarksAncestors : ir_world.World → (Name → Option js.Value) → Type 0
@@ -233,7 +287,7 @@ MarksAncestors classes constants = (c b : List ℕ) → constants (codes "s") �
 pub record ObjectAt (p : Place) (w : World) (i : ℕ) (o : Option ir.Stored) (q : Option js.Stored) : Type 0 where
   pub class : List ℕ
   pub told : w.classes i ≡ Some class
-  pub alike : SameStored p w class o q
+  pub alike : SameStored p w class (w.arrays i) o q
 
 -- the code of some file can make objects of the class
 pub record MadeSomewhere (p : Place) (c : List ℕ) : Type 0 where
@@ -241,14 +295,18 @@ pub record MadeSomewhere (p : Place) (c : List ℕ) : Type 0 where
   pub made : (p.has file).made c ≡ true
 
 -- the heaps stand for each other: what has an address in the world stands on both, and is of the class that the world tells, which is no hijacked one, since the
--- values of these are primitive, and one of which some file's code can make objects; two addresses of the IR have two; what the emitted code has for itself, or has
--- made before the IR, stands where it stood, at no address of the world; constants among it have the markers of ancestors; and objects that hold chars are of
--- their class
+-- values of these are primitive, and one of which some file's code can make objects; two addresses of the IR have two; the items of an array stand for those of the IR's, each array having its own;
+-- what the emitted code has for itself, or has made before the IR, stands where it stood, at no address of the world and of no items; constants among it have the markers of ancestors; and objects
+-- that hold chars are of their class
 pub record SameHeap (p : Place) (w : World) (s : List ir.Stored) (u : List js.Stored) : Type 0 where
   pub objects : (i a : ℕ) → w.place i ≡ Some a → ObjectAt p w i (slice_get s i) (slice_get u a)
   pub free : (i : ℕ) (c : List ℕ) → w.classes i ≡ Some c → is_hijacked c ≡ false
   pub made : (i : ℕ) (c : List ℕ) → w.classes i ≡ Some c → MadeSomewhere p c
   pub differ : (i j a : ℕ) → w.place i ≡ Some a → w.place j ≡ Some a → i ≡ j
+  pub arrays : (i : ℕ) (k : ArrayAt) → w.arrays i ≡ Some k → SameArray p w k (slice_get s i) (slice_get u k.items)
+  pub items_differ : (i j : ℕ) (k l : ArrayAt) → w.arrays i ≡ Some k → w.arrays j ≡ Some l → k.items ≡ l.items → i ≡ j
+  pub items_apart : (i : ℕ) (k : ArrayAt) (o : js.Stored) → w.arrays i ≡ Some k → w.owned k.items ≡ Some o → ⊥
+  pub items_born : (i : ℕ) (k : ArrayAt) (o : js.Stored) → w.arrays i ≡ Some k → w.pending k.items ≡ Some o → ⊥
   pub owned : (a : ℕ) (o : js.Stored) → w.owned a ≡ Some o → slice_get u a ≡ Some o
   pub marked : (a : ℕ) (constants : Name → Option js.Value) → w.owned a ≡ Some (js.plain [] constants) → MarksAncestors p.classes constants
   pub pending : (a : ℕ) (o : js.Stored) → w.pending a ≡ Some o → slice_get u a ≡ Some o
@@ -266,13 +324,13 @@ pub record HoldsConstants (owned : ℕ → Option js.Stored) (c : List ℕ) (cel
   pub marked : constants (codes "s") ≡ Some (js.text (class_binding Marker c))
   pub known : (v : Option js.Value) → object_shown (class_marked (class_binding Marker c)) v ≡ Some (shown_ends.object_of c)
 
--- the constants of java.lang.Character; by their marker an object is shown as the char that it holds, and as an object of no class
-pub record HoldsCharConstants (owned : ℕ → Option js.Stored) (cell : js.Cell) : Type 0 where
+-- the constants of the class of a kind of primitive values; by those of java.lang.Character an object is shown as the char that it holds, and as an object of no class
+pub record HoldsKindConstants (owned : ℕ → Option js.Stored) (k : Kind) (cell : js.Cell) : Type 0 where
   pub address : ℕ
   pub constants : Name → Option js.Value
   pub held : cell ≡ js.holds true (js.object address)
   pub owned_there : owned address ≡ Some (js.plain [] constants)
-  pub marked : constants (codes "s") ≡ Some (js.text (class_binding Marker (codes "java.lang.Character")))
+  pub marked : constants (codes "s") ≡ Some (js.text (class_binding Marker (kind_class k)))
 
 -- what a local or a static field of this type holds, and the binding that stands for it
 pub data Holding (w : World) (t : IrType) : Option ir.Value → js.Cell → Type 0 where
@@ -287,7 +345,8 @@ TopHolds p owned (some_constants c) cell = HoldsConstants owned c cell
 TopHolds p owned (a_static c f t) cell = Unit {0}
 TopHolds p owned (a_cell c) cell = Unit {0}
 TopHolds p owned (a_helper BoxedChar) cell = cell ≡ js.holds false (js.class (box_link p ∷ []))
-TopHolds p owned (a_helper (ConstantsOf kinds.Char)) cell = HoldsCharConstants owned cell
+TopHolds p owned (a_helper ArrayClass) cell = cell ≡ js.holds false (js.class (array_links p))
+TopHolds p owned (a_helper (ConstantsOf k)) cell = HoldsKindConstants owned k cell
 TopHolds p owned t cell = cell ≡ js.holds false (top_function p t)
 
 -- the states stand for each other: the heaps do; what the code of some file can use holds what it is to hold; and so do the static fields and the cells of classes that it
@@ -333,7 +392,7 @@ zeroed p c = ir.object c (ir_world.new_fields p.classes c)
 
 -- `new` of a class: the emitted code makes the object, and the IR does nothing yet
 pub data Makes (p : Place) (from : World) (c : List ℕ) (env : ir.Env) (s : ir.State) : ir.Ended → js.ExpressionEnd → Type 0 where
-  makes : (a : ℕ) (o : js.Stored) (u : js.State) → ((b : js.Stored) → from.pending a ≡ Some b → ⊥) → SameStored p from c (Some (zeroed p c)) (Some o) → SameState p (with_pending a o from) s u → Makes p from c env s (ir.ends (ir.gives ir.undefined) env s) (js.gives (js.object a) u)
+  makes : (a : ℕ) (o : js.Stored) (u : js.State) → ((b : js.Stored) → from.pending a ≡ Some b → ⊥) → SameStored p from c None (Some (zeroed p c)) (Some o) → SameState p (with_pending a o from) s u → Makes p from c env s (ir.ends (ir.gives ir.undefined) env s) (js.gives (js.object a) u)
 
 abbrev pub MakesAlike : Setting → List ℕ → Type 0
 MakesAlike z c = (w : World) (env : ir.Env) (s : ir.State) (u : js.State) → SameState z.place w s u → Sim z.direction (Makes z.place w c env s) (done (ir.ends (ir.gives ir.undefined) env s)) (js_meaning.construct z.place.program z.js_low (links_of z.place c) (links_of z.place c) [] u)
@@ -471,7 +530,7 @@ division_helper _ = helpers.LongRemainder
 abbrev pub DividesAlike : Setting → BinaryOp → Type 0
 DividesAlike z o = (w : World) (v v' : ir.Value) (x x' : js.Value) (env : ir.Env) (s : ir.State) (u : js.State) → SameValue w (left_operand o) v x → SameValue w (right_operand o) v' x' → SameState z.place w s u → Sim z.direction (Valued z.place w env (binary_result o)) (ir_meaning.answered z.place.classes z.low (binary_value o v v') env s) (top_call z.place z.js_low (a_helper (division_helper o)) (x ∷ x' ∷ []) u)
 
--- a type whose test and whose cast call a function: that of arrays isn't built, and one to any calls nothing
+-- a type whose test and whose cast call a function of one argument: those of arrays take more, and one to any calls nothing
 abbrev pub HasFunction : IrType → Type 0
 HasFunction Any = ⊥
 HasFunction (Array r) = ⊥
@@ -497,6 +556,63 @@ BoxesAlike z = (t : IrType) (c : ℕ) (w : World) (env : ir.Env) (s : ir.State) 
 abbrev pub MayBox : Setting → IrType → IrType → Type 0
 MayBox z expected own = (is_char own && not (is_char expected)) ≡ true → ((usable z).helper (helper_name BoxedChar) ≡ true) × BoxesAlike z
 
+-- the value that an item of the type begins with
+abbrev pub zero_shown : IrType → js.Value
+zero_shown Boolean = js.boolean false
+zero_shown Char = js.number (pos 0)
+zero_shown Byte = js.number (pos 0)
+zero_shown Short = js.number (pos 0)
+zero_shown Int = js.number (pos 0)
+zero_shown Long = js.big_int (pos 0)
+zero_shown String = js.text []
+zero_shown Undefined = js.undefined
+zero_shown _ = js.null
+
+-- the values that tell a type of arrays
+abbrev pub depth_of : ArrayRef → js.Value
+depth_of r = js.number (pos r.dimensions)
+
+-- a new array of a length, and the helper that makes it
+abbrev pub MakesArraysAlike : Setting → Type 0
+MakesArraysAlike z = (r : ArrayRef) → HasDimensions r → (w : World) (v : ir.Value) (x base : js.Value) (env : ir.Env) (s : ir.State) (u : js.State) → SameValue w Int v x → StandsForBase w.owned r.base base → SameState z.place w s u → Sim z.direction (Valued z.place w env (Array r)) (ir_meaning.new_items z.place.classes z.low r (v ∷ []) env s) (top_call z.place z.js_low (a_helper helpers.MakeArray) (depth_of r ∷ base ∷ x ∷ zero_shown (element_type r) ∷ []) u)
+
+-- an array of these items, and `new $A` of the list of what stands for them
+abbrev pub GivesArraysAlike : Setting → Type 0
+GivesArraysAlike z = (r : ArrayRef) → HasDimensions r → (w : World) (vs : List ir.Value) (xs : List js.Value) (base : js.Value) (env : ir.Env) (s : ir.State) (u : js.State) → SameItems w (element_type r) vs xs → length vs < 2 ^ 31 → StandsForBase w.owned r.base base → SameState z.place w s u → Sim z.direction (Valued z.place w env (Array r)) (ir_meaning.made_array r vs env s) (js_meaning.construct z.place.program z.js_low (array_links z.place) (array_links z.place) (depth_of r ∷ base ∷ js.object (js_objects.next_address u) ∷ []) (js_objects.with_stored (js.array xs) u))
+
+-- an item of an array that is read, and the helper
+abbrev pub GetsAlike : Setting → Type 0
+GetsAlike z = (r : ArrayRef) → HasDimensions r → (w : World) (v i : ir.Value) (x j : js.Value) (env : ir.Env) (s : ir.State) (u : js.State) → SameValue w (Array r) v x → SameValue w Int i j → SameState z.place w s u → Sim z.direction (Valued z.place w env (element_type r)) (ir_meaning.select_item z.place.classes z.low (v ∷ i ∷ []) env s) (top_call z.place z.js_low (a_helper helpers.Get) (x ∷ j ∷ []) u)
+
+-- the helper that writes an item of this type: where it is no primitive one, it asks whether the array may hold the value
+abbrev pub setting_helper : IrType → Helper
+setting_helper Undefined = helpers.Set
+setting_helper Boolean = helpers.Set
+setting_helper Char = helpers.Set
+setting_helper Byte = helpers.Set
+setting_helper Short = helpers.Set
+setting_helper Int = helpers.Set
+setting_helper Long = helpers.Set
+setting_helper String = helpers.Set
+setting_helper Null = helpers.Set
+setting_helper _ = helpers.Put
+
+-- an item that is written, and that helper
+abbrev pub PutsAlike : Setting → Type 0
+PutsAlike z = (r : ArrayRef) → HasDimensions r → (usable z).helper (helper_name (setting_helper (element_type r))) ≡ true → (w : World) (v i e : ir.Value) (x j y : js.Value) (env : ir.Env) (s : ir.State) (u : js.State) → SameValue w (Array r) v x → SameValue w Int i j → SameValue w (element_type r) e y → SameState z.place w s u → Sim z.direction (Valued z.place w env NoType) (ir_meaning.assign_item z.place.classes z.low (v ∷ i ∷ e ∷ []) env s) (top_call z.place z.js_low (a_helper (setting_helper (element_type r))) (x ∷ j ∷ y ∷ []) u)
+
+-- whether a value is an array of this reference, and the helper that tells
+abbrev pub TestsArraysAlike : Setting → ArrayRef → Type 0
+TestsArraysAlike z r = HasDimensions r → (w : World) (v : ir.Value) (x base : js.Value) (env : ir.Env) (s : ir.State) (u : js.State) → SameValue w Any v x → StandsForBase w.owned r.base base → SameState z.place w s u → Sim z.direction (Valued z.place w env Boolean) (ir.given (ir_meaning.is_instance_value z.place.classes (Array r) s v) env s) (top_call z.place z.js_low (a_test (Array r)) (x ∷ depth_of r ∷ base ∷ []) u)
+
+-- a cast to an array of this reference, and the helper that casts, with the text of the reference
+abbrev pub CastsArraysAlike : Setting → ArrayRef → Type 0
+CastsArraysAlike z r = HasDimensions r → (w : World) (v : ir.Value) (x base : js.Value) (env : ir.Env) (s : ir.State) (u : js.State) → SameValue w Any v x → StandsForBase w.owned r.base base → SameState z.place w s u → Sim z.direction (Valued z.place w env (Array r)) (ir_meaning.answered z.place.classes z.low (ir_meaning.cast_answer z.place.classes (Array r) s v) env s) (top_call z.place z.js_low (a_cast (Array r)) (x ∷ depth_of r ∷ base ∷ js.text (array_text r) ∷ []) u)
+
+-- each array has the entry of the method, which is that of objects
+abbrev pub ArraysFind : Setting → MethodName → Type 0
+ArraysFind z m = (w : World) (i a : ℕ) (k : ArrayAt) → w.place i ≡ Some a → w.arrays i ≡ Some k → (s : ir.State) (u : js.State) → SameState z.place w s u → Finds z m w object_class (ir.reference i) (js.object a) u
+
 -- what the levels below give to trees, with what is looked up and loaded and what helpers do
 pub record Lawful (z : Setting) : Type 0 where
   pub base : Based z
@@ -506,8 +622,15 @@ pub record Lawful (z : Setting) : Type 0 where
   pub checks : (usable z).helper check_name ≡ true → ChecksAlike z
   pub divisions : (o : BinaryOp) → divides (usable z) o ≡ true → DividesAlike z o
   pub boxes : can_box (usable z) ≡ true → BoxesAlike z
-  pub tests : (t : IrType) → (usable z).tests t ≡ true → HasFunction t × TestsAlike z t
-  pub casts : (t : IrType) → (usable z).casts t ≡ true → HasFunction t × CastsAlike z t
+  pub tests : (t : IrType) → is_array_type t ≡ false → (usable z).tests t ≡ true → HasFunction t × TestsAlike z t
+  pub casts : (t : IrType) → is_array_type t ≡ false → (usable z).casts t ≡ true → HasFunction t × CastsAlike z t
+  pub array_tests : (r : ArrayRef) → (usable z).tests (Array r) ≡ true → TestsArraysAlike z r
+  pub array_casts : (r : ArrayRef) → (usable z).casts (Array r) ≡ true → CastsArraysAlike z r
+  pub makes_arrays : (usable z).helper (helper_name helpers.MakeArray) ≡ true → MakesArraysAlike z
+  pub gives_arrays : (usable z).helper (helper_name ArrayClass) ≡ true → GivesArraysAlike z
+  pub gets : (usable z).helper (helper_name helpers.Get) ≡ true → GetsAlike z
+  pub puts : PutsAlike z
+  pub array_calls : (m : MethodName) → (usable z).on_arrays m ≡ true → ArraysFind z m
   pub compares : compares (usable z) ≡ true → ComparesAlike z
 
 -- This, in a method of the class, if there is one, and the binding that stands for it

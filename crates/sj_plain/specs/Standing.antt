@@ -6,7 +6,7 @@ use Rattle.body_rules.specs.Coercions.{is_char}
 use Rattle.sj_trees.specs.declared.types.IrType.{IrType}
 use Rattle.sj_trees.specs.declared.types.IrType.TheVariants.{Array, Nothing, Undefined, Boolean, Char, Byte, Short, Int, Long, String, Null}
 
--- the value is of the kind of the type: null alone is of a type of arrays, since none is made yet
+-- the value is of the kind of the type
 abbrev pub suits : IrType → ir.Value → Bool
 suits Nothing v = false
 suits Undefined ir.undefined = true
@@ -28,6 +28,7 @@ suits String v = false
 suits Null ir.null = true
 suits Null v = false
 suits (Array r) ir.null = true
+suits (Array r) (ir.reference i) = true
 suits (Array r) v = false
 suits t (ir.char u) = not (is_bare t)
 suits t (ir.reference i) = not (is_bare t)

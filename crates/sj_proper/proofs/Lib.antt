@@ -5,6 +5,7 @@ pub mod Modules
 pub mod Names
 pub mod Statics
 pub mod Trees
+pub use Rattle.body_rules.proofs.Arrays
 pub use Rattle.body_rules.proofs.Direct
 pub use Rattle.body_rules.proofs.Equal
 pub use Rattle.body_rules.proofs.Fitting

@@ -5,20 +5,20 @@ use Rattle.std.specs.Cmp.Lexicographic.{pointwise}
 use Rattle.body_rules.specs.Terms as core
 use Rattle.body_rules.specs.Views.{expressions_of}
 use Rattle.body_rules.specs.CalleeVariants as callees
-use Rattle.body_rules.specs.Coercions.{coerced, coerced_arguments, coerced_receiver}
-use Rattle.body_rules.specs.Desugar.{callee_of, receiver, received, rest_of, operand, into, block, operands, cases, finish, target_of, Target, Targets, expression_of, labeled_code, leaving_code, wrapped, branches, break_unless, switch_code, first_of, second_of, member, types_of}
+use Rattle.body_rules.specs.Coercions.{coerced, coerced_arguments, coerced_items, coerced_receiver}
+use Rattle.body_rules.specs.Desugar.{callee_of, receiver, received, rest_of, operand, into, block, operands, cases, finish, target_of, Target, Targets, expression_of, labeled_code, leaving_code, wrapped, branches, break_unless, switch_code, first_of, second_of, third_of, member, types_of}
 use Rattle.body_rules.specs.Plain.{is_plain}
 use Rattle.body_rules.specs.Texts.{operand_of}
 use Rattle.body_rules.specs.Spill.{Destination, discard, to_variable, to_result, Code, Operand, no_code, one, put_first, then_code, spill, then_use}
 use Rattle.sj_desugar.specs.Finalizers.{finalizer_code}
-use Rattle.sj_trees.specs.Term.{Term, Terms, no_terms, more_terms, Cases, no_cases, more_cases, var_def, block_of, labeled, assign, return_to, if_then, while_loop, do_while, throw, try_catch, try_finally, match_on, new_object, select, select_static, apply, apply_statically, apply_static, unary_op, binary_op, is_instance_of, as_instance_of, undefined_literal, null_literal, boolean_literal, char_literal, byte_literal, short_literal, int_literal, long_literal, string_literal, var_ref, this_ref, log_line, load_module, store_module}
+use Rattle.sj_trees.specs.Term.{Term, Terms, no_terms, more_terms, Cases, no_cases, more_cases, var_def, block_of, labeled, assign, return_to, if_then, while_loop, do_while, throw, try_catch, try_finally, match_on, new_object, new_array, array_value, array_length, array_select, select, select_static, apply, apply_statically, apply_static, unary_op, binary_op, is_instance_of, as_instance_of, undefined_literal, null_literal, boolean_literal, char_literal, byte_literal, short_literal, int_literal, long_literal, string_literal, var_ref, this_ref, log_line, load_module, store_module}
 use Rattle.sj_names.specs.declared.method_names.Namespace.TheVariants.{Constructor}
-use Rattle.sj_trees.specs.Types.{class_type}
+use Rattle.sj_trees.specs.Types.{class_type, element_type}
 use Rattle.body_rules.specs.Sure.{is_sure}
 use Rattle.sj_trees.specs.TypeOf.{type_of_term, unary_result, binary_result}
 use Rattle.sj_trees.specs.declared.positions.Position.{Position}
 use Rattle.sj_trees.specs.declared.types.IrType.{IrType}
-use Rattle.sj_trees.specs.declared.types.IrType.TheVariants.{Any, Undefined, Null, Boolean, Char, Byte, Short, Int, Long, String}
+use Rattle.sj_trees.specs.declared.types.IrType.TheVariants.{Any, Array, Undefined, Null, Boolean, Char, Byte, Short, Int, Long, String}
 use Rattle.body_rules.specs.Locals.{Own, OwnAll}
 use Rattle.body_rules.proofs.Equal.{equals, is-equal}
 use Rattle.sj_names.proofs.Same.{impossible}
@@ -140,6 +140,7 @@ module _ (is_mutable sure : List ℕ → Bool) where
     good (assign p (var_ref q x t) e) = λ around ts ls b k j h em. act_good e (good e) (Own e) (all_part (Own e)) around ts ls b j (λ es. one (core.assign_to (Some p) (core.named x) (coerced t (type_of_term e) (first_of es)))) h em (λ es i. good-one no_name ls b i i (core.assign_to (Some p) (core.named x) (coerced t (type_of_term e) (first_of es))) (omega arith) (λ y d. d) tt)
     good (assign p (select q d c f t) e) = λ around ts ls b k j h em. good-use (Own (assign p (select q d c f t) e)) no_name (Own (assign p (select q d c f t) e)) ls b (receiver_in d ts ∷ operand is_mutable sure e (λ k j. into is_mutable sure ts k j e) ∷ []) (λ es. one (core.assign_field (Some p) (first_of es) c f (coerced t (type_of_term e) (second_of es)))) j (receiver_first d (good d) (Own e) (Own (assign p (select q d c f t) e)) (operand is_mutable sure e (λ k j. into is_mutable sure ts k j e) ∷ []) h.2 (λ x o. inl o) (λ x o. inr o) around ts ls b h.0 em (each_one e (good e) around ts ls b h.1 em) j) (λ es i. good-one no_name ls b i i (core.assign_field (Some p) (first_of es) c f (coerced t (type_of_term e) (second_of es))) (omega arith) (λ y d. d) tt) (nothing_apart (Own (assign p (select q d c f t) e))) (all_part (Own (assign p (select q d c f t) e))) (no_part (Own (assign p (select q d c f t) e)))
     good (assign p (select_static q c f t) e) = λ around ts ls b k j h em. act_good e (good e) (Own e) (all_part (Own e)) around ts ls b j (λ es. one (core.assign_static (Some p) c f (coerced t (type_of_term e) (first_of es)))) h em (λ es i. good-one no_name ls b i i (core.assign_static (Some p) c f (coerced t (type_of_term e) (first_of es))) (omega arith) (λ y d. d) tt)
+    good (assign p (array_select q d i t) e) = λ around ts ls b k j h em. good-use (Own (assign p (array_select q d i t) e)) no_name (Own (assign p (array_select q d i t) e)) ls b (receiver_in d ts ∷ operand is_mutable sure i (λ k j. into is_mutable sure ts k j i) ∷ operand is_mutable sure e (λ k j. into is_mutable sure ts k j e) ∷ []) (λ es. one (core.assign_element (Some p) t (first_of es) (second_of es) (coerced t (type_of_term e) (third_of es)))) j (receiver_first d (good d) (λ x. Own i x ⊎ Own e x) (Own (assign p (array_select q d i t) e)) (operand is_mutable sure i (λ k j. into is_mutable sure ts k j i) ∷ operand is_mutable sure e (λ k j. into is_mutable sure ts k j e) ∷ []) h.3 (λ x o. inl o) (λ x o. inr o) around ts ls b h.0 em (operand-good (Own i) (Own e) (λ x. Own i x ⊎ Own e x) ls b (operand is_mutable sure i (λ k j. into is_mutable sure ts k j i)) (operand is_mutable sure e (λ k j. into is_mutable sure ts k j e) ∷ []) (λ k j. good i around ts ls b k j h.1 em) (each_one e (good e) around ts ls b h.2 em) h.4 (λ x o. inl o) (λ x o. inr o)) j) (λ es n. good-one no_name ls b n n (core.assign_element (Some p) t (first_of es) (second_of es) (coerced t (type_of_term e) (third_of es))) (omega arith) (λ y d. d) tt) (nothing_apart (Own (assign p (array_select q d i t) e))) (all_part (Own (assign p (array_select q d i t) e))) (no_part (Own (assign p (array_select q d i t) e)))
     good (throw p e) = λ around ts ls b k j h em. act_good e (good e) (Own e) (all_part (Own e)) around ts ls b j (λ es. one (core.throw_of (Some p) (coerced Any (type_of_term e) (first_of es)))) h em (λ es i. good-one no_name ls b i i (core.throw_of (Some p) (coerced Any (type_of_term e) (first_of es))) (omega arith) (λ y d. d) tt)
     good (return_to p e l) = λ around ts ls b k j h em. leaving-good (Own e) ls b j (target_of ts l) p l (into is_mutable sure ts (target_of ts l) j e) (λ i. em.has l h.0 i) (good e around ts ls b (target_of ts l) j h.1 em)
     good (if_then p c a d t) = λ around ts ls b k j h em. act_good c (good c) (Own (if_then p c a d t)) (λ x o. inl o) around ts ls b j (λ es j. branches p (first_of es) (into is_mutable sure ts k j a) (λ j. into is_mutable sure ts k j d)) h.0 em (λ es i. branches-good (Own a) (Own d) no_name ls b p (first_of es) (into is_mutable sure ts k i a) (λ j. into is_mutable sure ts k j d) i (good a around ts ls b k i h.1 em) (good d around ts ls b k (into is_mutable sure ts k i a).next h.2 em))
@@ -158,6 +159,10 @@ module _ (is_mutable sure : List ℕ → Bool) where
     good (store_module p c e) = λ around ts ls b k j h em. act_good e (good e) (Own e) (all_part (Own e)) around ts ls b j (λ es. one (core.store_module_of (Some p) c (coerced (class_type c) (type_of_term e) (first_of es)))) h em (λ es i. good-one no_name ls b i i (core.store_module_of (Some p) c (coerced (class_type c) (type_of_term e) (first_of es))) (omega arith) (λ y d. d) tt)
     good (this_ref p t) = λ around ts ls b k j h em. finish-good no_name ls b k p t true (core.variable_use core.receiver) j
     good (unary_op p o e) = λ around ts ls b k j h em. act_good e (good e) (Own e) (all_part (Own e)) around ts ls b j (λ es. finish k p (unary_result o) false (core.unary_of o (first_of es))) h em (λ es i. finish-good no_name ls b k p (unary_result o) false (core.unary_of o (first_of es)) i)
+    good (new_array p r e) = λ around ts ls b k j h em. act_good e (good e) (Own e) (all_part (Own e)) around ts ls b j (λ es. finish k p (Array r) false (core.new_array_of r (first_of es))) h em (λ es i. finish-good no_name ls b k p (Array r) false (core.new_array_of r (first_of es)) i)
+    good (array_value p r es) = λ around ts ls b k j h em. good-use (OwnAll es) no_name (OwnAll es) ls b (operands is_mutable sure ts es) (λ xs. finish k p (Array r) false (core.array_of r (expressions_of (coerced_items (element_type r) (types_of es) xs)))) j (good_operands es around ts ls b h em j) (λ xs i. finish-good no_name ls b k p (Array r) false (core.array_of r (expressions_of (coerced_items (element_type r) (types_of es) xs))) i) (nothing_apart (OwnAll es)) (all_part (OwnAll es)) (no_part (OwnAll es))
+    good (array_length p e) = λ around ts ls b k j h em. good-use (Own e) no_name (Own e) ls b (receiver_in e ts ∷ []) (λ es. finish k p Int false (core.length_of (first_of es))) j (receiver_first e (good e) no_name (Own e) [] (nothing_apart (Own e)) (all_part (Own e)) (no_part (Own e)) around ts ls b h em (λ j. good-none no_name ls b j) j) (λ es i. finish-good no_name ls b k p Int false (core.length_of (first_of es)) i) (nothing_apart (Own e)) (all_part (Own e)) (no_part (Own e))
+    good (array_select p e i t) = λ around ts ls b k j h em. good-use (Own (array_select p e i t)) no_name (Own (array_select p e i t)) ls b (receiver_in e ts ∷ operand is_mutable sure i (λ k j. into is_mutable sure ts k j i) ∷ []) (λ es. finish k p t false (core.element_of (first_of es) (second_of es))) j (receiver_first e (good e) (Own i) (Own (array_select p e i t)) (operand is_mutable sure i (λ k j. into is_mutable sure ts k j i) ∷ []) h.2 (λ x o. inl o) (λ x o. inr o) around ts ls b h.0 em (each_one i (good i) around ts ls b h.1 em) j) (λ es n. finish-good no_name ls b k p t false (core.element_of (first_of es) (second_of es)) n) (nothing_apart (Own (array_select p e i t))) (all_part (Own (array_select p e i t))) (no_part (Own (array_select p e i t)))
     good (is_instance_of p e t) = λ around ts ls b k j h em. act_good e (good e) (Own e) (all_part (Own e)) around ts ls b j (λ es. finish k p Boolean false (core.test_of t (coerced Any (type_of_term e) (first_of es)))) h em (λ es i. finish-good no_name ls b k p Boolean false (core.test_of t (coerced Any (type_of_term e) (first_of es))) i)
     good (as_instance_of p e t) = λ around ts ls b k j h em. act_good e (good e) (Own e) (all_part (Own e)) around ts ls b j (λ es. finish k p t false (core.cast_of t (coerced Any (type_of_term e) (first_of es)))) h em (λ es i. finish-good no_name ls b k p t false (core.cast_of t (coerced Any (type_of_term e) (first_of es))) i)
     good (binary_op p o e d) = λ around ts ls b k j h em. good-use (Own (binary_op p o e d)) no_name (Own (binary_op p o e d)) ls b (operand is_mutable sure e (λ k j. into is_mutable sure ts k j e) ∷ operand is_mutable sure d (λ k j. into is_mutable sure ts k j d) ∷ []) (λ es. finish k p (binary_result o) false (core.binary_of o (operand_of o (type_of_term e) (first_of es)) (operand_of o (type_of_term d) (second_of es)))) j (operand-good (Own e) (Own d) (Own (binary_op p o e d)) ls b (operand is_mutable sure e (λ k j. into is_mutable sure ts k j e)) (operand is_mutable sure d (λ k j. into is_mutable sure ts k j d) ∷ []) (λ k j. good e around ts ls b k j h.0 em) (each_one d (good d) around ts ls b h.1 em) h.2 (λ x o. inl o) (λ x o. inr o) j) (λ es i. finish-good no_name ls b k p (binary_result o) false (core.binary_of o (operand_of o (type_of_term e) (first_of es)) (operand_of o (type_of_term d) (second_of es))) i) (nothing_apart (Own (binary_op p o e d))) (all_part (Own (binary_op p o e d))) (no_part (Own (binary_op p o e d)))

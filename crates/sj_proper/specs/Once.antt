@@ -2,7 +2,7 @@
 use Rattle.std.specs.Prelude.{◌≡◌, ℕ, List, [], ◌∷◌, ◌⊎◌}
 use Rattle.body_rules.specs.Desugar.{names_of}
 use Rattle.sj_trees.specs.declared.classes.MethodDef.{MethodDef}
-use Rattle.sj_trees.specs.Term.{Term, Terms, no_terms, more_terms, Cases, no_cases, more_cases, var_def, block_of, labeled, assign, return_to, if_then, while_loop, do_while, throw, try_catch, try_finally, match_on, new_object, select, apply, apply_statically, apply_static, unary_op, binary_op, is_instance_of, as_instance_of, log_line, store_module}
+use Rattle.sj_trees.specs.Term.{Term, Terms, no_terms, more_terms, Cases, no_cases, more_cases, var_def, block_of, labeled, assign, return_to, if_then, while_loop, do_while, throw, try_catch, try_finally, match_on, new_object, new_array, array_value, array_length, array_select, select, apply, apply_statically, apply_static, unary_op, binary_op, is_instance_of, as_instance_of, log_line, store_module}
 use Rattle.body_rules.specs.Locals.{Own, OwnAll, OwnCases, IsParameter}
 use Rattle.body_rules.specs.Sure.{Definition, definitions}
 
@@ -21,6 +21,7 @@ abbrev mutual
   Once ls (block_of p ts) = OnceAll ls ts
   Once ls (labeled p l t e) = (IsAmong ls l → ⊥) × Once (l ∷ ls) e
   Once ls (assign p (select q d c f t) e) = Once ls d × Once ls e × Apart (Own d) (Own e)
+  Once ls (assign p (array_select q d i t) e) = Once ls d × Once ls i × Once ls e × Apart (Own d) (λ x. Own i x ⊎ Own e x) × Apart (Own i) (Own e)
   Once ls (assign p d e) = Once ls e
   Once ls (throw p e) = Once ls e
   Once ls (store_module p c e) = Once ls e
@@ -37,6 +38,10 @@ abbrev mutual
   Once ls (apply_statically p e c n m ts t) = Once ls e × OnceAll ls ts × Apart (Own e) (OwnAll ts)
   Once ls (apply_static p c n m ts t) = OnceAll ls ts
   Once ls (unary_op p o e) = Once ls e
+  Once ls (new_array p r e) = Once ls e
+  Once ls (array_value p r ts) = OnceAll ls ts
+  Once ls (array_length p e) = Once ls e
+  Once ls (array_select p e i t) = Once ls e × Once ls i × Apart (Own e) (Own i)
   Once ls (is_instance_of p e t) = Once ls e
   Once ls (as_instance_of p e t) = Once ls e
   Once ls (binary_op p o e d) = Once ls e × Once ls d × Apart (Own e) (Own d)

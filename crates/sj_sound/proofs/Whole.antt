@@ -20,7 +20,7 @@ use Rattle.sj_sound.specs.Linked.{IsWhole, has_function, have_functions, IsRight
 use Rattle.body_soundness.specs.SjWorldLaws.{IsPlain}
 
 member-of : (w : ir_world.World) (fs : List EmittedMethod) (e : EmittedMethod) → IsRight w fs e → RightMember w (functions_of fs) e.member
-member-of w fs e r = record { definition = e.definition; its_body = e.its_body; found = r.found; has_body = r.has_body; rules = r.rules; parameters = r.parameters; result_is = r.result_is }
+member-of w fs e r = record { definition = e.definition; its_body = e.its_body; found = r.found; has_body = r.has_body; rules = r.rules; names = r.names; parameters = r.parameters; result_is = r.result_is }
 
 members : (w : ir_world.World) (fs : List EmittedMethod) → ((e : EmittedMethod) → Contains fs e → IsRight w fs e) → (m : Member) → has_function fs m ≡ true → RightMember w (functions_of fs) m
 members w fs right m l = let h = has_function-is fs m l in subst (RightMember w (functions_of fs)) h.is (member-of w fs h.method (right h.method h.listed))

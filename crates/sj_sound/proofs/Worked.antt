@@ -77,10 +77,10 @@ tripling_rules = record {
 }
 
 pub main_right : IsRight worked_world worked_methods (emitted main_method tests_it)
-main_right = record { found = refl; has_body = refl; parameters = tt; result_is = refl; rules = main_rules }
+main_right = record { found = refl; has_body = refl; parameters = tt; result_is = refl; rules = main_rules; names = record { once = tt; fresh = λ x n i. n } }
 
 pub tripling_right : IsRight worked_world worked_methods (emitted tripling_method triples)
-tripling_right = record { found = refl; has_body = refl; parameters = (refl, tt); result_is = refl; rules = tripling_rules }
+tripling_right = record { found = refl; has_body = refl; parameters = (refl, tt); result_is = refl; rules = tripling_rules; names = record { once = tt; fresh = λ x n i. n } }
 
 each_right : (e : EmittedMethod) → Contains worked_methods e → IsRight worked_world worked_methods e
 each_right e h = ⊎_elim (λ same. subst (IsRight worked_world worked_methods) same main_right) (λ later. ⊎_elim (λ same. subst (IsRight worked_world worked_methods) same tripling_right) (λ none. nothing_in e none) (in_front_or_behind (emitted tripling_method triples) [] e later)) (in_front_or_behind (emitted main_method tests_it) (emitted tripling_method triples ∷ []) e h)

@@ -3,7 +3,7 @@ use Rattle.std.proofs.Common.{◌≡◌, ℕ, ◌+◌, ◌^◌, arith, Bool, tru
 use Rattle.std.specs.List.{All}
 use Rattle.std.proofs.lemmas.Bool.{and_parts, and_from}
 use Rattle.std.proofs.lemmas.List.Elements.{All-nil, All-cons, All-head, All-tail}
-use Rattle.sj_kept.specs.Built.{Usable, stands, may_make, is_operation, can_cast, is_built, are_built, are_built_cases, body_boxes, is_built_method}
+use Rattle.sj_kept.specs.Built.{Usable, stands, may_make, is_operation, is_based, can_cast, is_built, are_built, are_built_cases, body_boxes, is_built_method}
 use Rattle.listing_spelling.specs.Rules.{IsListedTree, AreListedTrees, AreListedCases}
 use Rattle.sj_kept.specs.Sizes.{size, size_of_cases}
 use Rattle.sj_kept.specs.Desugar.{member, has_no_value}
@@ -22,13 +22,14 @@ use Rattle.sj_kept.specs.Locals.{local_of, HasValue}
 use Rattle.sj_kept.specs.Typing as scenes
 use Rattle.sj_kept.specs.Once.{Once, OnceAll, OnceCases}
 use Rattle.sj_kept.specs.Methods.{scene_of, KeepsRules}
-use Rattle.sj_trees.specs.Term.{Term, Terms, no_terms, more_terms, Cases, no_cases, more_cases, var_def, skip, block_of, labeled, assign, return_to, if_then, while_loop, do_while, throw, try_catch, try_finally, match_on, new_object, select, select_static, apply, apply_statically, apply_static, unary_op, binary_op, is_instance_of, as_instance_of, undefined_literal, null_literal, boolean_literal, char_literal, byte_literal, short_literal, int_literal, long_literal, string_literal, var_ref, this_ref, log_line, load_module, store_module}
+use Rattle.sj_trees.specs.Term.{Term, Terms, no_terms, more_terms, Cases, no_cases, more_cases, var_def, skip, block_of, labeled, assign, return_to, if_then, while_loop, do_while, throw, try_catch, try_finally, match_on, new_object, select, select_static, apply, apply_statically, apply_static, unary_op, binary_op, is_instance_of, as_instance_of, undefined_literal, null_literal, boolean_literal, char_literal, byte_literal, short_literal, int_literal, long_literal, string_literal, var_ref, this_ref, log_line, load_module, store_module, new_array, array_value, array_length, array_select}
 use Rattle.sj_trees.specs.declared.classes.ClassDef.{ClassDef}
 use Rattle.sj_trees.specs.declared.classes.MethodDef.{MethodDef}
 use Rattle.sj_trees.specs.declared.classes.ParamDef.{ParamDef}
 use Rattle.sj_trees.specs.declared.types.IrType.{IrType}
 use Rattle.sj_trees.specs.declared.types.IrType.TheVariants.{Any}
 use Rattle.sure_receivers.specs.Sure.{sure_locals}
+use Rattle.sj_typed.proofs.Dimensions.{listed_dimensions, tree_dimensions}
 use Rattle.sj_typed.proofs.Values.{all_have_values, fits, fits_long}
 use Rattle.sj_world.specs.Known.{Classes}
 use Rattle.sj_kept.specs.Nodes.{Node, nodes, nodes_of_all, nodes_of_cases}
@@ -98,6 +99,22 @@ module _ (w : Classes) (has : Usable) where
         let met = inner s.space s.labels n (assign p (select_static r cn f t) e) all in
         let q = and_parts (has.static_setter cn f t) (is_built has (may_check has s.sure) e) built in
         (record { meets = own s.space s.labels n (assign p (select_static r cn f t) e) all; built = q.0; finds = tt }, own s.space s.labels (n + 1) (select_static r cn f t) (one s.space s.labels (n + 1) (select_static r cn f t) e met), typed e x x s a (n + 1 + size (select_static r cn f t)) refl c h.1.0 h.1.1 o q.1 listed.1 (other s.space s.labels (n + 1) (select_static r cn f t) e met))
+    typed (assign p (array_select r d i t) e) x y s a n z c k h o built listed all =
+        let met = inner s.space s.labels n (assign p (array_select r d i t) e) all in
+        let later = keep-behind s.owner s.space (At x (array_select r d i t)) (At x e) h in
+        let front_kept = keep-front s.owner s.space (below x (array_select r d i t)) (At x e) h.1 in
+        let index_kept = keep-behind s.owner s.space (At x d) (At x i) front_kept in
+        let its = one s.space s.labels (n + 1) (array_select r d i t) e met in
+        let inside_it = inner s.space s.labels (n + 1) (array_select r d i t) its in
+        let q = and_parts (stands has (may_check has s.sure) (assign p (array_select r d i t) e)) (is_built has (may_check has s.sure) d && (is_built has (may_check has s.sure) i && is_built has (may_check has s.sure) e)) built in
+        let parts = and_parts (is_built has (may_check has s.sure) d) (is_built has (may_check has s.sure) i && is_built has (may_check has s.sure) e) q.1 in
+        let last = and_parts (is_built has (may_check has s.sure) i) (is_built has (may_check has s.sure) e) parts.1 in (
+          record { meets = own s.space s.labels n (assign p (array_select r d i t) e) all; built = q.0; finds = tree_dimensions d listed.0.0 },
+          own s.space s.labels (n + 1) (array_select r d i t) its,
+          typed d x x s a (n + 1 + 1) refl c front_kept.0 (keep-front s.owner s.space (below x d) (At x i) front_kept.1) o.0 parts.0 listed.0.0 (one s.space s.labels (n + 1 + 1) d i inside_it),
+          typed i x x s a (n + 1 + 1 + size d) refl c index_kept.0 index_kept.1 o.1 last.0 listed.0.1 (other s.space s.labels (n + 1 + 1) d i inside_it),
+          typed e x x s a (n + 1 + size (array_select r d i t)) refl c later.0 later.1 o.2 last.1 listed.1 (other s.space s.labels (n + 1) (array_select r d i t) e met),
+        )
     typed (throw p e) x y s a n z c k h o built listed all =
         let q = and_parts has.objects (is_built has (may_check has s.sure) e) built in
         (record { meets = own s.space s.labels n (throw p e) all; built = q.0; finds = tt }, typed e x x s a (n + 1) refl c h.0 h.1 o q.1 listed (inner s.space s.labels n (throw p e) all))
@@ -168,12 +185,27 @@ module _ (w : Classes) (has : Usable) where
         let q = and_parts (is_operation has op e) (is_built has (may_check has s.sure) d && is_built has (may_check has s.sure) e) built in
         let parts = and_parts (is_built has (may_check has s.sure) d) (is_built has (may_check has s.sure) e) q.1 in
         (record { meets = own s.space s.labels n (binary_op p op d e) all; built = q.0; finds = tt }, typed d x x s a (n + 1) refl c h.0 (keep-front s.owner s.space (below x d) (At x e) h.1) o.0 parts.0 listed.0 (one s.space s.labels (n + 1) d e met), typed e x x s a (n + 1 + size d) refl c later.0 later.1 o.1 parts.1 listed.1 (other s.space s.labels (n + 1) d e met))
+    typed (new_array p r e) x y s a n z c k h o built listed all =
+        let q = and_parts (stands has (may_check has s.sure) (new_array p r e)) (is_built has (may_check has s.sure) e) built in
+        (record { meets = own s.space s.labels n (new_array p r e) all; built = q.0; finds = (listed.0.0.0, listed.0.0.1) }, typed e x x s a (n + 1) refl c h.0 h.1 o q.1 listed.1 (inner s.space s.labels n (new_array p r e) all))
+    typed (array_value p r ts) x y s a n z c k h o built listed all =
+        let q = and_parts (stands has (may_check has s.sure) (array_value p r ts)) (are_built has (may_check has s.sure) ts) built in
+        (record { meets = own s.space s.labels n (array_value p r ts) all; built = q.0; finds = (listed.0.0.0, listed.0.0.1) }, typed_all ts x s a (n + 1) c h o q.1 listed.1 (inner s.space s.labels n (array_value p r ts) all))
+    typed (array_length p e) x y s a n z c k h o built listed all =
+        let q = and_parts (stands has (may_check has s.sure) (array_length p e)) (is_built has (may_check has s.sure) e) built in
+        (record { meets = own s.space s.labels n (array_length p e) all; built = q.0; finds = tt }, typed e x x s a (n + 1) refl c h.0 h.1 o q.1 listed (inner s.space s.labels n (array_length p e) all))
+    typed (array_select p d e t) x y s a n z c k h o built listed all =
+        let met = inner s.space s.labels n (array_select p d e t) all in
+        let later = keep-behind s.owner s.space (At x d) (At x e) h in
+        let q = and_parts (stands has (may_check has s.sure) (array_select p d e t)) (is_built has (may_check has s.sure) d && is_built has (may_check has s.sure) e) built in
+        let parts = and_parts (is_built has (may_check has s.sure) d) (is_built has (may_check has s.sure) e) q.1 in
+        (record { meets = own s.space s.labels n (array_select p d e t) all; built = q.0; finds = tree_dimensions d listed.0 }, typed d x x s a (n + 1) refl c h.0 (keep-front s.owner s.space (below x d) (At x e) h.1) o.0 parts.0 listed.0 (one s.space s.labels (n + 1) d e met), typed e x x s a (n + 1 + size d) refl c later.0 later.1 o.1 parts.1 listed.1 (other s.space s.labels (n + 1) d e met))
     typed (is_instance_of p e t) x y s a n z c k h o built listed all =
-        let q = and_parts (has.tests t) (is_built has (may_check has s.sure) e) built in
-        (record { meets = own s.space s.labels n (is_instance_of p e t) all; built = q.0; finds = tt }, typed e x x s a (n + 1) refl c h.0 h.1 o q.1 listed.0 (inner s.space s.labels n (is_instance_of p e t) all))
+        let q = and_parts (has.tests t && is_based has t) (is_built has (may_check has s.sure) e) built in
+        (record { meets = own s.space s.labels n (is_instance_of p e t) all; built = q.0; finds = listed_dimensions t listed.1 }, typed e x x s a (n + 1) refl c h.0 h.1 o q.1 listed.0 (inner s.space s.labels n (is_instance_of p e t) all))
     typed (as_instance_of p e t) x y s a n z c k h o built listed all =
-        let q = and_parts (can_cast has t) (is_built has (may_check has s.sure) e) built in
-        (record { meets = own s.space s.labels n (as_instance_of p e t) all; built = q.0; finds = tt }, typed e x x s a (n + 1) refl c h.0 h.1 o q.1 listed.0 (inner s.space s.labels n (as_instance_of p e t) all))
+        let q = and_parts (can_cast has t && is_based has t) (is_built has (may_check has s.sure) e) built in
+        (record { meets = own s.space s.labels n (as_instance_of p e t) all; built = q.0; finds = listed_dimensions t listed.1 }, typed e x x s a (n + 1) refl c h.0 h.1 o q.1 listed.0 (inner s.space s.labels n (as_instance_of p e t) all))
     typed (undefined_literal p) x y s a n z c k h o built listed all = record { meets = tt; built = refl; finds = tt }
     typed (null_literal p) x y s a n z c k h o built listed all = record { meets = tt; built = refl; finds = tt }
     typed (boolean_literal p b) x y s a n z c k h o built listed all = record { meets = tt; built = refl; finds = tt }

@@ -6,3 +6,4 @@ pub use Rattle.sj_kept.proofs.Distinct
 pub use Rattle.sj_kept.proofs.Kept
 pub use Rattle.sj_kept.proofs.Methods
 pub use Rattle.sj_kept.proofs.Types
+pub mod Dimensions

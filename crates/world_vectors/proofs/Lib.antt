@@ -1,3 +1,4 @@
 mod NextCase
+mod Parted
 mod Targets
 mod Kept

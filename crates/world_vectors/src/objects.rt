@@ -1,4 +1,4 @@
-// Which fields are those of objects.
+// Which fields, lengths and items are those of objects.
 ghost use Rattle.std.specs.Prelude.{◌≡◌, ◌∷◌, [], true, false};
 ghost use Rattle.sj_pieces.specs.Owners.{OnObjects, AllOnObjects, CasesOnObjects};
 ghost use Rattle.sj_trees.specs.TypeOf.{type_of_term};
@@ -10,7 +10,7 @@ ghost use Rattle.world_vectors.specs.Objects.{IsOfObject, PartsOnObjects};
 use sj_trees::{IrType, MatchCase, Tree};
 use tree_parts::{Parts, parts_in};
 
-/// Whether each field in the tree is one of a tree that is by its form of a type other than the primitive ones.
+/// Whether each field, length or item in the tree is one of a tree that is by its form of a type other than the primitive ones.
 #[cycle(objects)]
 pub(crate) fn is_on_objects(tree: &Tree) -> bool
     ensures { result ≡ true → OnObjects (view tree.now) }
@@ -61,12 +61,14 @@ fn are_cases_on_objects(cases: &[MatchCase]) -> bool
     true
 }
 
-// Whether the tree is no field, or one of an object.
+// Whether the tree is no field, length or item, or one of an object.
 fn is_of_object(tree: &Tree) -> bool
     ensures { result ≡ true → IsOfObject (view tree.now) }
 {
     match tree {
-        Tree::Select(_, object, _, _, _) => is_object(object),
+        Tree::Select(_, object, _, _, _)
+        | Tree::ArrayLength(_, object)
+        | Tree::ArraySelect(_, object, _, _) => is_object(object),
         _ => true,
     }
 }
@@ -89,7 +91,10 @@ fn is_object(tree: &Tree) -> bool
         | Tree::ApplyStatic(_, _, _, _, _, tpe)
         | Tree::ArraySelect(_, _, _, tpe)
         | Tree::AsInstanceOf(_, _, tpe) => !is_primitive(tpe),
-        Tree::New(_, _, _, _) | Tree::LoadModule(_, _) => true,
+        Tree::New(_, _, _, _)
+        | Tree::LoadModule(_, _)
+        | Tree::NewArray(_, _, _)
+        | Tree::ArrayValue(_, _, _) => true,
         _ => false,
     }
 }

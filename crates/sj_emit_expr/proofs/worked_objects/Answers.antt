@@ -1,5 +1,6 @@
 use Rattle.std.proofs.Common.{refl}
 use Rattle.std.specs.Fmt.{digits}
+use Rattle.std.specs.Str.{chars}
 use Rattle.js_tree.specs.Written.{put}
 use Rattle.sj_emit_expr.proofs.worked_objects.Goals as goal
 
@@ -74,3 +75,11 @@ returns-clause-catches c = refl
 pub returns-clause-catches_uses : goal.returns-clause-catches_uses
 unfolding put digits
 returns-clause-catches_uses c = refl
+
+pub returns-clause-arrays : goal.returns-clause-arrays
+unfolding put digits chars
+returns-clause-arrays c = refl
+
+pub returns-clause-arrays_uses : goal.returns-clause-arrays_uses
+unfolding put digits
+returns-clause-arrays_uses c = refl

@@ -1,4 +1,4 @@
-use Rattle.std.proofs.Common.{◌≡◌, ◌∙◌, suc, ◌+◌, ◌<◌, ◌++◌, ◌∷◌, [], ap, sym, subst, map, drop, length, Bool, true, false, refl, None, Some, IfOk, arith}
+use Rattle.std.proofs.Common.{◌≡◌, ◌∙◌, suc, ◌+◌, ◌<◌, ◌&&◌, ◌++◌, ◌∷◌, [], ap, sym, subst, map, drop, length, Bool, true, false, refl, None, Some, IfOk, arith}
 use Rattle.std.proofs.lemmas.Bool.Decides.{nat_tests}
 use Rattle.std.proofs.lemmas.List.{map_push}
 use Rattle.sj_core.specs.Terms as core
@@ -12,25 +12,25 @@ use Rattle.sj_desugar.specs.Finalizers.{kept, keep_all, give_all_back}
 use Rattle.sj_desugar.specs.Plain.{is_among, is_plain, are_plain}
 use Rattle.sj_desugar.specs.Spill.{Code, discard, joined, one, put_first, spill, then_use, to_variable}
 use Rattle.sj_desugar.specs.Texts.{operand_of}
-use Rattle.sj_desugaring.specs.Arguments.{coerced_argument, with_arguments}
+use Rattle.sj_desugaring.specs.Arguments.{coerced_argument, with_arguments, with_items}
 use Rattle.sj_desugaring.specs.Forms.{behind, for_last}
-use Rattle.sj_desugarer.proofs.Rows.{assignment-row, if-joins, try-joins, finally-joins, log-joins, test-joins, cast-joins, unary-joins, binary-joins, match-joins, turn-joins, loop-joins, received-sure, received-checked, checked-brought, receive-joins, field-joins, throw-joins, store-joins}
-use Rattle.sj_desugarer.proofs.Runs.{slice-rest, block-step, arguments-step, cases-take}
+use Rattle.sj_desugarer.proofs.Rows.{declared-joins, assignment-joins, new-array-joins, items-joins, length-joins, element-joins, if-joins, try-joins, finally-joins, log-joins, test-joins, cast-joins, unary-joins, binary-joins, match-joins, turn-joins, loop-joins, received-sure, received-checked, checked-brought, receive-joins, field-joins, throw-joins, store-joins}
+use Rattle.sj_desugarer.proofs.Runs.{slice-rest, block-step, arguments-step, items-step, cases-take}
 use Rattle.sj_desugarer.proofs.trees.+trees.Goals as goal
-use Rattle.sj_desugarer.specs.Operands.{comes_to, comes_received, owner_place, assigned_code}
+use Rattle.sj_desugarer.specs.Operands.{comes_to, comes_received, owner_place, index_place, assigned_code}
 use Rattle.sj_desugaring.specs.Views.{destination_view, target_view, code_view, placed_view, all_view, branches_view}
 use Rattle.sj_trees.proofs.trees.Tree.TheLaws.{the_size}
 use Rattle.sj_desugaring.specs.Placing.{brought}
 use Rattle.sj_trees.specs.declared.types.IrType.TheVariants.{Any, Boolean}
 use Rattle.sj_trees.specs.Types.{class_type}
-use Rattle.sj_trees.specs.Term.{Term, select, select_static, apply, apply_statically, throw, store_module, var_ref, assign, if_then, while_loop, do_while, try_catch, try_finally, match_on, unary_op, binary_op, is_instance_of, as_instance_of, log_line}
+use Rattle.sj_trees.specs.Term.{Term, var_def, select, select_static, apply, apply_statically, throw, store_module, var_ref, assign, if_then, while_loop, do_while, try_catch, try_finally, match_on, unary_op, binary_op, new_array, array_value, array_length, array_select, is_instance_of, as_instance_of, log_line}
 use Rattle.sj_trees.specs.TypeOf.{type_of_term, binary_result}
 use Rattle.sj_trees.specs.View.{view, terms_view, cases_view, view_case, view_step, case_step, Case}
 use Rattle.sj_trees.specs.declared.trees.Tree.{Tree}
 use Rattle.sj_trees.specs.declared.trees.Tree.TheFolds.{fold-roll-Tree, fold_out-MatchCase}
 use Rattle.sj_trees.specs.declared.trees.Tree.TheOpen.{Tree-F}
 use Rattle.sj_trees.specs.declared.trees.Tree.TheViews.{sized-Match}
-use Rattle.sj_trees.specs.declared.trees.Tree.TheVariants.{rolls-Assign, rolls-Select, rolls-SelectStatic, rolls-Apply, rolls-ApplyStatically, rolls-Throw, rolls-StoreModule, rolls-VarRef, rolls-If, rolls-TryCatch, rolls-TryFinally, rolls-While, rolls-DoWhile, rolls-Match, rolls-UnaryOp, rolls-BinaryOp, rolls-IsInstanceOf, rolls-AsInstanceOf, rolls-Log}
+use Rattle.sj_trees.specs.declared.trees.Tree.TheVariants.{rolls-VarDef, rolls-Assign, rolls-Select, rolls-SelectStatic, rolls-Apply, rolls-ApplyStatically, rolls-Throw, rolls-StoreModule, rolls-VarRef, rolls-If, rolls-TryCatch, rolls-TryFinally, rolls-While, rolls-DoWhile, rolls-Match, rolls-UnaryOp, rolls-BinaryOp, rolls-NewArray, rolls-ArrayValue, rolls-ArrayLength, rolls-ArraySelect, rolls-IsInstanceOf, rolls-AsInstanceOf, rolls-Log}
 
 pub statements_of-returns-in-If : goal.statements_of-returns-in-If
 statements_of-returns-in-If t c =
@@ -45,6 +45,21 @@ statements_of-returns-in-If t c =
     let e_first : code_view c.in_ok-first-in-If.first ≡ into m s ls k c.in_ok-test-in-If.test.next (view n.yes.value) = subst (λ (x : Tree). code_view c.in_ok-first-in-If.first ≡ into m s ls k c.in_ok-test-in-If.test.next (view x)) c.deref-in-If-2.ensures c.in_ok-first-in-If.ensures in
     let e_second : code_view c.in_ok-second-in-If.second ≡ into m s ls k c.in_ok-first-in-If.first.next (view n.no.value) = subst (λ (x : Tree). code_view c.in_ok-second-in-If.second ≡ into m s ls k c.in_ok-first-in-If.first.next (view x)) c.deref-in-If-3.ensures c.in_ok-second-in-If.ensures in
     subst (λ x. IfOk c.branched.result (λ w. code_view w ≡ x)) (sym (ap (into m s ls k a.next) v ∙ if-joins m s ls k a.next n.position (placed_view c.in_ok-test-in-If.test) (code_view c.in_ok-first-in-If.first) (code_view c.in_ok-second-in-If.second) (view n.condition.value) (view n.yes.value) (view n.no.value) n.field-4 e_test e_first e_second)) c.branched.ensures
+
+pub statements_of-returns-in-VarDef : goal.statements_of-returns-in-VarDef
+statements_of-returns-in-VarDef t c =
+    let n = c.in-VarDef in
+    let a = c.args in
+    let m = is_among a.locals.now.mutable.now in
+    let s = is_among a.locals.now.sure.now in
+    let ls = map target_view a.targets.now in
+    let k = destination_view a.destination.now in
+    let v : view a.tree.now ≡ var_def n.position n.name n.tpe n.field-3 (view n.value.value) = ap view (n.is ∙ sym (rolls-VarDef n.position n.name n.tpe n.field-3 n.value)) ∙ fold-roll-Tree Term Case view_step case_step (Tree-F.VarDef n.position n.name n.tpe n.field-3 n.value) in
+    let simple : c.is_plain-simple.result ≡ is_plain (view n.value.value) = subst (λ (x : Tree). c.is_plain-simple.result ≡ is_plain (view x)) c.deref.ensures c.is_plain-simple.ensures in
+    let d = destination_view c.in_ok-local-in-VarDef.local in
+    let code = code_view c.in_ok-value_code-in-VarDef.value_code in
+    let e_value : code ≡ into m s ls d a.next (view n.value.value) = subst (λ (x : Tree). code ≡ into m s ls d a.next (view x)) c.deref-else-simple.ensures c.in_ok-value_code-in-VarDef.ensures in
+    subst (λ x. IfOk c.declared.result (λ w. code_view w ≡ x)) (sym (ap (into m s ls k a.next) v ∙ declared-joins m s ls k a.next n.position d code n.name n.tpe n.field-3 (view n.value.value) (sym simple ∙ c.if-simple.false) c.in_ok-local-in-VarDef.ensures e_value)) c.declared.ensures
 
 pub statements_of-returns-in-TryCatch : goal.statements_of-returns-in-TryCatch
 statements_of-returns-in-TryCatch t c =
@@ -188,6 +203,18 @@ arguments_of-loop-index-preserved t c =
     let pushed : map expression_view c.push.new.self.items ≡ map expression_view c.loop-index.expressions.items ++ expression_view c.in_ok-coerced_argument.field-0 ∷ [] = rw c.in_ok-push.ensures.items (map_push _ c.loop-index.expressions.items c.in_ok-coerced_argument.field-0) in
     arguments-step m s ls a.trees.now c.loop-index.index x (code_view c.loop-index.written) (code_view c.in_ok-written.written) (placed_view c.in_ok-operand.operand) (map expression_view c.loop-index.expressions.items) (map expression_view c.push.new.self.items) c.loop-index.left.now c.without_first-left.result.now c.are_plain-rest_is_plain.result c.loop-index-test.true c.index-trees-index.is rest c.in_ok-operand.ensures c.in_ok-written.ensures (pushed ∙ ap (λ e. map expression_view c.loop-index.expressions.items ++ e ∷ []) one) c.without_first-left.ensures ∙ c.loop-index.invariant
 
+pub items_of-loop-index-preserved : goal.items_of-loop-index-preserved
+items_of-loop-index-preserved t c =
+    let a = c.args in
+    let m = is_among a.locals.now.mutable.now in
+    let s = is_among a.locals.now.sure.now in
+    let ls = map target_view a.targets.now in
+    let x = c.index-trees-index.result in
+    let rest : c.are_plain-rest_is_plain.result ≡ are_plain (terms_view (drop (c.loop-index.index + 1) a.trees.now)) = c.are_plain-rest_is_plain.ensures ∙ ap (λ us. are_plain (terms_view us)) (slice-rest a.trees.now (c.loop-index.index + 1)) in
+    let one : expression_view c.in_ok-coerced_value.field-0 ≡ coerced a.expected.now (type_of_term (view x)) (expression_view c.in_ok-operand.operand.expression) = c.in_ok-coerced_value.ensures in
+    let pushed : map expression_view c.push.new.self.items ≡ map expression_view c.loop-index.expressions.items ++ expression_view c.in_ok-coerced_value.field-0 ∷ [] = rw c.in_ok-push.ensures.items (map_push _ c.loop-index.expressions.items c.in_ok-coerced_value.field-0) in
+    items-step m s ls a.trees.now c.loop-index.index x (code_view c.loop-index.written) (code_view c.in_ok-written.written) (placed_view c.in_ok-operand.operand) (map expression_view c.loop-index.expressions.items) (map expression_view c.push.new.self.items) a.expected.now c.are_plain-rest_is_plain.result c.loop-index-test.true c.index-trees-index.is rest c.in_ok-operand.ensures c.in_ok-written.ensures (pushed ∙ ap (λ e. map expression_view c.loop-index.expressions.items ++ e ∷ []) one) ∙ c.loop-index.invariant
+
 pub cases_of-loop-each-preserved : goal.cases_of-loop-each-preserved
 cases_of-loop-each-preserved t c =
     let a = c.args in
@@ -281,6 +308,63 @@ statements_of-returns-in-Select t c =
     let e_owner : o ≡ comes_received m s ls true a.next (view n.object.value) = subst (λ (x : Tree). o ≡ comes_received m s ls true a.next (view x)) c.deref-in-Select.ensures c.in_ok-owner-in-Select.ensures in
     subst (λ x. IfOk c.field_value.result (λ w. code_view w ≡ x)) (sym (ap (into m s ls k a.next) v ∙ field-joins m s ls k a.next n.position o (view n.object.value) n.class n.name n.tpe e_owner)) c.field_value.ensures
 
+pub statements_of-returns-in-NewArray : goal.statements_of-returns-in-NewArray
+statements_of-returns-in-NewArray t c =
+    let n = c.in-NewArray in
+    let a = c.args in
+    let m = is_among a.locals.now.mutable.now in
+    let s = is_among a.locals.now.sure.now in
+    let ls = map target_view a.targets.now in
+    let k = destination_view a.destination.now in
+    let v : view a.tree.now ≡ new_array n.position n.array (view n.length.value) = ap view (n.is ∙ sym (rolls-NewArray n.position n.array n.length)) ∙ fold-roll-Tree Term Case view_step case_step (Tree-F.NewArray n.position n.array n.length) in
+    let o = placed_view c.in_ok-size-in-NewArray.size in
+    let e_size : o ≡ comes_to m s ls true a.next (view n.length.value) = subst (λ (x : Tree). o ≡ comes_to m s ls true a.next (view x)) c.deref-in-NewArray.ensures c.in_ok-size-in-NewArray.ensures in
+    subst (λ x. IfOk c.new_array_value.result (λ w. code_view w ≡ x)) (sym (ap (into m s ls k a.next) v ∙ new-array-joins m s ls k a.next n.position o n.array (view n.length.value) e_size)) c.new_array_value.ensures
+
+pub statements_of-returns-in-ArrayValue : goal.statements_of-returns-in-ArrayValue
+statements_of-returns-in-ArrayValue t c =
+    let n = c.in-ArrayValue in
+    let a = c.args in
+    let m = is_among a.locals.now.mutable.now in
+    let s = is_among a.locals.now.sure.now in
+    let ls = map target_view a.targets.now in
+    let k = destination_view a.destination.now in
+    let ts = terms_view n.trees.items in
+    let u = c.in_ok-expected-in-ArrayValue.expected in
+    let v : view a.tree.now ≡ array_value n.position n.array ts = ap view (n.is ∙ sym (rolls-ArrayValue n.position n.array n.trees)) ∙ fold-roll-Tree Term Case view_step case_step (Tree-F.ArrayValue n.position n.array n.trees) in
+    let w = all_view c.in_ok-items-in-ArrayValue.items in
+    let e_items : w ≡ with_items u (types_of ts) (spill (operands m s ls ts) a.next) = subst (λ xs. w ≡ with_items u (types_of (terms_view xs)) (spill (operands m s ls (terms_view xs)) a.next)) c.deref-in-ArrayValue.ensures.value c.in_ok-items-in-ArrayValue.ensures in
+    subst (λ x. IfOk c.array_value.result (λ w. code_view w ≡ x)) (sym (ap (into m s ls k a.next) v ∙ items-joins m s ls k a.next n.position w n.array ts u c.in_ok-expected-in-ArrayValue.ensures e_items)) c.array_value.ensures
+
+pub statements_of-returns-in-ArrayLength : goal.statements_of-returns-in-ArrayLength
+statements_of-returns-in-ArrayLength t c =
+    let n = c.in-ArrayLength in
+    let a = c.args in
+    let m = is_among a.locals.now.mutable.now in
+    let s = is_among a.locals.now.sure.now in
+    let ls = map target_view a.targets.now in
+    let k = destination_view a.destination.now in
+    let v : view a.tree.now ≡ array_length n.position (view n.array.value) = ap view (n.is ∙ sym (rolls-ArrayLength n.position n.array)) ∙ fold-roll-Tree Term Case view_step case_step (Tree-F.ArrayLength n.position n.array) in
+    let o = placed_view c.in_ok-owner-in-ArrayLength.owner in
+    let e_owner : o ≡ comes_received m s ls true a.next (view n.array.value) = subst (λ (x : Tree). o ≡ comes_received m s ls true a.next (view x)) c.deref-in-ArrayLength.ensures c.in_ok-owner-in-ArrayLength.ensures in
+    subst (λ x. IfOk c.length_value.result (λ w. code_view w ≡ x)) (sym (ap (into m s ls k a.next) v ∙ length-joins m s ls k a.next n.position o (view n.array.value) e_owner)) c.length_value.ensures
+
+pub statements_of-returns-in-ArraySelect : goal.statements_of-returns-in-ArraySelect
+statements_of-returns-in-ArraySelect t c =
+    let n = c.in-ArraySelect in
+    let a = c.args in
+    let m = is_among a.locals.now.mutable.now in
+    let s = is_among a.locals.now.sure.now in
+    let ls = map target_view a.targets.now in
+    let k = destination_view a.destination.now in
+    let v : view a.tree.now ≡ array_select n.position (view n.array.value) (view n.index.value) n.tpe = ap view (n.is ∙ sym (rolls-ArraySelect n.position n.array n.index n.tpe)) ∙ fold-roll-Tree Term Case view_step case_step (Tree-F.ArraySelect n.position n.array n.index n.tpe) in
+    let o = placed_view c.in_ok-owner-in-ArraySelect.owner in
+    let r = placed_view c.in_ok-place-in-ArraySelect.place in
+    let plain : c.is_plain-index_plain.result ≡ is_plain (view n.index.value) = subst (λ (x : Tree). c.is_plain-index_plain.result ≡ is_plain (view x)) c.deref-in-ArraySelect.ensures c.is_plain-index_plain.ensures in
+    let e_owner : o ≡ comes_received m s ls c.is_plain-index_plain.result a.next (view n.array.value) = subst (λ (x : Tree). o ≡ comes_received m s ls c.is_plain-index_plain.result a.next (view x)) c.deref-in-ArraySelect-2.ensures c.in_ok-owner-in-ArraySelect.ensures in
+    let e_place : r ≡ comes_to m s ls true c.in_ok-owner-in-ArraySelect.owner.next (view n.index.value) = subst (λ (x : Tree). r ≡ comes_to m s ls true c.in_ok-owner-in-ArraySelect.owner.next (view x)) c.deref-in-ArraySelect-3.ensures c.in_ok-place-in-ArraySelect.ensures in
+    subst (λ x. IfOk c.element_value.result (λ w. code_view w ≡ x)) (sym (ap (into m s ls k a.next) v ∙ element-joins m s ls k a.next n.position o r (view n.array.value) (view n.index.value) n.tpe c.is_plain-index_plain.result plain e_owner e_place)) c.element_value.ensures
+
 pub statements_of-returns-in-Throw : goal.statements_of-returns-in-Throw
 statements_of-returns-in-Throw t c =
     let n = c.in-Throw in
@@ -345,9 +429,10 @@ statements_of-returns-in-Assign t c =
     let plain : c.is_plain-value_plain.result ≡ is_plain (view n.value.value) = subst (λ (x : Tree). c.is_plain-value_plain.result ≡ is_plain (view x)) c.deref-in-Assign.ensures c.is_plain-value_plain.ensures in
     let o = placed_view c.in_ok-owner-in-Assign.owner in
     let place : o ≡ owner_place m s ls c.is_plain-value_plain.result a.next (view n.target.value) = subst (λ (x : Tree). o ≡ owner_place m s ls c.is_plain-value_plain.result a.next (view x)) c.deref-in-Assign-2.ensures c.in_ok-owner-in-Assign.ensures in
-    let object : o ≡ owner_place m s ls (is_plain (view n.value.value)) a.next (view n.target.value) = subst (λ (b : Bool). o ≡ owner_place m s ls b a.next (view n.target.value)) plain place in
-    let written : IfOk c.assignment_of.result (λ w. code_view w ≡ assigned_code m s ls a.next n.position (view n.target.value) (view n.value.value) o) = subst (λ (x : Tree). IfOk c.assignment_of.result (λ w. code_view w ≡ assigned_code m s ls a.next n.position (view x) (view n.value.value) o)) c.deref-in-Assign-4.ensures (subst (λ (x : Tree). IfOk c.assignment_of.result (λ w. code_view w ≡ assigned_code m s ls a.next n.position (view c.deref-in-Assign-4.result.now) (view x) o)) c.deref-in-Assign-3.ensures c.assignment_of.ensures) in
-    subst (λ x. IfOk c.assignment_of.result (λ w. code_view w ≡ x)) (ap (assigned_code m s ls a.next n.position (view n.target.value) (view n.value.value)) object ∙ sym (ap (into m s ls k a.next) v ∙ assignment-row m s ls k a.next n.position (view n.target.value) (view n.value.value))) written
+    let r = placed_view c.in_ok-index-in-Assign.index in
+    let spot : r ≡ index_place m s ls c.is_plain-value_plain.result c.in_ok-owner-in-Assign.owner.next (view n.target.value) = subst (λ (x : Tree). r ≡ index_place m s ls c.is_plain-value_plain.result c.in_ok-owner-in-Assign.owner.next (view x)) c.deref-in-Assign-3.ensures c.in_ok-index-in-Assign.ensures in
+    let written : IfOk c.assignment_of.result (λ w. code_view w ≡ assigned_code m s ls a.next n.position (view n.target.value) (view n.value.value) o r) = subst (λ (x : Tree). IfOk c.assignment_of.result (λ w. code_view w ≡ assigned_code m s ls a.next n.position (view x) (view n.value.value) o r)) c.deref-in-Assign-5.ensures (subst (λ (x : Tree). IfOk c.assignment_of.result (λ w. code_view w ≡ assigned_code m s ls a.next n.position (view c.deref-in-Assign-5.result.now) (view x) o r)) c.deref-in-Assign-4.ensures c.assignment_of.ensures) in
+    subst (λ x. IfOk c.assignment_of.result (λ w. code_view w ≡ x)) (sym (ap (into m s ls k a.next) v ∙ assignment-joins m s ls k a.next n.position o r (view n.target.value) (view n.value.value) c.is_plain-value_plain.result plain place spot)) written
 
 pub owner_of-returns-in-Select : goal.owner_of-returns-in-Select
 owner_of-returns-in-Select t c =
@@ -359,6 +444,27 @@ owner_of-returns-in-Select t c =
     let there : view a.target.now ≡ select r.field-0 (view r.object.value) r.field-2 r.field-3 r.field-4 = ap view (r.is ∙ sym (rolls-Select r.field-0 r.object r.field-2 r.field-3 r.field-4)) ∙ fold-roll-Tree Term Case view_step case_step (Tree-F.Select r.field-0 r.object r.field-2 r.field-3 r.field-4) in
     subst (λ x. IfOk c.receiver_of.result (λ p. placed_view p ≡ x)) (ap (λ (x : Tree). comes_received m s ls a.rest_is_plain a.next (view x)) c.deref.ensures ∙ sym (ap (owner_place m s ls a.rest_is_plain a.next) there)) c.receiver_of.ensures
 
+pub owner_of-returns-in-ArraySelect : goal.owner_of-returns-in-ArraySelect
+owner_of-returns-in-ArraySelect t c =
+    let r = c.in-ArraySelect in
+    let a = c.args in
+    let m = is_among a.locals.now.mutable.now in
+    let s = is_among a.locals.now.sure.now in
+    let ls = map target_view a.targets.now in
+    let there : view a.target.now ≡ array_select r.field-0 (view r.array.value) (view r.index.value) r.field-3 = ap view (r.is ∙ sym (rolls-ArraySelect r.field-0 r.array r.index r.field-3)) ∙ fold-roll-Tree Term Case view_step case_step (Tree-F.ArraySelect r.field-0 r.array r.index r.field-3) in
+    let rest : c.are_both-rest.result ≡ (is_plain (view r.index.value) && a.rest_is_plain) = c.are_both-rest.ensures ∙ ap (λ b. b && a.rest_is_plain) (subst (λ (x : Tree). c.is_plain-index_plain.result ≡ is_plain (view x)) c.deref-in-ArraySelect.ensures c.is_plain-index_plain.ensures) in
+    subst (λ x. IfOk c.receiver_of-in-ArraySelect.result (λ p. placed_view p ≡ x)) ((λ i. comes_received m s ls (rest i) a.next (view (c.deref-in-ArraySelect-2.ensures i))) ∙ sym (ap (owner_place m s ls a.rest_is_plain a.next) there)) c.receiver_of-in-ArraySelect.ensures
+
+pub index_of-returns-in-ArraySelect : goal.index_of-returns-in-ArraySelect
+index_of-returns-in-ArraySelect t c =
+    let r = c.in-ArraySelect in
+    let a = c.args in
+    let m = is_among a.locals.now.mutable.now in
+    let s = is_among a.locals.now.sure.now in
+    let ls = map target_view a.targets.now in
+    let there : view a.target.now ≡ array_select r.field-0 (view r.field-1.value) (view r.index.value) r.field-3 = ap view (r.is ∙ sym (rolls-ArraySelect r.field-0 r.field-1 r.index r.field-3)) ∙ fold-roll-Tree Term Case view_step case_step (Tree-F.ArraySelect r.field-0 r.field-1 r.index r.field-3) in
+    subst (λ x. IfOk c.operand_of.result (λ p. placed_view p ≡ x)) (ap (λ (x : Tree). comes_to m s ls a.rest_is_plain a.next (view x)) c.deref.ensures ∙ sym (ap (index_place m s ls a.rest_is_plain a.next) there)) c.operand_of.ensures
+
 pub assignment_of-returns-in_ok-new_value-in-VarRef : goal.assignment_of-returns-in_ok-new_value-in-VarRef
 assignment_of-returns-in_ok-new_value-in-VarRef t c =
     let r = c.in-VarRef in
@@ -368,7 +474,7 @@ assignment_of-returns-in_ok-new_value-in-VarRef t c =
     let ls = map target_view a.targets.now in
     let e = view a.value.now in
     let there : view a.target.now ≡ var_ref r.field-0 r.name r.tpe = ap view (r.is ∙ sym (rolls-VarRef r.field-0 r.name r.tpe)) ∙ fold-roll-Tree Term Case view_step case_step (Tree-F.VarRef r.field-0 r.name r.tpe) in
-    subst (λ x. IfOk c.assigned.result (λ w. code_view w ≡ x)) ((λ i. behind (c.in_ok-new_value-in-VarRef.ensures i) (λ g. one (assign_to (Some a.position) (named r.name) (coerced r.tpe (type_of_term e) g)))) ∙ sym (ap (λ x. assigned_code m s ls a.next a.position x e (placed_view a.owner)) there)) c.assigned.ensures
+    subst (λ x. IfOk c.assigned.result (λ w. code_view w ≡ x)) ((λ i. behind (c.in_ok-new_value-in-VarRef.ensures i) (λ g. one (assign_to (Some a.position) (named r.name) (coerced r.tpe (type_of_term e) g)))) ∙ sym (ap (λ x. assigned_code m s ls a.next a.position x e (placed_view a.owner) (placed_view a.index)) there)) c.assigned.ensures
 
 pub assignment_of-returns-in_ok-new_value-in-Select : goal.assignment_of-returns-in_ok-new_value-in-Select
 assignment_of-returns-in_ok-new_value-in-Select t c =
@@ -379,7 +485,7 @@ assignment_of-returns-in_ok-new_value-in-Select t c =
     let ls = map target_view a.targets.now in
     let e = view a.value.now in
     let there : view a.target.now ≡ select r.field-0 (view r.field-1.value) r.class r.name r.tpe = ap view (r.is ∙ sym (rolls-Select r.field-0 r.field-1 r.class r.name r.tpe)) ∙ fold-roll-Tree Term Case view_step case_step (Tree-F.Select r.field-0 r.field-1 r.class r.name r.tpe) in
-    subst (λ x. IfOk c.field_set.result (λ w. code_view w ≡ x)) ((λ i. behind (placed_view a.owner) (λ g x. behind (c.in_ok-new_value-in-Select.ensures i) (λ h. one (core.assign_field (Some a.position) g r.class r.name (coerced r.tpe (type_of_term e) h))))) ∙ sym (ap (λ x. assigned_code m s ls a.next a.position x e (placed_view a.owner)) there)) c.field_set.ensures
+    subst (λ x. IfOk c.field_set.result (λ w. code_view w ≡ x)) ((λ i. behind (placed_view a.owner) (λ g x. behind (c.in_ok-new_value-in-Select.ensures i) (λ h. one (core.assign_field (Some a.position) g r.class r.name (coerced r.tpe (type_of_term e) h))))) ∙ sym (ap (λ x. assigned_code m s ls a.next a.position x e (placed_view a.owner) (placed_view a.index)) there)) c.field_set.ensures
 
 pub assignment_of-returns-in_ok-new_value-in-SelectStatic : goal.assignment_of-returns-in_ok-new_value-in-SelectStatic
 assignment_of-returns-in_ok-new_value-in-SelectStatic t c =
@@ -390,4 +496,15 @@ assignment_of-returns-in_ok-new_value-in-SelectStatic t c =
     let ls = map target_view a.targets.now in
     let e = view a.value.now in
     let there : view a.target.now ≡ select_static r.field-0 r.class r.name r.tpe = ap view (r.is ∙ sym (rolls-SelectStatic r.field-0 r.class r.name r.tpe)) ∙ fold-roll-Tree Term Case view_step case_step (Tree-F.SelectStatic r.field-0 r.class r.name r.tpe) in
-    subst (λ x. IfOk c.static_set.result (λ w. code_view w ≡ x)) ((λ i. behind (c.in_ok-new_value-in-SelectStatic.ensures i) (λ g. one (core.assign_static (Some a.position) r.class r.name (coerced r.tpe (type_of_term e) g)))) ∙ sym (ap (λ x. assigned_code m s ls a.next a.position x e (placed_view a.owner)) there)) c.static_set.ensures
+    subst (λ x. IfOk c.static_set.result (λ w. code_view w ≡ x)) ((λ i. behind (c.in_ok-new_value-in-SelectStatic.ensures i) (λ g. one (core.assign_static (Some a.position) r.class r.name (coerced r.tpe (type_of_term e) g)))) ∙ sym (ap (λ x. assigned_code m s ls a.next a.position x e (placed_view a.owner) (placed_view a.index)) there)) c.static_set.ensures
+
+pub assignment_of-returns-in_ok-new_value-in-ArraySelect : goal.assignment_of-returns-in_ok-new_value-in-ArraySelect
+assignment_of-returns-in_ok-new_value-in-ArraySelect t c =
+    let r = c.in-ArraySelect in
+    let a = c.args in
+    let m = is_among a.locals.now.mutable.now in
+    let s = is_among a.locals.now.sure.now in
+    let ls = map target_view a.targets.now in
+    let e = view a.value.now in
+    let there : view a.target.now ≡ array_select r.field-0 (view r.field-1.value) (view r.field-2.value) r.tpe = ap view (r.is ∙ sym (rolls-ArraySelect r.field-0 r.field-1 r.field-2 r.tpe)) ∙ fold-roll-Tree Term Case view_step case_step (Tree-F.ArraySelect r.field-0 r.field-1 r.field-2 r.tpe) in
+    subst (λ x. IfOk c.element_set.result (λ w. code_view w ≡ x)) ((λ i. behind (placed_view a.owner) (λ g n. behind (placed_view a.index) (λ h x. behind (c.in_ok-new_value-in-ArraySelect.ensures i) (λ v. one (core.assign_element (Some a.position) r.tpe g h (coerced r.tpe (type_of_term e) v)))))) ∙ sym (ap (λ x. assigned_code m s ls a.next a.position x e (placed_view a.owner) (placed_view a.index)) there)) c.element_set.ensures

@@ -1,12 +1,13 @@
-use Rattle.std.proofs.Common.{◌≡◌, ◌∙◌, ◌++◌, ap, sym, refl}
-use Rattle.sj_core.specs.Terms.{Expression, choice_of, receiver_call, binary_of}
+use Rattle.std.proofs.Common.{◌≡◌, ◌∙◌, [], ◌∷◌, ◌++◌, codes, ap, sym, refl}
+use Rattle.sj_core.specs.Terms.{Expression, choice_of, receiver_call, test_of, cast_of, element_of, binary_of}
 use Rattle.sj_core.specs.Views.{expression_view, expressions_view, expression_step}
 use Rattle.sj_core.specs.declared.expressions.CoreExpression.TheFolds.{fold-roll-CoreExpression}
 use Rattle.sj_core.specs.declared.expressions.CoreExpression.TheOpen.{CoreExpression-F}
-use Rattle.sj_core.specs.declared.expressions.CoreExpression.TheVariants.{rolls-Choice, rolls-ReceiverCall, rolls-Binary}
-use Rattle.sj_emit_expr.specs.Uses.{uses_in, uses_in_all, call_uses, helper_of}
+use Rattle.sj_core.specs.declared.expressions.CoreExpression.TheVariants.{rolls-Choice, rolls-ReceiverCall, rolls-Test, rolls-Cast, rolls-Element, rolls-Binary}
+use Rattle.sj_emit_expr.specs.Uses.{object_binding, uses_in, uses_in_all, call_uses, helper_of, test_uses, cast_uses, type_uses}
 use Rattle.sj_emitter.proofs.Collected.{more-uses}
 use Rattle.sj_emitter.proofs.uses.+expression_uses.Goals as goal
+use Rattle.sj_emitter.specs.Collecting.{with_use}
 use Rattle.sj_emitter.specs.Known.{lookup_of}
 
 pub add_uses_in-returns-in_ok-add_uses_in-in-Choice-2 : goal.add_uses_in-returns-in_ok-add_uses_in-in-Choice-2
@@ -38,3 +39,35 @@ add_uses_in-returns-in_ok-add_uses_in-in-ReceiverCall t c =
     let third = uses_in_all (lookup_of c.args.known.now) (expressions_view c.deref-in-ReceiverCall-2.result.now) in
     let parts : first ++ second ++ third ≡ uses_in (lookup_of c.args.known.now) (expression_view c.args.expression.now) = rw (v, c.deref-in-ReceiverCall.ensures, c.deref-in-ReceiverCall-2.ensures.value) refl in
     rw (← more-uses _ _ (first ++ second) third _ (c.in_ok-add_uses_in-in-ReceiverCall.ensures ∙ more-uses _ _ first second (first ++ second) c.in_ok-add_call-in-ReceiverCall.ensures refl) parts) c.add_all_uses_in-in-ReceiverCall.ensures
+
+pub add_uses_in-returns-in_ok-add_uses_in-in-Test : goal.add_uses_in-returns-in_ok-add_uses_in-in-Test
+add_uses_in-returns-in_ok-add_uses_in-in-Test t c =
+    let n = c.in-Test in
+    let v : expression_view c.args.expression.now ≡ test_of n.tpe (expression_view n.operand.value) = ap expression_view (n.is ∙ sym (rolls-Test n.tpe n.operand)) ∙ fold-roll-CoreExpression Expression expression_step (CoreExpression-F.Test n.tpe n.operand) in
+    let first = test_uses n.tpe in
+    let second = uses_in (lookup_of c.args.known.now) (expression_view c.deref-in-Test.result.now) in
+    let third = type_uses n.tpe in
+    let parts : first ++ second ++ third ≡ uses_in (lookup_of c.args.known.now) (expression_view c.args.expression.now) = rw (v, c.deref-in-Test.ensures) refl in
+    rw (← more-uses _ _ (first ++ second) third _ (c.in_ok-add_uses_in-in-Test.ensures ∙ more-uses _ _ first second (first ++ second) c.in_ok-add_test-in-Test.ensures refl) parts) c.add_type.ensures
+
+pub add_uses_in-returns-in_ok-add_uses_in-in-Cast : goal.add_uses_in-returns-in_ok-add_uses_in-in-Cast
+add_uses_in-returns-in_ok-add_uses_in-in-Cast t c =
+    let n = c.in-Cast in
+    let v : expression_view c.args.expression.now ≡ cast_of n.tpe (expression_view n.operand.value) = ap expression_view (n.is ∙ sym (rolls-Cast n.tpe n.operand)) ∙ fold-roll-CoreExpression Expression expression_step (CoreExpression-F.Cast n.tpe n.operand) in
+    let first = cast_uses n.tpe in
+    let second = uses_in (lookup_of c.args.known.now) (expression_view c.deref-in-Cast.result.now) in
+    let third = type_uses n.tpe in
+    let parts : first ++ second ++ third ≡ uses_in (lookup_of c.args.known.now) (expression_view c.args.expression.now) = rw (v, c.deref-in-Cast.ensures) refl in
+    rw (← more-uses _ _ (first ++ second) third _ (c.in_ok-add_uses_in-in-Cast.ensures ∙ more-uses _ _ first second (first ++ second) c.in_ok-add_cast-in-Cast.ensures refl) parts) c.add_type-in-Cast.ensures
+
+pub add_uses_in-returns-in_ok-add_uses_in-in-Element : goal.add_uses_in-returns-in_ok-add_uses_in-in-Element
+add_uses_in-returns-in_ok-add_uses_in-in-Element t c =
+    let n = c.in-Element in
+    let v : expression_view c.args.expression.now ≡ element_of (expression_view n.array.value) (expression_view n.index.value) = ap expression_view (n.is ∙ sym (rolls-Element n.array n.index)) ∙ fold-roll-CoreExpression Expression expression_step (CoreExpression-F.Element n.array n.index) in
+    let first = object_binding (codes "$get") ∷ [] in
+    let second = uses_in (lookup_of c.args.known.now) (expression_view c.deref-in-Element.result.now) in
+    let third = uses_in (lookup_of c.args.known.now) (expression_view c.deref-in-Element-2.result.now) in
+    let parts : first ++ second ++ third ≡ uses_in (lookup_of c.args.known.now) (expression_view c.args.expression.now) = rw (v, c.deref-in-Element.ensures, c.deref-in-Element-2.ensures) refl in
+    let added : c.add-in-Element.new.bindings.items ≡ with_use c.args.bindings.now.items (object_binding (codes "$get")) = c.in_ok-add-in-Element.ensures ∙ ap (with_use c.args.bindings.now.items) c.in_ok-object_binding-in-Element.ensures in
+    let b = c.args.bindings.now.items in
+    rw (← more-uses b c.add_uses_in-in-Element.new.bindings.items (first ++ second) third (uses_in (lookup_of c.args.known.now) (expression_view c.args.expression.now)) (c.in_ok-add_uses_in-in-Element.ensures ∙ more-uses b c.add-in-Element.new.bindings.items first second (first ++ second) added refl) parts) c.add_uses_in-in-Element-2.ensures

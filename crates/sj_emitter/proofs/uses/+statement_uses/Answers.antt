@@ -1,12 +1,14 @@
-use Rattle.std.proofs.Common.{◌≡◌, ◌∙◌, ◌++◌, ap, sym, refl}
-use Rattle.sj_core.specs.Terms.{Statement, assign_field, if_of, while_of, switch_of, try_of, finally_of}
+use Rattle.std.proofs.Common.{◌≡◌, ◌∙◌, [], ◌∷◌, ◌++◌, ap, sym, refl}
+use Rattle.sj_core.specs.Terms.{Statement, assign_field, assign_element, if_of, while_of, switch_of, try_of, finally_of}
 use Rattle.sj_core.specs.Views.{variable_view, expression_view, statement_view, statements_view, cases_view, statement_step, case_step, Case}
 use Rattle.sj_core.specs.declared.statements.CoreStatement.TheFolds.{fold-roll-CoreStatement}
 use Rattle.sj_core.specs.declared.statements.CoreStatement.TheOpen.{CoreStatement-F}
-use Rattle.sj_core.specs.declared.statements.CoreStatement.TheVariants.{rolls-AssignField, rolls-If, rolls-While, rolls-Switch, rolls-Try, rolls-Finally}
-use Rattle.sj_emit_expr.specs.Uses.{uses_in, uses_of, uses_of_all, uses_of_cases}
+use Rattle.sj_core.specs.declared.statements.CoreStatement.TheVariants.{rolls-AssignField, rolls-AssignElement, rolls-If, rolls-While, rolls-Switch, rolls-Try, rolls-Finally}
+use Rattle.sj_emit_expr.specs.Templates.{element_setter}
+use Rattle.sj_emit_expr.specs.Uses.{object_binding, uses_in, uses_of, uses_of_all, uses_of_cases}
 use Rattle.sj_emitter.proofs.Collected.{more-uses, case-step}
 use Rattle.sj_emitter.proofs.uses.+statement_uses.Goals as goal
+use Rattle.sj_emitter.specs.Collecting.{with_use, with_uses}
 use Rattle.sj_emitter.specs.Known.{lookup_of}
 
 pub add_uses_of-returns-in_ok-add_uses_of_all-in-If : goal.add_uses_of-returns-in_ok-add_uses_of_all-in-If
@@ -67,3 +69,17 @@ add_uses_of-returns-in_ok-add_uses_of_all-in-Finally t c =
     let second = uses_of_all (lookup_of c.args.known.now) (statements_view c.deref-in-Finally-2.result.now) in
     let parts : first ++ second ≡ uses_of (lookup_of c.args.known.now) (statement_view c.args.statement.now) = rw (v, c.deref-in-Finally.ensures.value, c.deref-in-Finally-2.ensures.value) refl in
     rw (← more-uses _ _ first second _ c.in_ok-add_uses_of_all-in-Finally.ensures parts) c.add_uses_of_all-in-Finally-2.ensures
+
+pub add_uses_of-returns-in_ok-add_uses_in-in-AssignElement-2 : goal.add_uses_of-returns-in_ok-add_uses_in-in-AssignElement-2
+add_uses_of-returns-in_ok-add_uses_in-in-AssignElement-2 t c =
+    let n = c.in-AssignElement in
+    let v : statement_view c.args.statement.now ≡ assign_element n.position n.tpe (expression_view n.array) (expression_view n.index) (expression_view n.value) = ap statement_view (n.is ∙ sym (rolls-AssignElement n.position n.tpe n.array n.index n.value)) ∙ fold-roll-CoreStatement Statement Case statement_step case_step (CoreStatement-F.AssignElement n.position n.tpe n.array n.index n.value) in
+    let setter = object_binding (element_setter n.tpe) ∷ [] in
+    let first = uses_in (lookup_of c.args.known.now) (expression_view n.array) in
+    let second = uses_in (lookup_of c.args.known.now) (expression_view n.index) in
+    let third = uses_in (lookup_of c.args.known.now) (expression_view n.value) in
+    let parts : setter ++ first ++ second ++ third ≡ uses_of (lookup_of c.args.known.now) (statement_view c.args.statement.now) = rw v refl in
+    let added : c.add-in-AssignElement.new.bindings.items ≡ with_use c.args.bindings.now.items (object_binding (element_setter n.tpe)) = c.in_ok-add-in-AssignElement.ensures ∙ ap (with_use c.args.bindings.now.items) (c.in_ok-helper_binding-in-AssignElement.ensures ∙ ap object_binding c.in_ok-element_setter-in-AssignElement.ensures) in
+    let b = c.args.bindings.now.items in
+    let before : c.add_uses_in-in-AssignElement.new.bindings.items ≡ with_uses b (setter ++ first) = c.in_ok-add_uses_in-in-AssignElement.ensures ∙ more-uses b c.add-in-AssignElement.new.bindings.items setter first (setter ++ first) added refl in
+    rw (← more-uses b c.add_uses_in-in-AssignElement-2.new.bindings.items (setter ++ first ++ second) third (uses_of (lookup_of c.args.known.now) (statement_view c.args.statement.now)) (c.in_ok-add_uses_in-in-AssignElement-2.ensures ∙ more-uses b c.add_uses_in-in-AssignElement.new.bindings.items (setter ++ first) second (setter ++ first ++ second) before refl) parts) c.add_uses_in-in-AssignElement-3.ensures
