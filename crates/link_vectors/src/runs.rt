@@ -6,7 +6,7 @@ use sjslink::run;
 use std::alloc::Global;
 
 /// Whether the run of the case has the status and prints the lines that are wanted, and puts the files.
-pub fn is_met(alloc: Global, case: Case, wanted: &str) -> Result<bool> {
+pub(crate) fn is_met(alloc: Global, case: Case, wanted: &str) -> Result<bool> {
     let Case {
         words,
         mut open,
