@@ -132,10 +132,6 @@ namespace_found w c n m d e = go (class_of w c) e
     go None k = impossible (cc)
     go (Some k) f = namespace_among k.methods n m d f
 
-or_left : (a b : Bool) → a ≡ true → (a || b) ≡ true
-or_left true b h = refl
-or_left false b h = impossible h
-
 -- the reference of a type of arrays
 the_array : (t : IrType) → IsArray t → (q : ArrayRef) × (t ≡ Array q)
 the_array (Array r) h = (r, refl)
@@ -1238,9 +1234,9 @@ module _ (w : World) (law : IsSubtyping (IsSub w)) (has : Usable) where
         more : Adds at after_it
         more = adds_one at (Array r) (ir.array r items) made st i.heap typed
 
-    new_array_right : (r : ArrayRef) → has.helper (codes "$mk") ≡ true → (at : Classes) (s : Scene) (v : ir.Value) (env : ir.Env) (st : ir.State) → IsNumber v → Ready at (frame_of s) s.locals env st → Right at s (Array r) (ir_meaning.new_items w low r (v ∷ []) env st)
-    new_array_right r mk at s _ env st (a_number (pos n)) i = made_right r (replicate n (zero_of (element_type r))) (laws.arrays (or_left (has.helper (codes "$mk")) (has.helper (codes "$A")) mk)) at s env st (replicate-each (λ (v : ir.Value). HasType (IsSub w) law at v (element_type r)) n (zero_of (element_type r)) (zero_type at (element_type r) (element-value r))) i
-    new_array_right r mk at s _ env st (a_number (negsuc n)) i = raised negative_size _ (laws.sizes mk) s (Array r) at env st i
+    new_array_right : (r : ArrayRef) → has.arrays ≡ true → has.helper (codes "$mk") ≡ true → (at : Classes) (s : Scene) (v : ir.Value) (env : ir.Env) (st : ir.State) → IsNumber v → Ready at (frame_of s) s.locals env st → Right at s (Array r) (ir_meaning.new_items w low r (v ∷ []) env st)
+    new_array_right r some mk at s _ env st (a_number (pos n)) i = made_right r (replicate n (zero_of (element_type r))) (laws.arrays some) at s env st (replicate-each (λ (v : ir.Value). HasType (IsSub w) law at v (element_type r)) n (zero_of (element_type r)) (zero_type at (element_type r) (element-value r))) i
+    new_array_right r some mk at s _ env st (a_number (negsuc n)) i = raised negative_size _ (laws.sizes mk) s (Array r) at env st i
 
     -- the length of an array
     length_right : (at : Classes) (s : Scene) (q : ArrayRef) (v : ir.Value) (env : ir.Env) (st : ir.State) → IsArrayOf (IsSub w) law at q v → Ready at (frame_of s) s.locals env st → Right at s Int (ir_meaning.array_length_of (v ∷ []) env st)
@@ -1332,8 +1328,8 @@ module _ (w : World) (law : IsSubtyping (IsSub w)) (has : Usable) where
           (λ l b2 c env st g2 i. go_on_right l s s.locals (type_of_term e) s.locals NoType (step e env st) (λ y. ir_meaning.in_order [] (λ vs. ir_meaning.assign_item w low (a ∷ c ∷ y ∷ vs)))
           (tree_right e s v h.4 (λ y o. fresh y (inr (inr o))) parts.1 l env st i)
           (λ m b3 y env st g3 i. put_right m s own.reference t a c y env st its.0 deep.0 (as_array (IsSub w) law m own.reference a (type-lift (IsSub w) law k m (adds-trans k l m b2 b3) a (Array own.reference) (array_of k a (type_of_term d) own.reference own.is g)) n) own.element (as_int (IsSub w) law m c (type-lift (IsSub w) law l m b3 c Int (operand-type l c (type_of_term x) Int g2 h.1.1 int_not))) (operand-type m y (type_of_term e) t g3 h.0.meets.1 (value-not t (subst HasValue own.element (element-value own.reference)))) i))))
-      tree_right (new_array p r e) = λ s v h fresh u at env st i. operand_right e at s (Array r) Int (ir_meaning.new_items w low r) env st (tree_right e s v h.1 fresh u at env st i) h.0.meets int_not (λ y b q env st k i. new_array_right r (and_parts (has.helper (codes "$mk")) (has_base has r.base) h.0.built).0 y s q env st (as_int (IsSub w) law y q k) i)
-      tree_right (array_value p r ts) = λ s v h fresh u at env st i. items_right ts (element_type r) s (Array r) v h.0.meets (value-not (element_type r) (element-value r)) h.1 fresh u at (ir_meaning.made_array r) env st i (λ y b vs env st k i. made_right r vs (laws.arrays (or_right (has.helper (codes "$mk")) (has.helper (codes "$A")) (and_parts (has.helper (codes "$A")) (has_base has r.base && are_countable ts) h.0.built).0)) y s env st k i)
+      tree_right (new_array p r e) = λ s v h fresh u at env st i. operand_right e at s (Array r) Int (ir_meaning.new_items w low r) env st (tree_right e s v h.1 fresh u at env st i) h.0.meets int_not (λ y b q env st k i. (let q = and_parts has.arrays (has.helper (codes "$mk") && has_base has r.base) h.0.built in new_array_right r q.0 (and_parts (has.helper (codes "$mk")) (has_base has r.base) q.1).0) y s q env st (as_int (IsSub w) law y q k) i)
+      tree_right (array_value p r ts) = λ s v h fresh u at env st i. items_right ts (element_type r) s (Array r) v h.0.meets (value-not (element_type r) (element-value r)) h.1 fresh u at (ir_meaning.made_array r) env st i (λ y b vs env st k i. made_right r vs (laws.arrays (and_parts has.arrays (has.helper (codes "$A") && (has_base has r.base && are_countable ts)) h.0.built).0) y s env st k i)
       tree_right (array_length p e) = λ s v h fresh u at env st i. let q = the_array (type_of_term e) h.0.meets in go_on_both at s s.locals (type_of_term e) s.locals Int Full (ir_meaning.receiving w (is_sure env.sure e) low (step e) env st) (λ a. ir_meaning.in_order [] (λ vs. ir_meaning.array_length_of (a ∷ vs))) (receiver_right e s h.1 (check_there e s h.0.built) at env st i (tree_right e s v h.1 fresh u at env st i)) (λ y b a env st g n i. length_right y s q.0 a env st (as_array (IsSub w) law y q.0 a (array_of y a (type_of_term e) q.0 q.1 g) n) i)
       tree_right (array_select p e d t) = λ s v h fresh u at env st i.
           (let its = and_parts (has.helper (codes "$get")) (may_check has s.sure e) h.0.built in

@@ -1,5 +1,5 @@
 -- What a world has of the members, classes and fields that bodies use on objects.
-use Rattle.std.specs.Prelude.{◌≡◌, ℕ, Bool, true, false, ◌||◌, List, Option, Some, None, codes}
+use Rattle.std.specs.Prelude.{◌≡◌, ℕ, true, false, List, Option, Some, None, codes}
 use Rattle.std.specs.List.{list_any}
 use Rattle.sj_proper.specs.Locals.{HasValue}
 use Rattle.body_soundness.specs.Rules.{RightMember}
@@ -68,10 +68,6 @@ negative_size = codes "java.lang.NegativeArraySizeException"
 abbrev pub CanRaise : Usable → List ℕ → Type 0
 CanRaise has c = (has.made c ≡ true) × (has.built (member c Constructor with_message) ≡ true)
 
--- arrays can be made
-abbrev pub makes_arrays : Usable → Bool
-makes_arrays has = has.helper (codes "$mk") || has.helper (codes "$A")
-
 -- Members that run on an object and constructors keep the rules, and what a call of a member runs is its target; a method that can be looked up on the objects of a class has a
 -- target in each class below it, one that can be called on arrays in the class of all objects, where that is made, and a reflective name by which receivers can be called an answer in each class; no class
 -- that is made is hijacked. A field that can be read has one type, with values, and is an instance field of its class, which stands on the chain of
@@ -98,7 +94,7 @@ pub record ObjectLaws (w : World) (has : Usable) : Type 0 where
   pub exceptions : has.helper check_name ≡ true → CanRaise has null_pointer
   pub divisions : (o : BinaryOp) → divides has o ≡ true → CanRaise has arithmetic
   pub casts : (t : IrType) → has.casts t ≡ true → CanRaise has class_cast
-  pub arrays : makes_arrays has ≡ true → has.made object ≡ true
+  pub arrays : has.arrays ≡ true → has.made object ≡ true
   pub sizes : has.helper (codes "$mk") ≡ true → CanRaise has negative_size
   pub reads : has.helper (codes "$get") ≡ true → CanRaise has out_of_bounds
   pub writes : (t : IrType) → can_put has t ≡ true → CanRaise has out_of_bounds

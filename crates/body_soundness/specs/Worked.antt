@@ -89,6 +89,7 @@ object_use = record {
   tests = λ t. false;
   casts = λ t. false;
   bases = λ c. false;
+  arrays = false;
   on_arrays = λ m. false;
   helper = λ x. false;
   objects = true;
@@ -107,7 +108,7 @@ counting_method = static_method (codes "main") counts
 abbrev pub array_world : World
 array_world = object_with (counting_method ∷ []) ∷ []
 
--- what its body can use: the helper that gives items, and so objects of the class of all
+-- what its body can use: arrays, the helper that gives items, and so objects of the class of all
 abbrev pub array_use : Usable
 array_use = record {
   linked = is_member main_member;
@@ -127,6 +128,7 @@ array_use = record {
   tests = λ t. false;
   casts = λ t. false;
   bases = λ c. false;
+  arrays = true;
   on_arrays = λ m. false;
   helper = is_same_text (codes "$A");
   objects = true;

@@ -2,7 +2,7 @@
 use Rattle.std.specs.Prelude.{◌≡◌, true, false, Some, codes}
 use Rattle.std.specs.List.{Contains}
 use Rattle.sj_proper.specs.Locals.{HasValue}
-use Rattle.body_soundness.specs.Laws.{IsClassBelow, Answers, AnswersByName, null_pointer, arithmetic, class_cast, out_of_bounds, array_store, negative_size, CanRaise, makes_arrays}
+use Rattle.body_soundness.specs.Laws.{IsClassBelow, Answers, AnswersByName, null_pointer, arithmetic, class_cast, out_of_bounds, array_store, negative_size, CanRaise}
 use Rattle.body_soundness.specs.Rules.{RightMember}
 use Rattle.sj_proper.specs.Built.{Usable, has_static, divides, can_put}
 use Rattle.dispatch_laws.specs.Targets.{IsTargetOf}
@@ -64,7 +64,7 @@ pub record ObjectWorld (w : Classes) (has : Usable) : Type 0 where
   pub exceptions : has.helper check_name ≡ true → CanRaise has null_pointer
   pub divisions : (o : BinaryOp) → divides has o ≡ true → CanRaise has arithmetic
   pub casts : (t : IrType) → has.casts t ≡ true → CanRaise has class_cast
-  pub arrays : makes_arrays has ≡ true → has.made object ≡ true
+  pub arrays : has.arrays ≡ true → has.made object ≡ true
   pub sizes : has.helper (codes "$mk") ≡ true → CanRaise has negative_size
   pub reads : has.helper (codes "$get") ≡ true → CanRaise has out_of_bounds
   pub writes : (t : IrType) → can_put has t ≡ true → CanRaise has out_of_bounds

@@ -91,8 +91,8 @@ module _ (has : Usable) (used : List Binding) where
   gives (select_static p c f t) g = (λ h u. g.0 u, λ h u. g.1 u)
   gives (load_module p c) g = λ h u. g u
   gives (store_module p c e) g = λ h u. g u
-  gives (new_array p r e) g = g
-  gives (array_value p r ts) g = g
+  gives (new_array p r e) g = (λ h u. g.0 u, g.1)
+  gives (array_value p r ts) g = (λ h u. g.0 u, g.1)
   gives (is_instance_of p e t) g = g
   gives (as_instance_of p e t) g = g
   gives (binary_op p o e d) g = λ h. g

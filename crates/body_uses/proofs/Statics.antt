@@ -54,8 +54,8 @@ module _ (U : Binding → Type 0) (runs : Lookup) (linked_from linked_here : Mem
   gives (select_static p c f t) = (λ h u. impossible h, λ h u. impossible h)
   gives (load_module p c) = λ h u. impossible h
   gives (store_module p c e) = λ h u. impossible h
-  gives (new_array p r e) = λ h u. base_kept r.base h
-  gives (array_value p r ts) = λ h u. base_kept r.base h
+  gives (new_array p r e) = (λ h u. impossible h, λ h u. base_kept r.base h)
+  gives (array_value p r ts) = (λ h u. impossible h, λ h u. base_kept r.base h)
   gives (is_instance_of p e t) = (λ h u. impossible h, λ h u. type_kept t h)
   gives (as_instance_of p e t) = (λ h u. impossible h, λ h u. type_kept t h)
   gives (binary_op p o e d) = λ h. no_division from (λ x. refl) o h

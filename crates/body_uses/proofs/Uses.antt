@@ -29,6 +29,7 @@ use Rattle.sj_names.proofs.Same.{impossible, text-same}
 use Rattle.sj_names.specs.Same.{is_same_text}
 use Rattle.sj_names.specs.declared.method_names.Member.{Member}
 use Rattle.sj_names.specs.declared.references.ArrayRef.{ArrayRef}
+use Rattle.sj_names.specs.declared.references.BaseRef.{BaseRef}
 use Rattle.sj_names.specs.declared.references.TypeRef.{TypeRef}
 use Rattle.object_folders.specs.Typing.{may_check}
 use Rattle.object_folders.specs.Built.{Usable, is_nonzero_int, is_nonzero_long, divides, is_operation, has_base, is_based, can_cast, can_put, are_countable, stands, is_built, are_built, are_built_cases, can_call, can_look_up}
@@ -309,6 +310,10 @@ module _ (U : Binding → Type 0) (runs : Lookup) where
     GivesReceived _ c m = Unit {0}
 
     -- what a tree uses that its code names is there
+    -- arrays can be made where the helper that makes them is used, and their base can be named
+    abbrev pub GivesArray : List ℕ → BaseRef → Type 0
+    GivesArray x b = (from.arrays ≡ true → U (object_binding x) → has.arrays ≡ true) × (has_base from b ≡ true → All U (base_uses b) → has_base has b ≡ true)
+
     abbrev pub Gives : Term → Type 0
     Gives (apply_static p c n m ts t) = from.linked (member c n m) ≡ true → U (function_binding (member c n m)) → has.linked (member c n m) ≡ true
     Gives (apply p e m ts t) = ((c : List ℕ) → callee_of (type_of_term e) m ≡ callees.Member (member c Public m) → GivesReceived Public c m) × (((c : List ℕ) → callee_of (type_of_term e) m ≡ callees.LookedUp c m → can_look_up from c m ≡ true → All U (call_uses runs (callees.LookedUp c m)) → can_look_up has c m ≡ true) × ((callee_of (type_of_term e) m ≡ callees.OfArray m → from.on_arrays m ≡ true → has.on_arrays m ≡ true) × (m.result ≡ None → from.reflected m ≡ true → All U (call_uses runs (callees.Reflective m)) → has.reflected m ≡ true)))
@@ -320,8 +325,8 @@ module _ (U : Binding → Type 0) (runs : Lookup) where
     Gives (store_module p c e) = from.stored c ≡ true → U (store_use c) → has.stored c ≡ true
     Gives (is_instance_of p e t) = (from.tests t ≡ true → All U (test_uses t) → has.tests t ≡ true) × (is_based from t ≡ true → All U (type_uses t) → is_based has t ≡ true)
     Gives (as_instance_of p e t) = (from.casts t ≡ true → All U (cast_uses t) → has.casts t ≡ true) × (is_based from t ≡ true → All U (type_uses t) → is_based has t ≡ true)
-    Gives (new_array p r e) = has_base from r.base ≡ true → All U (base_uses r.base) → has_base has r.base ≡ true
-    Gives (array_value p r ts) = has_base from r.base ≡ true → All U (base_uses r.base) → has_base has r.base ≡ true
+    Gives (new_array p r e) = GivesArray (codes "$mk") r.base
+    Gives (array_value p r ts) = GivesArray (codes "$A") r.base
     Gives (binary_op p o e d) = divides from o ≡ true → FitsDivision o d
     Gives _ = Unit {0}
 
@@ -508,19 +513,27 @@ module _ (U : Binding → Type 0) (runs : Lookup) where
     type_inside : (t : IrType) (names inside : List Binding) → All U (names ++ inside ++ type_uses t) → All U inside
     type_inside t names inside u = back names inside (front (names ++ inside) (type_uses t) u)
 
-    -- a helper that makes arrays is there, and so is their base
-    array_there : (x : List ℕ) → Contains body_helpers x → (r : ArrayRef) (inside : List Binding) → (has_base from r.base ≡ true → All U (base_uses r.base) → has_base has r.base ≡ true) → All U (object_binding x ∷ base_uses r.base ++ inside) → (from.helper x && has_base from r.base) ≡ true → (has.helper x && has_base has r.base) ≡ true
-    array_there x i r inside b u k = let q = and_parts (from.helper x) (has_base from r.base) k in and_from (has.helper x) (has_base has r.base) (helpers x i q.0 (All-head U (object_binding x) (base_uses r.base ++ inside) u)) (b q.1 (front (base_uses r.base) inside (All-tail U (object_binding x) (base_uses r.base ++ inside) u)))
+    -- arrays can be made, a helper that makes them is there, and so is their base
+    array_there : (x : List ℕ) → Contains body_helpers x → (r : ArrayRef) (inside : List Binding) → GivesArray from has x r.base → All U (object_binding x ∷ base_uses r.base ++ inside) → (from.arrays && (from.helper x && has_base from r.base)) ≡ true → (has.arrays && (has.helper x && has_base has r.base)) ≡ true
+    array_there x i r inside b u k =
+        let p = and_parts from.arrays (from.helper x && has_base from r.base) k in
+        let q = and_parts (from.helper x) (has_base from r.base) p.1 in
+        let name = All-head U (object_binding x) (base_uses r.base ++ inside) u in
+        let named = front (base_uses r.base) inside (All-tail U (object_binding x) (base_uses r.base ++ inside) u) in
+        and_from has.arrays (has.helper x && has_base has r.base) (b.0 p.0 name) (and_from (has.helper x) (has_base has r.base) (helpers x i q.0 name) (b.1 q.1 named))
 
     array_inside : (x : List ℕ) (r : ArrayRef) (inside : List Binding) → All U (object_binding x ∷ base_uses r.base ++ inside) → All U inside
     array_inside x r inside u = back (base_uses r.base) inside (All-tail U (object_binding x) (base_uses r.base ++ inside) u)
 
-    items_there : (r : ArrayRef) (ts : Terms) (inside : List Binding) → (has_base from r.base ≡ true → All U (base_uses r.base) → has_base has r.base ≡ true) → All U (object_binding (codes "$A") ∷ base_uses r.base ++ inside) → (from.helper (codes "$A") && (has_base from r.base && are_countable ts)) ≡ true → (has.helper (codes "$A") && (has_base has r.base && are_countable ts)) ≡ true
+    items_there : (r : ArrayRef) (ts : Terms) (inside : List Binding) → GivesArray from has (codes "$A") r.base → All U (object_binding (codes "$A") ∷ base_uses r.base ++ inside) → (from.arrays && (from.helper (codes "$A") && (has_base from r.base && are_countable ts))) ≡ true → (has.arrays && (has.helper (codes "$A") && (has_base has r.base && are_countable ts))) ≡ true
     items_there r ts inside b u k =
-        let q = and_parts (from.helper (codes "$A")) (has_base from r.base && are_countable ts) k in
+        let p = and_parts from.arrays (from.helper (codes "$A") && (has_base from r.base && are_countable ts)) k in
+        let q = and_parts (from.helper (codes "$A")) (has_base from r.base && are_countable ts) p.1 in
         let c = and_parts (has_base from r.base) (are_countable ts) q.1 in
-        let there = and_parts (has.helper (codes "$A")) (has_base has r.base) (array_there (codes "$A") (in_helpers (codes "$A") refl) r inside b u (and_from (from.helper (codes "$A")) (has_base from r.base) q.0 c.0)) in
-        and_from (has.helper (codes "$A")) (has_base has r.base && are_countable ts) there.0 (and_from (has_base has r.base) (are_countable ts) there.1 c.1)
+        let was = and_from from.arrays (from.helper (codes "$A") && has_base from r.base) p.0 (and_from (from.helper (codes "$A")) (has_base from r.base) q.0 c.0) in
+        let is = and_parts has.arrays (has.helper (codes "$A") && has_base has r.base) (array_there (codes "$A") (in_helpers (codes "$A") refl) r inside b u was) in
+        let there = and_parts (has.helper (codes "$A")) (has_base has r.base) is.1 in
+        and_from has.arrays (has.helper (codes "$A") && (has_base has r.base && are_countable ts)) is.0 (and_from (has.helper (codes "$A")) (has_base has r.base && are_countable ts) there.0 (and_from (has_base has r.base) (are_countable ts) there.1 c.1))
 
     -- a helper for an item is there, and the array is checked
     item_there : (x : List ℕ) → Contains body_helpers x → (e : Term) → IsChecked e → U (object_binding x) → (from.helper x && checked e) ≡ true → (has.helper x && checks e) ≡ true

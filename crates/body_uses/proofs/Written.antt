@@ -12,37 +12,37 @@ use Rattle.resolution_laws.specs.Laws.{HasAnswer}
 use Rattle.resolution_laws.proofs.WorkedOut.{targets_are_worked_out}
 use Rattle.resolution_laws.specs.DispatchLawsLaws.{found_by}
 use Rattle.object_folders.specs.Targets.{at_owner, target_in, has_hijacked_in}
-use Rattle.std.proofs.Common.{◌≡◌, Bool, true, false, List, [], ◌∷◌, inl, inr, Option, Some, refl, sym, subst, ◌∙◌, Contains, ap, map, None, if◌then◌else◌}
+use Rattle.std.proofs.Common.{◌≡◌, Bool, true, false, List, [], ◌∷◌, inl, inr, Option, Some, refl, sym, subst, ◌∙◌, Contains, ap, map, None, codes, if◌then◌else◌}
 use Rattle.std.specs.Prelude.{not, ◌&&◌, ◌||◌, is_none}
 use Rattle.worklist.proofs.Inserted.{nothing_in}
 use Rattle.std.specs.List.{All, list_any}
 use Rattle.std.proofs.lemmas.Bool.{and_from, or_left}
-use Rattle.std.proofs.lemmas.List.Elements.{All-head, All-tail}
+use Rattle.std.proofs.lemmas.List.Elements.{All-head, All-tail, Contains-append_left, Contains-append_right}
 use Rattle.std.proofs.lemmas.List.Folds.{list_any_at}
 use Rattle.object_folders.specs.Typing.{is_built_with}
-use Rattle.object_folders.specs.Built.{can_look_up, Usable, any_object, has_base, is_based, is_object_body, is_static, is_testable, has_no_value}
+use Rattle.object_folders.specs.Built.{can_look_up, Usable, has_base, is_based, is_object_body, is_static, is_testable, has_no_value}
 use Rattle.object_folders.proofs.EachTyped.{in_all}
 use Rattle.object_folders.proofs.Undenied.{first_or_later}
 use Rattle.helper_rules.specs.Helpers.{helper_name}
 use Rattle.helper_rules.specs.declared.kinds.Helper.{Helper}
-use Rattle.helper_rules.specs.declared.kinds.Helper.TheVariants.{NotNull, IntQuotient, IntRemainder as IntRest, LongQuotient, LongRemainder as LongRest, BoxedChar, Equal, MakeArray, ArrayClass, Get, Set, Put, TestOf, CastTo}
+use Rattle.helper_rules.specs.declared.kinds.Helper.TheVariants.{NotNull, IntQuotient, IntRemainder as IntRest, LongQuotient, LongRemainder as LongRest, BoxedChar, Equal, MakeArray, ArrayClass, Get, Set, Put, TestOf, CastTo, TestOfArray, CastToArray}
 use Rattle.helper_rules.specs.declared.kinds.Kind.{Kind}
 use Rattle.helper_rules.specs.declared.kinds.Kind.TheVariants as kinds
 use Rattle.js_tree.specs.declared.items.Binding.{Binding}
 use Rattle.object_folders.proofs.Derivations.{closed}
 use Rattle.object_folders.specs.Reachable.{Reachable}
-use Rattle.object_folders.specs.Rules.{Reads, of_call, of_new, asked_body, new_made, field_needed, resolved_class, resolved_body, call, call_class, call_hijacked}
+use Rattle.object_folders.specs.Rules.{Reads, of_call, of_new, asked_body, new_made, field_needed, resolved_class, resolved_body, call, call_class, call_hijacked, array_made}
 use Rattle.sj_desugar.specs.Desugar.{member}
 use Rattle.sj_emit_expr.specs.Tests.{test_name, cast_name}
-use Rattle.sj_emit_expr.specs.Uses.{object_binding, function_binding, class_use, static_use, setter_use, load_use, store_use, test_uses, cast_uses, looked_up_uses, is_same_binding}
-use Rattle.sj_infos.specs.Infos.{asks, asked_by_body, asked_in, of_receiver}
+use Rattle.sj_emit_expr.specs.Uses.{object_binding, function_binding, class_use, static_use, setter_use, load_use, store_use, test_uses, cast_uses, base_uses, type_uses, looked_up_uses, is_same_binding}
+use Rattle.sj_infos.specs.Infos.{asks, asked_by_body, asked_in, of_receiver, of_base, of_array as asked_array, negative_size}
 use Rattle.sj_infos.specs.Sure.{sure_among}
-use Rattle.sj_infos.specs.Forms.{form_of, forms_in, of_call as form_call}
+use Rattle.sj_infos.specs.Forms.{form_of, forms_in, of_base as form_base, of_call as form_call}
 use Rattle.sj_infos.specs.Trees.{trees}
 use Rattle.sj_infos.specs.declared.forms.BodyForm.{BodyForm}
-use Rattle.sj_infos.specs.declared.forms.BodyForm.TheVariants.{Test, Cast, Reflective, Load, Store}
+use Rattle.sj_infos.specs.declared.forms.BodyForm.TheVariants.{Test, Cast, Base, Reflective, Load, Store}
 use Rattle.sj_infos.specs.declared.infos.Info.{Info}
-use Rattle.sj_infos.specs.declared.infos.Info.TheVariants.{New, Static, Field, Resolved, Called}
+use Rattle.sj_infos.specs.declared.infos.Info.TheVariants.{New, Static, Field, Resolved, Called, ArrayForm}
 use Rattle.object_folders.proofs.Found.{here}
 use Rattle.sj_names.proofs.Same.{impossible, text-refl}
 use Rattle.sj_names.specs.Same.{is_same_text}
@@ -51,6 +51,7 @@ use Rattle.sj_names.specs.declared.entry_points.EntryPoint.{EntryPoint}
 use Rattle.sj_names.specs.declared.folders.SourceFile.{SourceFile}
 use Rattle.sj_names.specs.declared.method_names.Member.{Member}
 use Rattle.sj_names.specs.declared.method_names.MethodName.{MethodName}
+use Rattle.sj_names.specs.declared.references.ArrayRef.{ArrayRef}
 use Rattle.sj_names.specs.declared.references.BaseRef.{BaseRef}
 use Rattle.sj_names.specs.declared.references.TypeRef.{TypeRef}
 use Rattle.sj_names.specs.declared.method_names.Namespace.{Namespace}
@@ -77,7 +78,7 @@ use Rattle.object_folders.specs.Accepted.{IsAccepted}
 use Rattle.object_folders.specs.Bodies.{AreBodies}
 use Rattle.object_folders.proofs.Calls.{needed}
 use Rattle.object_folders.proofs.Members.{has_function-from, defined}
-use Rattle.object_folders.specs.Used.{used_of, makes, calls_on, calls, uses_dispatch, tells_apart, is_among, is_its_field, has_field_in, is_its_static, has_static_in, needs_static, uses_static, uses_helper, is_reflective, is_called_by, uses_reflective, is_test_for, is_cast_to, is_load_of, is_store_of, is_tested, is_cast, is_loaded, is_stored}
+use Rattle.object_folders.specs.Used.{used_of, makes, calls_on, calls, uses_dispatch, tells_apart, is_among, is_its_field, has_field_in, is_its_static, has_static_in, needs_static, uses_static, uses_helper, is_reflective, is_called_by, uses_reflective, is_test_for, is_cast_to, is_load_of, is_store_of, is_base_of, is_based_on, is_tested, is_cast, is_loaded, is_stored}
 use Rattle.body_uses.specs.Given.{Given, HelpersGiven, FitsDivision, HasType}
 use Rattle.body_uses.specs.Laws.{used_by, AcceptedBodiesUseWhatIsWritten}
 use Rattle.body_uses.specs.Written.{AreWrittenWith}
@@ -325,6 +326,7 @@ module _ (entries : List EntryPoint) (files : List SourceFile) (w : Classes) (fa
   -- a test, by the helper of its kind or the function of its class
   test_given : (p : Position) (d : Term) (t : IrType) → Contains (trees e.its_body) (is_instance_of p d t) → is_testable t ≡ true → All (Contains used) (test_uses t) → has.tests t ≡ true
   test_given p d (IrClass c) among h u = and_from (is_among written c) (is_tested all c || is_cast all c) (in_written (record { owner = c; name = test_name (IrClass c) }) (first_used (record { owner = c; name = test_name (IrClass c) }) [] u)) (or_left (is_tested all c) (is_cast all c) (has_form (is_instance_of p d (IrClass c)) (Test c) (is_test_for c) among (here (Test c) []) (text-refl c)))
+  test_given p d (Array r) among h u = helper_there TestOfArray (first_used (object_binding (test_name (Array r))) [] u)
   test_given p d Undefined among h u = kind_tested Undefined kinds.Undefined refl (first_used (object_binding (test_name Undefined)) [] u)
   test_given p d Boolean among h u = kind_tested Boolean kinds.Boolean refl (first_used (object_binding (test_name Boolean)) [] u)
   test_given p d Char among h u = kind_tested Char kinds.Char refl (first_used (object_binding (test_name Char)) [] u)
@@ -338,6 +340,7 @@ module _ (entries : List EntryPoint) (files : List SourceFile) (w : Classes) (fa
   -- and a cast
   cast_given : (p : Position) (d : Term) (t : IrType) → Contains (trees e.its_body) (as_instance_of p d t) → is_testable t ≡ true → All (Contains used) (cast_uses t) → has.casts t ≡ true
   cast_given p d (IrClass c) among h u = and_from (is_among written c) (is_cast all c) (in_written (record { owner = c; name = cast_name (IrClass c) }) (first_used (record { owner = c; name = cast_name (IrClass c) }) [] u)) (has_form (as_instance_of p d (IrClass c)) (Cast c) (is_cast_to c) among (here (Cast c) []) (text-refl c))
+  cast_given p d (Array r) among h u = helper_there CastToArray (first_used (object_binding (cast_name (Array r))) [] u)
   cast_given p d Undefined among h u = kind_cast Undefined kinds.Undefined refl (first_used (object_binding (cast_name Undefined)) [] u)
   cast_given p d Boolean among h u = kind_cast Boolean kinds.Boolean refl (first_used (object_binding (cast_name Boolean)) [] u)
   cast_given p d Char among h u = kind_cast Char kinds.Char refl (first_used (object_binding (cast_name Char)) [] u)
@@ -348,14 +351,25 @@ module _ (entries : List EntryPoint) (files : List SourceFile) (w : Classes) (fa
   cast_given p d String among h u = kind_cast String kinds.Text refl (first_used (object_binding (cast_name String)) [] u)
   cast_given p d _ among h u = impossible h
 
-  -- no class is named as the base of an array yet
-  base_given : (b : BaseRef) → has_base any_object b ≡ true → has_base has b ≡ true
-  base_given (BaseRef.Class c) h = impossible h
-  base_given _ h = refl
+  -- a class that a tree names as the base of arrays is written
+  base_given : (t : Term) (b : BaseRef) → Contains (trees e.its_body) t → ((f : BodyForm) → Contains (form_base b) f → Contains (form_of t) f) → All (Contains used) (base_uses b) → has_base has b ≡ true
+  base_given t (BaseRef.Class c) among its u = and_from (is_among written c) (is_based_on all c) (in_written _ (first_used _ [] u)) (has_form t (Base c) (is_base_of c) among (its (Base c) (here (Base c) [])) (text-refl c))
+  base_given t _ among its u = refl
 
-  type_given : (t : IrType) → is_based any_object t ≡ true → is_based has t ≡ true
-  type_given (Array r) h = base_given r.base h
-  type_given _ h = refl
+  test_based : (p : Position) (d : Term) (t : IrType) → Contains (trees e.its_body) (is_instance_of p d t) → All (Contains used) (type_uses t) → is_based has t ≡ true
+  test_based p d (Array r) among u = base_given (is_instance_of p d (Array r)) r.base among (λ f i. i) u
+  test_based p d _ among u = refl
+
+  cast_based : (p : Position) (d : Term) (t : IrType) → Contains (trees e.its_body) (as_instance_of p d t) → All (Contains used) (type_uses t) → is_based has t ≡ true
+  cast_based p d (Array r) among u = base_given (as_instance_of p d (Array r)) r.base among (λ f i. i) u
+  cast_based p d _ among u = refl
+
+  -- arrays can be made where a body asks for them and a helper of `java.lang.Object` makes them
+  arrays_given : (x : Name) → Reads w entries (Reachable w entries) ArrayForm → Contains used (object_binding x) → has.arrays ≡ true
+  arrays_given x r u = and_from (is_among written object) (list_any (makes object) facts) (in_written (object_binding x) u) (made_told facts object ((uses.are_facts (Made object)).1 (closed w entries (Made object) (array_made r))))
+
+  form_asked : (r : ArrayRef) → Contains (asked_array r) ArrayForm
+  form_asked r = Contains-append_right (of_base r.base) (ArrayForm ∷ []) ArrayForm (here ArrayForm [])
 
   tree_given : (t : Term) → Contains (trees e.its_body) t → Stands (MeetsThere w e.definition.namespace) t → Given has used t
   tree_given (apply_static p c n m ts t) among s = λ u. in_used (member c n m) (is_static n) (static_there n s.asked.0) (asked (apply_static p c n m ts t) among (Static (member c n m)) (here (Static (member c n m)) [])) u
@@ -372,10 +386,14 @@ module _ (entries : List EntryPoint) (files : List SourceFile) (w : Classes) (fa
       (λ u. there (in_written (static_use c f) u), λ u. there (in_written (setter_use c f) u))
   tree_given (load_module p c) among s = λ u. and_from (is_among written c) (is_loaded all c) (in_written (load_use c) u) (has_form (load_module p c) (Load c) (is_load_of c) among (here (Load c) []) (text-refl c))
   tree_given (store_module p c d) among s = λ u. and_from (is_among written c) (is_stored all c) (in_written (store_use c) u) (has_form (store_module p c d) (Store c) (is_store_of c) among (here (Store c) []) (text-refl c))
-  tree_given (new_array p r d) among s = λ h u. base_given r.base h
-  tree_given (array_value p r ts) among s = λ h u. base_given r.base h
-  tree_given (is_instance_of p d t) among s = (test_given p d t among, λ h u. type_given t h)
-  tree_given (as_instance_of p d t) among s = (cast_given p d t among, λ h u. type_given t h)
+  tree_given (new_array p r d) among s =
+      let reads = asked (new_array p r d) among ArrayForm (Contains-append_left (asked_array r) negative_size ArrayForm (form_asked r)) in
+      (arrays_given (codes "$mk") reads, λ h u. base_given (new_array p r d) r.base among (λ f i. i) u)
+  tree_given (array_value p r ts) among s =
+      let reads = asked (array_value p r ts) among ArrayForm (form_asked r) in
+      (arrays_given (codes "$A") reads, λ h u. base_given (array_value p r ts) r.base among (λ f i. i) u)
+  tree_given (is_instance_of p d t) among s = (test_given p d t among, λ h u. test_based p d t among u)
+  tree_given (as_instance_of p d t) among s = (cast_given p d t among, λ h u. cast_based p d t among u)
   tree_given (binary_op p o a b) among s = divisor w o a b s.asked
   tree_given t among s = tt
 

@@ -9,6 +9,7 @@ use Rattle.sj_emit_expr.specs.Templates.{check_name}
 use Rattle.sj_emit_expr.specs.Tests.{same_name}
 use Rattle.sj_emit_expr.specs.Uses.{object_binding, function_binding, class_use, static_use, setter_use, load_use, store_use, test_uses, cast_uses, base_uses, type_uses, call_uses}
 use Rattle.sj_names.specs.declared.method_names.Namespace.TheVariants.{Private, Constructor, Public}
+use Rattle.sj_names.specs.declared.references.BaseRef.{BaseRef}
 use Rattle.sj_trees.specs.Term.{Term, new_object, new_array, array_value, load_module, store_module, select, select_static, apply_statically, apply_static, binary_op, is_instance_of, as_instance_of, apply}
 use Rattle.sj_trees.specs.TypeOf.{type_of_term}
 use Rattle.sj_trees.specs.declared.operators.BinaryOp.{BinaryOp}
@@ -34,6 +35,10 @@ body_helpers = check_name ∷ codes "$id" ∷ codes "$im" ∷ codes "$ld" ∷ co
 
 -- where these bindings are used
 module _ (has : Usable) (used : List Binding) where
+  -- arrays can be made where the helper that makes them is used, and their base is there where it is named
+  abbrev pub GivenArray : List ℕ → BaseRef → Type 0
+  GivenArray x b = (Contains used (object_binding x) → has.arrays ≡ true) × (has_base any_object b ≡ true → All (Contains used) (base_uses b) → has_base has b ≡ true)
+
   -- a member whose function is used is there, of a public one, and of a method that a hijacked class decides on, the target, a method that is looked up, a constructor where it has no value, and so are a class that is used to make an object, each field, a static field whose
   -- variable or setter is used, a module whose function that loads or stores it is used, a test and a cast whose function is used, and the base of arrays that is named; a method that is called on arrays can be; a divisor has its type
   abbrev pub Given : Term → Type 0
@@ -49,8 +54,8 @@ module _ (has : Usable) (used : List Binding) where
   Given (store_module p c e) = Contains used (store_use c) → has.stored c ≡ true
   Given (is_instance_of p e t) = (is_testable t ≡ true → All (Contains used) (test_uses t) → has.tests t ≡ true) × (is_based any_object t ≡ true → All (Contains used) (type_uses t) → is_based has t ≡ true)
   Given (as_instance_of p e t) = (is_testable t ≡ true → All (Contains used) (cast_uses t) → has.casts t ≡ true) × (is_based any_object t ≡ true → All (Contains used) (type_uses t) → is_based has t ≡ true)
-  Given (new_array p r e) = has_base any_object r.base ≡ true → All (Contains used) (base_uses r.base) → has_base has r.base ≡ true
-  Given (array_value p r ts) = has_base any_object r.base ≡ true → All (Contains used) (base_uses r.base) → has_base has r.base ≡ true
+  Given (new_array p r e) = GivenArray (codes "$mk") r.base
+  Given (array_value p r ts) = GivenArray (codes "$A") r.base
   Given (binary_op p o e d) = FitsDivision o d
   Given _ = Unit {0}
 

@@ -1,6 +1,5 @@
 -- The forms of bodies that are built: what is asked of a method beside its typing, so that the theorem on bodies covers it, one Boolean.
 use Rattle.std.specs.Prelude.{ℕ, ◌^◌, nat_lt, length, pos, Bool, true, false, ◌&&◌, ◌||◌, not, List, [], ◌∷◌, Option, Some, None, codes}
-use Rattle.std.specs.List.{list_any}
 use Rattle.std.specs.Ordering.{int_eq}
 use Rattle.sj_desugar.specs.Lookup.{Lookup, own_targets}
 use Rattle.sj_desugar.specs.Callee.{Callee}
@@ -8,7 +7,6 @@ use Rattle.sj_desugar.specs.CalleeVariants as callees
 use Rattle.sj_desugar.specs.Desugar.{member, callee_of, result_destination, types_of}
 use Rattle.sj_desugar.specs.Plain.{is_no_type}
 use Rattle.sj_emit_expr.specs.Templates.{element_setter}
-use Rattle.sj_names.specs.Same.{is_same_text}
 use Rattle.sj_names.specs.declared.method_names.Namespace.{Namespace}
 use Rattle.sj_names.specs.declared.method_names.Namespace.TheVariants.{Public, PublicStatic, Private, PrivateStatic, Constructor}
 use Rattle.sj_names.specs.declared.references.BaseRef.{BaseRef}
@@ -37,7 +35,7 @@ is_nonzero_long _ = false
 
 -- what a body can use: the static members that are linked, and those that run on a receiver, with what is known of the classes where these are called; the methods that are looked
 -- up on the instances of a class, and those of which there is a function that tells primitive instances apart; the reflective names of which there is a function by which receivers are called; the constructors that are linked; the classes of which objects are made, and those whose code is there: these and the classes above them; their fields and the static fields that can be read and those that can be set, with their types; the classes whose one object can be loaded, and those for which it can be stored; the types for which
--- there is a test, and those for which there is a cast; the classes that can be named as the base of an array; the methods that can be called on arrays; helpers, by their names; and whether it can throw, and name the object that it runs on
+-- there is a test, and those for which there is a cast; the classes that can be named as the base of an array, and whether arrays can be made; the methods that can be called on arrays; helpers, by their names; and whether it can throw, and name the object that it runs on
 pub record Usable : Type 0 where
   pub linked : Member → Bool
   pub lookup : Lookup
@@ -56,6 +54,7 @@ pub record Usable : Type 0 where
   pub tests : IrType → Bool
   pub casts : IrType → Bool
   pub bases : List ℕ → Bool
+  pub arrays : Bool
   pub on_arrays : MethodName → Bool
   pub helper : List ℕ → Bool
   pub objects : Bool
@@ -70,7 +69,7 @@ may_make has boxed = can_box has || not boxed
 
 -- these static members and nothing else
 abbrev pub members_alone : (Member → Bool) → Usable
-members_alone linked = record { linked = linked; lookup = own_targets; received = λ m. false; looked_up = λ c m. false; dispatched = λ m. false; reflected = λ m. false; built = λ m. false; made = λ c. false; live = λ c. false; field = λ c f t. false; static_field = λ c f t. false; static_setter = λ c f t. false; modules = λ c. false; stored = λ c. false; tests = λ t. false; casts = λ t. false; bases = λ c. false; on_arrays = λ m. false; helper = λ x. false; objects = false }
+members_alone linked = record { linked = linked; lookup = own_targets; received = λ m. false; looked_up = λ c m. false; dispatched = λ m. false; reflected = λ m. false; built = λ m. false; made = λ c. false; live = λ c. false; field = λ c f t. false; static_field = λ c f t. false; static_setter = λ c f t. false; modules = λ c. false; stored = λ c. false; tests = λ t. false; casts = λ t. false; bases = λ c. false; arrays = false; on_arrays = λ m. false; helper = λ x. false; objects = false }
 
 -- a static field can be read or set
 abbrev pub has_static : Usable → List ℕ → List ℕ → IrType → Bool
@@ -169,8 +168,8 @@ module _ (has : Usable) (checked : Term → Bool) where
   stands (apply_static p c n m ts t) = has.linked (member c n m)
   stands (unary_op p o e) = true
   stands (binary_op p o e d) = is_operation has o d
-  stands (new_array p r e) = has.helper (codes "$mk") && has_base has r.base
-  stands (array_value p r ts) = has.helper (codes "$A") && (has_base has r.base && are_countable ts)
+  stands (new_array p r e) = has.arrays && (has.helper (codes "$mk") && has_base has r.base)
+  stands (array_value p r ts) = has.arrays && (has.helper (codes "$A") && (has_base has r.base && are_countable ts))
   stands (array_length p e) = checked e
   stands (array_select p e i t) = has.helper (codes "$get") && checked e
   stands (is_instance_of p e t) = has.tests t && is_based has t
@@ -255,18 +254,15 @@ has_no_value _ = false
 abbrev pub has_kind : IrType → Bool
 has_kind = is_sure_type
 
--- a type that a test can ask for, and to which a cast can go that calls a function: one whose values are of one kind, or a class
+-- a type that a test can ask for, and to which a cast can go that calls a function: one whose values are of one kind, a class, or one of arrays
 abbrev pub is_testable : IrType → Bool
 is_testable (Class c) = true
+is_testable (Array r) = true
 is_testable t = has_kind t
 
--- the helpers that make arrays, read their items and set them
-abbrev pub is_array_helper : List ℕ → Bool
-is_array_helper x = list_any (is_same_text x) (codes "$mk" ∷ codes "$A" ∷ codes "$get" ∷ codes "$set" ∷ codes "$put" ∷ [])
-
--- whatever is made, called and used of objects, but for constructors with a value and for arrays, which no code makes yet
+-- whatever is made, called and used of objects and of arrays, but for constructors with a value
 abbrev pub any_object : Usable
-any_object = record { linked = λ m. true; lookup = own_targets; received = λ m. true; looked_up = λ c m. true; dispatched = λ m. true; reflected = λ m. true; built = λ m. has_no_value m.method.result; made = λ c. true; live = λ c. true; field = λ c f t. true; static_field = λ c f t. true; static_setter = λ c f t. true; modules = λ c. true; stored = λ c. true; tests = is_testable; casts = is_testable; bases = λ c. false; on_arrays = λ m. true; helper = λ x. not (is_array_helper x); objects = true }
+any_object = record { linked = λ m. true; lookup = own_targets; received = λ m. true; looked_up = λ c m. true; dispatched = λ m. true; reflected = λ m. true; built = λ m. has_no_value m.method.result; made = λ c. true; live = λ c. true; field = λ c f t. true; static_field = λ c f t. true; static_setter = λ c f t. true; modules = λ c. true; stored = λ c. true; tests = is_testable; casts = is_testable; bases = λ c. true; arrays = true; on_arrays = λ m. true; helper = λ x. true; objects = true }
 
 -- the body is of these forms, whatever it calls, makes and reads
 abbrev pub is_object_body : MethodDef → Term → Bool

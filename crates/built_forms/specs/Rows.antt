@@ -6,7 +6,7 @@ use Rattle.sj_names.specs.declared.method_names.Namespace.TheVariants.{Public, P
 use Rattle.sj_names.specs.declared.references.BaseRef.{BaseRef}
 use Rattle.sj_names.specs.declared.references.TypeRef.{TypeRef}
 use Rattle.sj_trees.specs.Erase.{nowhere}
-use Rattle.sj_trees.specs.Term.{Term, no_terms, more_terms, no_cases, more_cases, var_def, load_module, store_module, new_array, array_value, array_length, array_select, skip, block_of, labeled, assign, return_to, if_then, try_catch, try_finally, match_on, throw, new_object, select, select_static, apply, apply_statically, apply_static, this_ref, binary_op, is_instance_of, as_instance_of, char_literal, int_literal, long_literal, var_ref}
+use Rattle.sj_trees.specs.Term.{Term, Terms, no_terms, more_terms, no_cases, more_cases, var_def, load_module, store_module, new_array, array_value, array_length, array_select, skip, block_of, labeled, assign, return_to, if_then, try_catch, try_finally, match_on, throw, new_object, select, select_static, apply, apply_statically, apply_static, this_ref, binary_op, is_instance_of, as_instance_of, char_literal, int_literal, long_literal, var_ref}
 use Rattle.sj_trees.specs.declared.classes.MethodDef.{MethodDef}
 use Rattle.sj_trees.specs.declared.operators.BinaryOp.{BinaryOp}
 use Rattle.sj_trees.specs.declared.operators.BinaryOp.TheVariants.{StrictEqual, StrictNotEqual, IntDivide, IntEqual, LongRemainder}
@@ -40,9 +40,13 @@ number n = int_literal nowhere (pos n)
 abbrev pub object : Term
 object = new_object nowhere (codes "A") (method_name TypeRef.Int) no_terms
 
--- a new array, which isn't built
+-- a new object of a constructor that has a value, which isn't built
 abbrev pub unbuilt : Term
-unbuilt = new_array nowhere (record { base = BaseRef.Int; dimensions = 1 }) (int_literal nowhere (pos 1))
+unbuilt = new_object nowhere (codes "A") (record { simple = codes "m"; params = []; result = Some TypeRef.Int }) no_terms
+
+-- a new array
+abbrev pub array : Term
+array = new_array nowhere (record { base = BaseRef.Int; dimensions = 1 }) (number 1)
 
 -- the one object of the class is this value
 abbrev pub storing : Term → Term
@@ -97,7 +101,7 @@ case (k ∷ ks) body = match_on nowhere (number 1) (more_cases (pos k ∷ []) bo
 
 -- a field can be used, whatever its class, its name and its type are
 abbrev pub with_fields : Usable
-with_fields = record { linked = λ m. true; lookup = own_targets; received = λ m. false; looked_up = λ c m. false; dispatched = λ m. false; reflected = λ m. false; built = λ m. false; made = λ c. false; live = λ c. false; field = λ c f t. true; static_field = λ c f t. false; static_setter = λ c f t. false; modules = λ c. false; stored = λ c. false; tests = λ t. false; casts = λ t. false; bases = λ c. false; on_arrays = λ m. false; helper = λ x. false; objects = false }
+with_fields = record { linked = λ m. true; lookup = own_targets; received = λ m. false; looked_up = λ c m. false; dispatched = λ m. false; reflected = λ m. false; built = λ m. false; made = λ c. false; live = λ c. false; field = λ c f t. true; static_field = λ c f t. false; static_setter = λ c f t. false; modules = λ c. false; stored = λ c. false; tests = λ t. false; casts = λ t. false; bases = λ c. false; arrays = false; on_arrays = λ m. false; helper = λ x. false; objects = false }
 
 -- there is a test for each type, and there is a cast to each
 abbrev pub with_tests : Usable
@@ -113,13 +117,16 @@ with_modules = record with_fields { modules = λ c. true }
 abbrev pub with_stores : Usable
 with_stores = record with_fields { stored = λ c. true }
 
--- objects that hold chars can be made
+-- objects that hold chars can be made, and so can arrays
 abbrev pub with_boxes : Usable
-with_boxes = record { linked = λ m. true; lookup = own_targets; received = λ m. false; looked_up = λ c m. false; dispatched = λ m. false; reflected = λ m. false; built = λ m. false; made = λ c. false; live = λ c. false; field = λ c f t. true; static_field = λ c f t. false; static_setter = λ c f t. false; modules = λ c. false; stored = λ c. false; tests = λ t. false; casts = λ t. false; bases = λ c. false; on_arrays = λ m. false; helper = λ x. true; objects = false }
+with_boxes = record { linked = λ m. true; lookup = own_targets; received = λ m. false; looked_up = λ c m. false; dispatched = λ m. false; reflected = λ m. false; built = λ m. false; made = λ c. false; live = λ c. false; field = λ c f t. true; static_field = λ c f t. false; static_setter = λ c f t. false; modules = λ c. false; stored = λ c. false; tests = λ t. false; casts = λ t. false; bases = λ c. false; arrays = true; on_arrays = λ m. false; helper = λ x. true; objects = false }
 
--- an array of objects of a class, and items of it and of an array of ints
+-- an array of objects of a class, one of these items, and an item of an array
 abbrev pub of_class : Term
 of_class = new_array nowhere (record { base = BaseRef.Class (codes "A"); dimensions = 1 }) (number 1)
+
+abbrev pub items_of : Terms → Term
+items_of ts = array_value nowhere (record { base = BaseRef.Int; dimensions = 1 }) ts
 
 abbrev pub item_of : Term → Term
 item_of a = array_select nowhere a (number 0) Int
@@ -215,7 +222,9 @@ pub record WorkedForms : Type 0 where
   pub test_of_null : not_built (static (tested Null object)) ≡ true
   pub test_of_a_class : not_built (static (tested (Class (codes "A")) object)) ≡ false
   pub test_of_a_class_of_what_is_not_built : not_built (static (tested (Class (codes "A")) unbuilt)) ≡ true
-  pub test_of_an_array : not_built (static (tested (Array (record { base = BaseRef.Int; dimensions = 1 })) object)) ≡ true
+  pub test_of_an_array : not_built (static (tested (Array (record { base = BaseRef.Int; dimensions = 1 })) object)) ≡ false
+  pub test_of_an_array_of_a_class : not_built (static (tested (Array (record { base = BaseRef.Class (codes "A"); dimensions = 2 })) object)) ≡ false
+  pub test_of_an_array_of_what_is_not_built : not_built (static (tested (Array (record { base = BaseRef.Int; dimensions = 1 })) unbuilt)) ≡ true
   pub test_of_an_int_of_what_is_not_built : not_built (static (tested Int unbuilt)) ≡ true
   pub test_it_can_use : is_built with_tests (λ e. true) (tested String (number 1)) ≡ true
   pub test_of_what_is_not_built : is_built with_tests (λ e. true) (tested String unbuilt) ≡ false
@@ -225,7 +234,9 @@ pub record WorkedForms : Type 0 where
   pub cast_to_null : not_built (static (casted Null object)) ≡ true
   pub cast_to_a_class : not_built (static (casted (Class (codes "A")) object)) ≡ false
   pub cast_to_a_class_of_what_is_not_built : not_built (static (casted (Class (codes "A")) unbuilt)) ≡ true
-  pub cast_to_an_array : not_built (static (casted (Array (record { base = BaseRef.Int; dimensions = 1 })) object)) ≡ true
+  pub cast_to_an_array : not_built (static (casted (Array (record { base = BaseRef.Int; dimensions = 1 })) object)) ≡ false
+  pub cast_to_an_array_of_a_class : not_built (static (casted (Array (record { base = BaseRef.Class (codes "A"); dimensions = 2 })) object)) ≡ false
+  pub cast_to_an_array_of_what_is_not_built : not_built (static (casted (Array (record { base = BaseRef.Int; dimensions = 1 })) unbuilt)) ≡ true
   pub cast_to_an_int_of_what_is_not_built : not_built (static (casted Int unbuilt)) ≡ true
   pub cast_to_any : not_built (static (casted Any object)) ≡ false
   pub cast_of_a_char_to_any : not_built (static (casted Any letter)) ≡ false
@@ -236,17 +247,28 @@ pub record WorkedForms : Type 0 where
   pub length_of_an_array : not_built (static (array_length nowhere (local_of (Array (record { base = BaseRef.Int; dimensions = 1 }))))) ≡ false
   pub length_of_an_unchecked_array : is_built with_boxes (λ e. false) (array_length nowhere (local_of Null)) ≡ false
   pub length_of_what_is_not_built : not_built (static (array_length nowhere unbuilt)) ≡ true
-  pub items : not_built (static (array_value nowhere (record { base = BaseRef.Int; dimensions = 1 }) no_terms)) ≡ true
-  pub item : not_built (static (item_of (local_of Null))) ≡ true
-  pub sets_an_item : not_built (static (setting_item (local_of Null) (number 1))) ≡ true
-  pub array_it_can_use : is_built with_boxes (λ e. true) unbuilt ≡ true
-  pub array_without_a_helper : is_built with_fields (λ e. true) unbuilt ≡ false
+  pub makes_an_array : not_built (static array) ≡ false
+  pub makes_an_array_of_a_class : not_built (static of_class) ≡ false
+  pub makes_an_array_of_a_length_that_is_not_built : not_built (static (new_array nowhere (record { base = BaseRef.Int; dimensions = 1 }) unbuilt)) ≡ true
+  pub items : not_built (static (items_of no_terms)) ≡ false
+  pub items_that_are_not_built : not_built (static (items_of (more_terms (number 1) (more_terms unbuilt no_terms)))) ≡ true
+  pub item : not_built (static (item_of (local_of Null))) ≡ false
+  pub item_of_what_is_not_built : not_built (static (item_of unbuilt)) ≡ true
+  pub item_at_what_is_not_built : not_built (static (array_select nowhere array unbuilt Int)) ≡ true
+  pub sets_an_item : not_built (static (setting_item (local_of Null) (number 1))) ≡ false
+  pub sets_an_item_of_what_is_not_built : not_built (static (setting_item unbuilt (number 1))) ≡ true
+  pub sets_an_item_at_what_is_not_built : not_built (static (assign nowhere (array_select nowhere array unbuilt Int) (number 1))) ≡ true
+  pub sets_an_item_to_what_is_not_built : not_built (static (setting_item array unbuilt)) ≡ true
+  pub array_it_can_use : is_built with_boxes (λ e. true) array ≡ true
+  pub array_without_a_helper : is_built (record with_fields { arrays = true }) (λ e. true) array ≡ false
+  pub array_where_none_can_be_made : is_built (record with_boxes { arrays = false }) (λ e. true) array ≡ false
+  pub items_where_no_array_can_be_made : is_built (record with_boxes { arrays = false }) (λ e. true) (items_of no_terms) ≡ false
   pub array_of_a_class_that_has_no_name : is_built with_boxes (λ e. true) of_class ≡ false
-  pub items_it_can_use : is_built with_boxes (λ e. true) (array_value nowhere (record { base = BaseRef.Int; dimensions = 1 }) (more_terms (number 1) no_terms)) ≡ true
-  pub item_it_can_use : is_built with_boxes (λ e. true) (item_of unbuilt) ≡ true
-  pub item_of_an_unchecked_array : is_built with_boxes (λ e. false) (item_of unbuilt) ≡ false
+  pub items_it_can_use : is_built with_boxes (λ e. true) (items_of (more_terms (number 1) no_terms)) ≡ true
+  pub item_it_can_use : is_built with_boxes (λ e. true) (item_of array) ≡ true
+  pub item_of_an_unchecked_array : is_built with_boxes (λ e. false) (item_of array) ≡ false
   pub item_without_a_helper : is_built with_fields (λ e. true) (item_of (local_of Null)) ≡ false
-  pub sets_an_item_it_can_use : is_built with_boxes (λ e. true) (setting_item unbuilt (number 1)) ≡ true
+  pub sets_an_item_it_can_use : is_built with_boxes (λ e. true) (setting_item array (number 1)) ≡ true
   pub sets_an_item_without_a_helper : is_built with_fields (λ e. true) (setting_item (local_of Null) (number 1)) ≡ false
   pub by_two : not_built (static (operation IntDivide Int (number 2))) ≡ false
   pub by_zero : not_built (static (operation IntDivide Int (number 0))) ≡ false

@@ -38,10 +38,16 @@ pub fn is_built(tree: &Tree) -> bool
         | Tree::Log(_, value)
         | Tree::Select(_, value, _, _, _)
         | Tree::ArrayLength(_, value) => is_built(value),
+        Tree::NewArray(_, _, length) => is_built(length),
+        Tree::ArrayValue(_, _, items) => are_countable(items) && are_built(items),
+        Tree::ArraySelect(_, array, index, _) => is_built(array) && is_built(index),
         Tree::Block(_, trees) => are_built(trees),
         Tree::Assign(_, target, value) => match &**target {
             Tree::VarRef(_, _, _) | Tree::SelectStatic(_, _, _, _) => is_built(value),
             Tree::Select(_, object, _, _, _) => is_built(object) && is_built(value),
+            Tree::ArraySelect(_, array, index, _) => {
+                is_built(array) && is_built(index) && is_built(value)
+            }
             _ => false,
         },
         Tree::If(_, condition, yes, no, _) => {
@@ -65,8 +71,6 @@ pub fn is_built(tree: &Tree) -> bool
         Tree::BinaryOp(_, _, left, right) => is_built(left) && is_built(right),
         Tree::IsInstanceOf(_, value, tpe) => is_testable(tpe) && is_built(value),
         Tree::AsInstanceOf(_, value, tpe) => can_cast(tpe) && is_built(value),
-        Tree::NewArray(_, _, _) | Tree::ArrayValue(_, _, _) | Tree::ArraySelect(_, _, _, _) =>
-            false,
     }
 }
 
@@ -100,6 +104,13 @@ fn is_built_case(case: &MatchCase) -> bool
     ensures { result ≡ built.are_built_cases built.any_object (λ e. true) (cases_view (case.now ∷ [])) }
 {
     case.keys.as_slice().is_empty() || is_built(&case.body)
+}
+
+// There are as many items as an int can tell.
+fn are_countable(items: &[Tree]) -> bool
+    ensures { result ≡ built.are_countable (terms_view items.now) }
+{
+    items.len() < 2147483648
 }
 
 // A call without a lookup is built of a public or private method, and of a constructor, which has no value.

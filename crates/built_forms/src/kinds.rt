@@ -21,11 +21,11 @@ fn has_kind(tpe: &IrType) -> bool
     )
 }
 
-/// Whether a test for a type is built: a type whose values are of one kind, or a class.
+/// Whether a test for a type is built: a type whose values are of one kind, a class, or one of arrays.
 pub fn is_testable(tpe: &IrType) -> bool
     ensures { result ≡ built.is_testable tpe.now }
 {
-    matches!(tpe, IrType::Class(_)) || has_kind(tpe)
+    matches!(tpe, IrType::Class(_) | IrType::Array(_)) || has_kind(tpe)
 }
 
 /// Whether a cast to a type is built: one to any, which calls nothing, or to a type for which a test is built.

@@ -1,4 +1,4 @@
--- What the pieces of an accepted folder declare: functions of needed bodies, live classes, static fields that are needed, cells of modules that are loaded or stored, tests of classes and casts to them, and helpers.
+-- What the pieces of an accepted folder declare: functions of needed bodies, live classes, static fields that are needed, cells of modules that are loaded or stored, tests of classes and casts to them, constants of classes that are named as the bases of arrays, and helpers.
 use Rattle.std.proofs.Common.{◌≡◌, ◌↔◌, ◌||◌, Bool, true, List, [], Option, Some, refl, sym, ap, subst, ◌∙◌, Contains}
 use Rattle.std.specs.List.{flat_map}
 use Rattle.std.proofs.lemmas.List.Elements.{Contains-append_left, Contains-append_right}
@@ -15,7 +15,7 @@ use Rattle.linked_folders.proofs.Worlds.{judged}
 use Rattle.linked_folders.proofs.DeclaredPiecesLive.{classes_kept, live_there}
 use Rattle.linked_folders.proofs.Made as made
 use Rattle.linked_folders.proofs.Members.{defined}
-use Rattle.linked_folders.proofs.Parts.{class_there, statics_among, in_statics, is_reached, cell_among, loader_there, storer_there, test_among, cast_among}
+use Rattle.linked_folders.proofs.Parts.{class_there, constants_among, statics_among, in_statics, is_reached, cell_among, loader_there, storer_there, test_among, cast_among}
 use Rattle.linked_folders.specs.Accepted.{IsAccepted}
 use Rattle.linked_folders.specs.Bodies.{AreBodies}
 use Rattle.linked_folders.specs.Classes.{HasForm}
@@ -30,12 +30,12 @@ use Rattle.linked_folders.specs.ReachRulesRules.{the_object}
 use Rattle.linked_folders.specs.Rules.{HasFieldType}
 use Rattle.file_listings.specs.Listed.{AreBytes}
 use Rattle.helper_rules.specs.Helpers.{helper_name, helper_piece}
-use Rattle.helper_rules.specs.Words.{bound, helper, all_kinds, class_name}
+use Rattle.helper_rules.specs.Words.{bound, helper, all_kinds, class_name, constants_name}
 use Rattle.helper_rules.specs.declared.kinds.Helper.{Helper}
 use Rattle.js_tree.specs.Terms.{Piece}
 use Rattle.module_rules.specs.Laws.{IsDeclared}
 use Rattle.linked_folders.proofs.Plain.{class_found}
-use Rattle.linked_folders.specs.PieceRulesPieces.{Parts, class_piece, variable_piece, setter_piece, all_statics, load_piece, store_piece, test_piece, cast_piece, kind_of_class}
+use Rattle.linked_folders.specs.PieceRulesPieces.{Parts, own_constants, constants_piece, class_piece, variable_piece, setter_piece, all_statics, load_piece, store_piece, test_piece, cast_piece, kind_of_class}
 use Rattle.sj_emit_expr.specs.Templates.{member_name, static_name, setter_name, load_name, store_name}
 use Rattle.sj_emit_expr.specs.Uses.{function_binding, class_use, static_use, setter_use, load_use, store_use}
 use Rattle.sj_infos.specs.Forms.{form_of, forms_by_body}
@@ -70,6 +70,7 @@ pub record Declares (entries : List EntryPoint) (l : Linked) (having : List Help
   pub listed : (f : Fact) → Reachable l.world entries f → Contains l.facts f
   pub tests : (c : Name) → HasForm l.world l.facts (forms.Test c) → Reachable l.world entries (Needed c) → IsDeclared ps (bound c (class_binding IsInstance c))
   pub casts : (c : Name) → HasForm l.world l.facts (forms.Cast c) → Reachable l.world entries (Needed c) → IsDeclared ps (bound c (class_binding AsInstance c))
+  pub bases : (c : Name) → HasForm l.world l.facts (forms.Base c) → Reachable l.world entries (Needed c) → IsDeclared ps (own_constants c)
   pub helpers : (h : Helper) → Contains having h → IsDeclared ps (helper (helper_name h))
 
 some_class : (a b : ClassDef) → ◌≡◌ {A = Option ClassDef} (Some a) (Some b) → a ≡ b
@@ -138,6 +139,13 @@ module _ (entries : List EntryPoint) (files : List SourceFile) (l : Linked) (all
       let casts : Piece = cast_piece its.class.name in
       record { piece = casts; among = own.there casts (cast_among its (own.are.cast.1 form)); owned = named c own; named = ap (class_binding AsInstance) (named c own) }
 
+  its_constants : (c : Name) → HasForm w l.facts (forms.Base c) → Reachable w entries (Needed c) → IsDeclared ps (own_constants c)
+  its_constants c form r =
+      let own = own_of c r in
+      let its = own.parts in
+      let constants : Piece = constants_piece its.class.name its.ancestors in
+      record { piece = constants; among = own.there constants (constants_among its (or_right its.is_live its.is_base (own.are.base.1 form))); owned = named c own; named = ap constants_name (named c own) }
+
   its_loader : (c : Name) → HasForm w l.facts (forms.Load c) → Reachable w entries (Needed c) → IsDeclared ps (load_use c)
   its_loader c form r =
       let own = own_of c r in
@@ -197,5 +205,6 @@ module _ (entries : List EntryPoint) (files : List SourceFile) (l : Linked) (all
     listed = λ f. (exact f).1;
     tests = its_test;
     casts = its_cast;
+    bases = its_constants;
     helpers = a_helper;
   }

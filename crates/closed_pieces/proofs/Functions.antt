@@ -5,7 +5,6 @@ use Rattle.std.proofs.Common.{Bool, ◌≡◌, ◌∙◌, List, [], ◌∷◌, O
 use Rattle.std.specs.List.{All}
 use Rattle.std.proofs.lemmas.List.Elements.{All-nil, All-cons, All-contains, Contains-append_left}
 use Rattle.closed_pieces.proofs.Called.{Called, each_called, with_each}
-use Rattle.linked_folders.proofs.WithoutArrays.{UsesNoArrays, without_arrays}
 use Rattle.linked_folders.proofs.Calls.{needed}
 use Rattle.linked_folders.proofs.Derivations.{closed}
 use Rattle.linked_folders.proofs.Direct.{Calls, calls_member, looks_up, calls_array, calls_by_name}
@@ -18,7 +17,7 @@ use Rattle.linked_folders.proofs.Standing.{Stands, each_stands}
 use Rattle.linked_folders.proofs.Written.{some_same, all_at}
 use Rattle.linked_folders.specs.Accepted.{IsAccepted}
 use Rattle.linked_folders.specs.Bodies.{AreBodies}
-use Rattle.linked_folders.specs.Built.{any_object, has_base, is_based, body_boxes, is_built, is_object_body, may_make}
+use Rattle.linked_folders.specs.Built.{any_object, body_boxes, is_built, is_object_body, may_make}
 use Rattle.linked_folders.specs.Classes.{HasForm}
 use Rattle.linked_folders.specs.Emitted.{EmittedMethod}
 use Rattle.linked_folders.specs.Pieces.{piece_of_member}
@@ -49,27 +48,27 @@ use Rattle.sj_core.specs.Lookup.{Lookup}
 use Rattle.sj_core.specs.Terms as core
 use Rattle.sj_core.specs.declared.callees.Callee.{Callee}
 use Rattle.sj_desugar.specs.Desugar.{callee_of, member, desugared_member, body_code, completed, is_mutable_in, result_destination}
-use Rattle.sj_emit_expr.specs.Templates.{called_member}
+use Rattle.sj_emit_expr.specs.Templates.{called_member, element_setter}
 use Rattle.sj_emit_expr.specs.Tests.{same_name}
 use Rattle.sj_emit_expr.specs.Uses.{call_uses, looked_up_uses, object_binding, function_binding, helper_of, test_uses, cast_uses, base_uses, type_uses, store_use, uses_of_all}
 use Rattle.sj_infos.specs.Forms.{form_of, of_test, forms_by_body, of_call as form_call}
 use Rattle.sj_infos.specs.Forms as of_form
-use Rattle.sj_infos.specs.Infos.{asks, asked_by_body, of_static_call, of_receiver, of_type, is_any, class_cast}
+use Rattle.sj_infos.specs.Infos.{asks, asked_by_body, of_static_call, of_receiver, of_base as asked_base, of_array, of_type, is_any, class_cast, negative_size}
 use Rattle.sj_infos.specs.Sure.{sure_among}
 use Rattle.sj_infos.specs.Trees.{trees}
 use Rattle.sj_infos.specs.declared.forms.BodyForm.{BodyForm}
 use Rattle.sj_infos.specs.declared.forms.BodyForm.TheVariants as forms
 use Rattle.sj_infos.specs.declared.infos.Info.{Info}
-use Rattle.sj_infos.specs.declared.infos.Info.TheVariants.{New, Load, Static, Field, Resolved, Class}
+use Rattle.sj_infos.specs.declared.infos.Info.TheVariants.{New, Load, Static, Field, Resolved, Class, ArrayForm}
 use Rattle.sj_infos.specs.declared.infos.Info.TheVariants as asked_info
 use Rattle.sj_mangling.specs.Bindings.{class_binding}
-use Rattle.sj_mangling.specs.declared.bindings.ClassBinding.TheVariants.{IsInstance, AsInstance}
+use Rattle.sj_mangling.specs.declared.bindings.ClassBinding.TheVariants.{Constants, IsInstance, AsInstance}
 use Rattle.sj_names.specs.declared.entry_points.EntryPoint.{EntryPoint}
 use Rattle.sj_names.specs.declared.folders.SourceFile.{SourceFile}
 use Rattle.sj_names.specs.declared.method_names.Member.{Member}
+use Rattle.sj_names.specs.declared.references.ArrayRef.{ArrayRef}
 use Rattle.sj_names.specs.declared.references.BaseRef.{BaseRef}
 use Rattle.sj_names.specs.declared.method_names.MethodName.{MethodName}
-use Rattle.sj_names.proofs.Same.{impossible}
 use Rattle.sj_names.specs.declared.method_names.Namespace.{Namespace}
 use Rattle.sj_names.specs.declared.method_names.Namespace.TheVariants.{Public, PublicStatic, Private, PrivateStatic, Constructor}
 use Rattle.sj_trees.specs.Term.{Term, Terms, assign, new_object, new_array, array_value, array_length, array_select, load_module, store_module, select, select_static, apply, apply_statically, apply_static, binary_op, is_instance_of, as_instance_of}
@@ -249,44 +248,66 @@ module _ (entries : List EntryPoint) (files : List SourceFile) (l : Linked) (all
   casted IrType.Long f g = cast_kind kinds.Long
   casted _ f g = cast_kind kinds.Text
 
-  -- no class is named as the base of an array
-  based : (b : BaseRef) → has_base any_object b ≡ true → All Q (base_uses b)
-  based (BaseRef.Class c) h = impossible h
-  based _ h = All-nil Q
+  -- the constants of a class that is named as the base of an array
+  based : (b : BaseRef) → ((o : Info) → Contains (asked_base b) o → Asked o) → ((f : BodyForm) → Contains (of_form.of_base b) f → HasForm w l.facts f) → All Q (base_uses b)
+  based (BaseRef.Class c) f g = All-cons Q (bound c (class_binding Constants c)) [] (λ u. d.bases c (g (forms.Base c) (here (forms.Base c) [])) (class_needed c (f (Class c) (here (Class c) [])))) (All-nil Q)
+  based _ f g = All-nil Q
 
-  of_base : (t : IrType) → is_based any_object t ≡ true → All Q (type_uses t)
-  of_base (IrType.Array r) h = based r.base h
-  of_base _ h = All-nil Q
+  base_asked : (r : ArrayRef) → ((o : Info) → Contains (of_array r) o → Asked o) → (o : Info) → Contains (asked_base r.base) o → Asked o
+  base_asked r f o i = f o (Contains-append_left (asked_base r.base) (ArrayForm ∷ []) o i)
+
+  of_tested : (t : IrType) → ((o : Info) → Contains (of_type t) o → Asked o) → ((f : BodyForm) → Contains (of_test t) f → HasForm w l.facts f) → All Q (type_uses t)
+  of_tested (IrType.Array r) f g = based r.base (base_asked r f) g
+  of_tested _ f g = All-nil Q
+
+  of_casted : (t : IrType) → ((o : Info) → Contains (of_type t) o → Asked o) → ((f : BodyForm) → Contains (of_form.of_cast t) f → HasForm w l.facts f) → All Q (type_uses t)
+  of_casted (IrType.Array r) f g = based r.base (base_asked r f) g
+  of_casted _ f g = All-nil Q
+
+  -- the helper that sets an item
+  set : (t : IrType) → Q (object_binding (element_setter t))
+  set IrType.Undefined = helped helpers.Set
+  set IrType.Boolean = helped helpers.Set
+  set IrType.Char = helped helpers.Set
+  set IrType.Byte = helped helpers.Set
+  set IrType.Short = helped helpers.Set
+  set IrType.Int = helped helpers.Set
+  set IrType.Long = helped helpers.Set
+  set IrType.String = helped helpers.Set
+  set IrType.Null = helped helpers.Set
+  set _ = helped helpers.Put
 
   box : Q (object_binding (codes "$C"))
   box = helped helpers.BoxedChar
 
   -- a tree that is written brings what is declared
   abbrev IsBrought : Term → Type 0
-  IsBrought t = Called any_object t → UsesNoArrays t → Brings Q runs box (sure_locals e.its_body) t
+  IsBrought t = Called any_object t → Brings Q runs box (sure_locals e.its_body) t
 
   brings : (t : Term) → Contains (trees e.its_body) t → Stands (MeetsThere w e.definition.namespace) t → IsBrought t
-  brings (apply p r m ts t) among s called a = (applied p r m ts t among called, λ u. helped helpers.NotNull)
-  brings (apply_static p c n m ts t) among s calls a = λ u. called (member c n m) (asked (apply_static p c n m ts t) among (Static (member c n m)) (here (Static (member c n m)) []))
-  brings (apply_statically p r c n m ts t) among s calls a = (λ u. received n c m (λ o h. asked (apply_statically p r c n m ts t) among o (Contains-append_left (of_static_call c n m) (of_receiver (sure_among [] (trees e.its_body)) r) o h)), λ u. helped helpers.NotNull)
-  brings (new_object p c m ts) among s calls a =
+  brings (apply p r m ts t) among s called = (applied p r m ts t among called, λ u. helped helpers.NotNull)
+  brings (apply_static p c n m ts t) among s calls = λ u. called (member c n m) (asked (apply_static p c n m ts t) among (Static (member c n m)) (here (Static (member c n m)) []))
+  brings (apply_statically p r c n m ts t) among s calls = (λ u. received n c m (λ o h. asked (apply_statically p r c n m ts t) among o (Contains-append_left (of_static_call c n m) (of_receiver (sure_among [] (trees e.its_body)) r) o h)), λ u. helped helpers.NotNull)
+  brings (new_object p c m ts) among s calls =
       let r = asked (new_object p c m ts) among (New c m) (here (New c m) []) in
       (λ u. d.functions (member c Constructor m) (closed w entries (Body (member c Constructor m)) (asked_body (member c Constructor m) (of_new c m r))), λ u. d.made c (closed w entries (Made c) (new_made c m r)))
-  brings (select p r c f t) among s calls a = λ u. helped helpers.NotNull
-  brings (select_static p c f t) among s calls a =
+  brings (select p r c f t) among s calls = λ u. helped helpers.NotNull
+  brings (select_static p c f t) among s calls =
       let its = d.statics c f t s.asked (closed w entries (NeededField c f true) (field_needed c f true (asked (select_static p c f t) among (Field c f true) (here (Field c f true) [])))) in
       (λ u. its.0, λ u. its.1)
-  brings (load_module p c) among s calls a = λ u. d.loads c (formed (load_module p c) among (forms.Load c) (here (forms.Load c) [])) (closed w entries (Needed c) (load_needed c (asked (load_module p c) among (Load c) (here (Load c) []))))
-  brings (store_module p c x) among s calls a = λ u. stored p c x among
-  brings (assign p (array_select q r x t) v) among s calls a = absurd a
-  brings (new_array p r x) among s calls a = absurd a
-  brings (array_value p r ts) among s calls a = absurd a
-  brings (array_length p r) among s calls a = λ u. helped helpers.NotNull
-  brings (array_select p r x t) among s calls a = absurd a
-  brings (is_instance_of p r t) among s calls a = (tested t (asked (is_instance_of p r t) among) (formed (is_instance_of p r t) among), of_base t a.1)
-  brings (as_instance_of p r t) among s calls a = (casted t (λ o h. asked (as_instance_of p r t) among o (Contains-append_left (of_type t) (if is_any t then [] else class_cast) o h)) (formed (as_instance_of p r t) among), of_base t a.1)
-  brings (binary_op p o x y) among s calls a = (λ n. divided o, always o)
-  brings t among s calls a = tt
+  brings (load_module p c) among s calls = λ u. d.loads c (formed (load_module p c) among (forms.Load c) (here (forms.Load c) [])) (closed w entries (Needed c) (load_needed c (asked (load_module p c) among (Load c) (here (Load c) []))))
+  brings (store_module p c x) among s calls = λ u. stored p c x among
+  brings (assign p (array_select q r x t) v) among s calls = set t
+  brings (new_array p r x) among s calls = (helped helpers.MakeArray, based r.base (base_asked r (λ o h. asked (new_array p r x) among o (Contains-append_left (of_array r) negative_size o h))) (formed (new_array p r x) among))
+  brings (array_value p r ts) among s calls = (helped helpers.ArrayClass, based r.base (base_asked r (asked (array_value p r ts) among)) (formed (array_value p r ts) among))
+  brings (array_length p r) among s calls = λ u. helped helpers.NotNull
+  brings (array_select p r x t) among s calls = (helped helpers.Get, λ u. helped helpers.NotNull)
+  brings (is_instance_of p r t) among s calls = (tested t (asked (is_instance_of p r t) among) (formed (is_instance_of p r t) among), of_tested t (asked (is_instance_of p r t) among) (formed (is_instance_of p r t) among))
+  brings (as_instance_of p r t) among s calls =
+      let ask : (o : Info) → Contains (of_type t) o → Asked o = λ o h. asked (as_instance_of p r t) among o (Contains-append_left (of_type t) (if is_any t then [] else class_cast) o h) in
+      (casted t ask (formed (as_instance_of p r t) among), of_casted t ask (formed (as_instance_of p r t) among))
+  brings (binary_op p o x y) among s calls = (λ n. divided o, always o)
+  brings t among s calls = tt
 
   completed_in : (n : Namespace) (ss : core.Statements) → All Q (uses_of_all runs ss) → All Q (uses_of_all runs (completed n ss))
   completed_in Constructor ss h = followed_in Q runs box ss (core.statement (core.return_of None (core.variable_use core.receiver)) core.no_statements) h (All-nil Q)
@@ -303,8 +324,7 @@ module _ (entries : List EntryPoint) (files : List SourceFile) (l : Linked) (all
       let stands = subst (λ (b : Term). All (Stands (MeetsThere w e.definition.namespace)) (trees b)) same (each_stands (MeetsThere w e.definition.namespace) typed.body [] 0 typed.met) in
       let brought = each_written IsBrought body (all_from IsBrought (trees body) (λ t among. brings t among (all_at (Stands (MeetsThere w e.definition.namespace)) (trees body) stands t among))) in
       let is_one = (and_parts (may_make any_object (body_boxes e.definition body)) (is_built any_object (λ t. true) body) (built e i)).1 in
-      let called_so = with_each (Called any_object) (λ (t : Term). UsesNoArrays t → Brings Q runs box (sure_locals body) t) (written body) brought (each_called any_object (λ t. true) body is_one) in
-      let each = with_each UsesNoArrays (Brings Q runs box (sure_locals body)) (written body) called_so (without_arrays body is_one) in
+      let each = with_each (Called any_object) (Brings Q runs box (sure_locals body)) (written body) brought (each_called any_object (λ t. true) body is_one) in
       once_in Q [] (uses_of_all runs (desugared_member e.definition body).body) (completed_in e.definition.namespace (body_code (is_mutable_in e.definition body) e.definition.result body) (tree Q runs box (sure_locals body) (is_mutable_in e.definition body) body each [] (result_destination e.definition.result) 1))
 
   pub function_uses : (b : Binding) → Contains used b → IsDeclared ps b

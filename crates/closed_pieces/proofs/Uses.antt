@@ -71,7 +71,7 @@ module _ (entries : List EntryPoint) (files : List SourceFile) (l : Linked) (all
   declared : (q : Piece) → Stands l all ps p q → (b : Binding) → Contains q.uses b → IsDeclared ps b
   declared q (own c parts are there i) b u = class_uses_declared entries l p.helpers ps d holds methods superclasses c parts (class_found l.world c parts.class are.class_is).1 are (λ r j. from_blocks l all ps p r (there r j)) q i (helped q (there q i)) b u
   declared q (method e i j same) b u = function_uses entries files l all p.helpers ps a bodies objects d e i (helped (piece_of_member l.world e) (subst (Contains (in_blocks l all ps p)) (sym same) j)) (apart e (subst (Contains (in_blocks l all ps p)) (sym same) j)) (by_name e (subst (Contains (in_blocks l all ps p)) (sym same) j)) (a_storer entries files l all ps bytes a bodies exact p e i) b (subst (λ (r : Piece). Contains r.uses b) (sym same) u)
-  declared q (helps h i same) b u = helper_uses_declared entries files l all ps a bodies holds objects p d h i b (subst (λ (r : Piece). Contains r.uses b) (sym same) u)
+  declared q (helps h i same) b u = helper_uses_declared entries files l all ps a bodies holds bytes p d h i b (subst (λ (r : Piece). Contains r.uses b) (sym same) u)
   declared q (tells i o) b u = told_uses_declared entries l p.helpers ps d holds o.method q o.is_piece (telling q i) b u
   declared q (names i o) b u = name_uses_declared entries l p.helpers ps d holds o.method q o.is_piece (telling q i) b u
 

@@ -58,4 +58,4 @@ made_by_files p (g ∷ fs) f is s front end runs last a y h = let k = each (afte
 
 -- what stands on the heap marks the classes above its own, where each object that is declared is the constants of a class
 pub marks_ancestors : (w : Classes) (ls : List Placed) → ((f x : Name) (ps : List Property) → Contains ls (placed f (object_item x ps)) → AreConstants w ps) → (own : Name → Option Value) → OfPlaced ls (plain [] own) → MarksAncestors w own
-marks_ancestors w ls each_are own (of_placed f x ps _ i literal) = let k = each_are f x ps i in marks_above w k.class k.ancestors own k.above (subst (λ (qs : List Property). literal_properties qs no_properties ≡ Some own) k.are literal)
+marks_ancestors w ls each_are own (of_placed f x ps _ i literal) = let k = each_are f x ps i in marks_above w k.class k.ancestors own k.known k.above (subst (λ (qs : List Property). literal_properties qs no_properties ≡ Some own) k.are literal)

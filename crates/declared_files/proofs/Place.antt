@@ -1,5 +1,5 @@
 -- Files that declare what can be used: their state behind the declarations stands for the opening of the IR, and they have what objects ask.
-use Rattle.std.specs.Prelude.{is_some, not, ◌||◌}
+use Rattle.std.specs.Prelude.{is_some, not}
 use Rattle.std.proofs.Common.{◌≡◌, ◌≤◌, ℕ, suc, Bool, true, false, List, [], ◌∷◌, ◌++◌, length, map, slice_get, refl, sym, ap, ◌∙◌, subst, Contains, inl, inr, ⊎_elim, Option, Some, None, cond, codes, arith, if◌then◌else◌}
 use Rattle.body_rules.proofs.Lists.{nothing_in, in_front_or_behind, at_front, further_on}
 use Rattle.built_forms.proofs.Statics.{set_static, static_among, store_cell}
@@ -8,13 +8,14 @@ use Rattle.file_declarations.proofs.Fields.{fields_differ, begins, statics_diffe
 use Rattle.file_declarations.proofs.Items.{IsClassItem, alone as class_alone, extending, code_found, members_found}
 use Rattle.file_declarations.proofs.Begun.{marker_held, same_classes, chain_length, zero_literal_is}
 use Rattle.file_declarations.specs.Declarations.{behind}
-use Rattle.file_declarations.specs.Declared.{Running, alone as by_itself, on_receiver, completing, running, is_covered}
+use Rattle.file_declarations.specs.Declared.{Running, alone as by_itself, on_receiver, completing, running}
 use Rattle.file_tops.proofs.Run.{some_same}
 use Rattle.file_tops.specs.Tops.{literal_value, link}
 use Rattle.body_soundness.specs.Targets.{IsTargetOf}
-use Rattle.helper_rules.specs.Helpers.{helper_name, helper_item, used_helpers, constants, box_constructor}
-use Rattle.helper_rules.specs.Words.{class_name, constants_name, kind_class, entry_name, first_parameters, parameters_of, units_of}
-use Rattle.helper_rules.specs.declared.kinds.Failure.TheVariants.{NullReceiver, Division, Cast, Method}
+use Rattle.helper_rules.specs.Helpers.{failure_class, helper_name, helper_item, tests_and_constants, used_helpers, constants, box_constructor}
+use Rattle.helper_rules.specs.Words.{class_name, constants_name, kind_class, object_class, worded_kinds, entry_name, first_parameters, parameters_of, units_of}
+use Rattle.helper_rules.specs.declared.kinds.Failure.{Failure}
+use Rattle.helper_rules.specs.declared.kinds.Failure.TheVariants.{NullReceiver, Division, Cast, Index, Method, Size, Store}
 use Rattle.helper_rules.specs.declared.kinds.Helper.{Helper}
 use Rattle.helper_rules.specs.declared.kinds.Helper.TheVariants as helpers
 use Rattle.helper_rules.specs.declared.kinds.Kind.{Kind}
@@ -40,18 +41,19 @@ use Rattle.file_declarations.specs.ClassCastsClasses.{class_cast_code, hijacked_
 use Rattle.file_declarations.specs.Tests.{class_test_code}
 use Rattle.file_declarations.proofs.Casting.{cast_named}
 use Rattle.file_declarations.proofs.Testing.{test_named}
-use Rattle.file_declarations.specs.Helpers.{ReachesBoxes, ReachesTest, ClassTest, by_marker, by_kind, CanTest, Tested, of_kind, of_class, CanCompare, helper_code, HelperStands, BoxStands, failing_code, checking_code, division_code}
+use Rattle.file_declarations.specs.Helpers.{ReachesBoxes, ReachesHelper, ReachesTest, ReachesThrower, ClassTest, by_marker, by_kind, CanTest, CanCompare, helper_code, HelperStands, BoxStands, failing_code, checking_code, division_code}
 use Rattle.file_declarations.specs.ClassTestsKinds.{dispatch_code}
 use Rattle.file_declarations.specs.Dispatch.{Told, dispatch_item, dispatch_name, Reflected, reflective_item, reflective_name}
-use Rattle.file_declarations.specs.Looked.{RunsTarget, CaseRuns, KindsRun, no_kinds, some_kinds, LooksUpThere}
+use Rattle.file_declarations.specs.Looked.{RunsTarget, FindsTarget, CaseRuns, KindsRun, no_kinds, some_kinds, LooksUpThere}
 use Rattle.file_declarations.specs.Reflected.{ObjectAnswers, no_entry, has_entry, ReflectedRuns, KindAnswers, no_case, has_case, ReflectionStands}
 use Rattle.file_declarations.specs.Reflecting.{reflective_code, proxy_code}
-use Rattle.file_declarations.specs.Made.{zero_value}
+use Rattle.file_declarations.specs.Made.{zero_shown}
 use Rattle.file_declarations.specs.Methods.{Linked, parameters_in, function_of}
 use Rattle.file_declarations.specs.Names.{emitted_in}
 use Rattle.file_declarations.specs.Objects.{RunsOn, Constructs, function_on, body_of}
 use Rattle.file_declarations.specs.Objects as on_objects
-use Rattle.file_declarations.specs.Worlds.{NoArrays, IsMade, CanCheck, CanDivide, ThrowsCast, CanCast, CanCastClass, Casted, to_kind, to_class, StaticStands, setter_code, CellStands, StoreStands, LoadStands, HasObjects}
+use Rattle.file_declarations.specs.Arrays.{CanGiveArrays, ReachesArrays, CanMakeArrays, ChecksIndex, TellsClasses, TellsItems, CanPut, CanTestArrays, array_members}
+use Rattle.file_declarations.specs.Worlds.{IsMade, CanCheck, CanDivide, Tested, of_kind, of_class, of_array, ThrowsCast, CanCast, CanCastClass, Casted, to_kind, to_class, to_array, StaticStands, setter_code, CellStands, StoreStands, LoadStands, HasObjects}
 use Rattle.sj_core.specs.Terms.{named, receiver}
 use Rattle.sj_desugar.specs.Desugar.{is_mutable_in, names_of, body_code, completed, desugared_member, member}
 use Rattle.sj_emit_expr.specs.Members.{with_receiver, member_piece}
@@ -63,12 +65,12 @@ use Rattle.sj_names.specs.declared.references.ArrayRef.{ArrayRef}
 use Rattle.sj_names.specs.MethodNames.{spelled_method}
 use Rattle.sj_names.specs.declared.references.TypeRef.{TypeRef}
 use Rattle.js_mean.specs.Proper.{is_among, are_distinct}
-use Rattle.std.proofs.lemmas.Bool.{and_parts}
+use Rattle.std.proofs.lemmas.Bool.{and_parts, or_cases}
 use Rattle.sj_names.specs.declared.method_names.Member.{Member as MemberName}
 use Rattle.sj_names.specs.declared.method_names.MethodName.{MethodName}
 use Rattle.sj_names.specs.declared.method_names.Namespace.{Namespace}
 use Rattle.sj_names.specs.declared.method_names.Namespace.TheVariants.{Public, PublicStatic, Private, PrivateStatic, Constructor}
-use Rattle.file_declarations.specs.Settings.{Place, Top, a_function, a_method, a_constructor, a_dispatch, a_reflection, a_class, some_constants, a_static, a_setter, a_cell, a_loader, a_storer, cell_name, a_test, a_cast, a_helper, top_name, is_usable, IsField, HasField, Holding, holding, HoldsConstants, TopHolds, SameHeap, SameState, Reaches, link_of, box_link, division_helper}
+use Rattle.file_declarations.specs.Settings.{Place, Top, a_function, a_method, a_constructor, a_dispatch, a_reflection, a_class, some_constants, a_static, a_setter, a_cell, a_loader, a_storer, cell_name, a_test, a_cast, a_helper, top_name, is_usable, IsField, HasField, Holding, holding, HoldsConstants, TopHolds, SameHeap, SameState, MadeSomewhere, Reaches, array_links, link_of, links_of, box_link, division_helper}
 use Rattle.file_declarations.specs.SjPlainWorlds.{World, SameValue}
 use Rattle.file_declarations.specs.Modules.{loader_code, storer_code}
 use Rattle.sj_names.specs.Same.{is_same_text}
@@ -84,7 +86,7 @@ use Rattle.sj_trees.specs.declared.types.IrType.{IrType}
 use Rattle.sj_trees.specs.declared.types.IrType.TheVariants.{Any, Array, Class}
 use Rattle.built_forms.specs.Built.{Usable}
 use Rattle.declared_files.specs.Declared as declared
-use Rattle.declared_files.specs.Declared.{Spread, all_items, Stands, FunctionDeclared, ClassDeclared, ChainDeclared, KindTestDeclared, ClassTestDeclared, TestDeclared, CastThrows, KindCastDeclared, ClassCastDeclared, CastDeclared, TargetDeclared, EntryDeclared, CaseDeclared, KindsDeclared, ReflectedDeclared, ReflectedKind, NoEntryDeclared, ProxyDeclared, AnswerDeclared, BoxesDeclared, Declared, IsLawful}
+use Rattle.declared_files.specs.Declared.{Spread, all_items, Stands, FunctionDeclared, ClassDeclared, ConstantsDeclared, ChainDeclared, KindTestDeclared, ClassTestDeclared, TestDeclared, KindCastDeclared, ClassCastDeclared, CastDeclared, TargetDeclared, EntryDeclared, CaseDeclared, KindsDeclared, ReflectedDeclared, ReflectedKind, NoEntryDeclared, ProxyDeclared, AnswerDeclared, BoxesDeclared, Declared, IsLawful}
 use Rattle.declared_files.specs.Placed.{Placed, placed, Holds, AllHold, OfPlaced, RunInOrder}
 use Rattle.declared_files.proofs.Made.{marks_ancestors}
 use Rattle.declared_files.proofs.Tops.{good_module, stands_in, all_pass, HasModule}
@@ -95,15 +97,27 @@ held_among : (p : js.Program) (t : js.State) (ls : List Placed) (n : ℕ) → Al
 held_among p t [] n h l c = nothing_in l c
 held_among p t (m ∷ ms) n h l c = ⊎_elim (λ same. (n, subst (λ (o : Placed). Holds p t n o.file o.item) same h.0)) (λ later. held_among p t ms (behind n m.item) h.1 l later) (in_front_or_behind m ms l c)
 
--- what is of a class that is live or the base of arrays, where none is such a base
-pub live_alone : (live base : Bool) → base ≡ false → (live || base) ≡ true → live ≡ true
-live_alone true base none h = refl
-live_alone false base none h = impossible (sym none ∙ h)
+-- a helper tests for each of these kinds, and names the constants of its class
+both_used : (ks : List Kind) (k : Kind) → Contains ks k → Contains (tests_and_constants ks) (helpers.TestOf k) × Contains (tests_and_constants ks) (helpers.ConstantsOf k)
+both_used [] k i = nothing_in k i
+both_used (j ∷ js) k i = ⊎_elim first (λ c. later (both_used js k c)) (in_front_or_behind j js k i)
+  where
+    rest : List Helper
+    rest = tests_and_constants js
+
+    first : j ≡ k → Contains (tests_and_constants (j ∷ js)) (helpers.TestOf k) × Contains (tests_and_constants (j ∷ js)) (helpers.ConstantsOf k)
+    first e = (subst (λ (q : Kind). Contains (tests_and_constants (j ∷ js)) (helpers.TestOf q)) e (at_front (helpers.TestOf j) (helpers.ConstantsOf j ∷ rest)), subst (λ (q : Kind). Contains (tests_and_constants (j ∷ js)) (helpers.ConstantsOf q)) e (further_on (helpers.TestOf j) (helpers.ConstantsOf j ∷ rest) (helpers.ConstantsOf j) (at_front (helpers.ConstantsOf j) rest)))
+
+    behind_two : (h : Helper) → Contains rest h → Contains (tests_and_constants (j ∷ js)) h
+    behind_two h c = further_on (helpers.TestOf j) (helpers.ConstantsOf j ∷ rest) h (further_on (helpers.ConstantsOf j) rest h c)
+
+    later : Contains rest (helpers.TestOf k) × Contains rest (helpers.ConstantsOf k) → Contains (tests_and_constants (j ∷ js)) (helpers.TestOf k) × Contains (tests_and_constants (j ∷ js)) (helpers.ConstantsOf k)
+    later r = (behind_two (helpers.TestOf k) r.0, behind_two (helpers.ConstantsOf k) r.1)
 
 module _ (z : Spread) where
   -- each chain has room, and so has a helper
   abbrev pub room : Room
-  room = record { each = 3; beyond = suc (longest z.classes) }
+  room = record { each = 5; beyond = suc (longest z.classes) }
 
   abbrev pub place : Place
   place = emitted_in z.classes z.program z.home z.has room
@@ -184,6 +198,7 @@ module _ (z : Spread) where
       reached = k.leads;
       user = k.user;
       usable = k.there;
+      no_char = k.no_char;
     }
 
     abbrev chain_stands : (cs : List Name) → ChainDeclared z cs → chains.ChainStands place cs
@@ -258,7 +273,25 @@ module _ (z : Spread) where
 
     -- helpers
     helper_there : (f : Name) (h : Helper) → (z.has f).helper (helper_name h) ≡ true → Stands z (a_helper h) (helper_item can.ancestors h)
-    helper_there f h l = (can.helper f h l).1
+    helper_there f h l = can.helper f h l
+
+    -- one that is a function, and a file whose code can use it
+    helper_stands : (f : Name) (h : Helper) → helper_item can.ancestors h ≡ function_item (helper_name h) (helper_code h).parameters (helper_code h).body → (z.has f).helper (helper_name h) ≡ true → HelperStands place h (helper_code h)
+    helper_stands f h e l = function_there (z.home (a_helper h)) (helper_name h) (helper_code h).parameters (helper_code h).body (subst (Stands z (a_helper h)) e (helper_there f h l))
+
+    reaches_helper : (g : Name) (h : Helper) → helper_item can.ancestors h ≡ function_item (helper_name h) (helper_code h).parameters (helper_code h).body → (z.has g).helper (helper_name h) ≡ true → ReachesHelper place g h
+    reaches_helper g h e l = record { stands = helper_stands g h e l; owned = reaches g (a_helper h) l; user = g; usable = l }
+
+    reaches_thrower : (g : Name) (x : Failure) → (z.has g).helper (helper_name (helpers.Throws x)) ≡ true → ReachesThrower place g (helpers.Throws x) (failure_class x)
+    reaches_thrower g x l = let k = can.failures g x l in record {
+      failure = helper_stands g (helpers.Throws x) refl l;
+      owned = reaches g (a_helper (helpers.Throws x)) l;
+      user = g;
+      usable = l;
+      reaches = reaches (z.home (a_helper (helpers.Throws x)));
+      built = k.1;
+      made = k.0;
+    }
 
     module _ (all : Usable) (laws : IsLawful z all) where
       object_here : (f c : Name) → (z.has f).made c ≡ true → is_hijacked c ≡ false
@@ -297,8 +330,8 @@ module _ (z : Spread) where
         owned = reaches g (a_helper (helpers.Throws NullReceiver)) t;
         held = λ y s u same. same.tops g (a_helper (helpers.Throws NullReceiver)) t;
         reaches = reaches (z.home (a_helper (helpers.Throws NullReceiver)));
-        built = (can.exceptions f l).1;
-        made = (can.exceptions f l).0;
+        built = (can.failures g NullReceiver t).1;
+        made = (can.failures g NullReceiver t).0;
       }
 
       divide_here : (f : Name) (o : BinaryOp) → (z.has (z.home (a_helper (division_helper o)))).helper (helper_name (helpers.Throws Division)) ≡ true → HelperStands place (division_helper o) (division_code o) → divides (z.has f) o ≡ true → CanDivide place o
@@ -308,8 +341,8 @@ module _ (z : Spread) where
         owned = reaches g (a_helper (helpers.Throws Division)) t;
         held = λ y s u same. same.tops g (a_helper (helpers.Throws Division)) t;
         reaches = reaches (z.home (a_helper (helpers.Throws Division)));
-        built = (can.divisions f o d).1;
-        made = (can.divisions f o d).0;
+        built = (can.failures g Division t).1;
+        made = (can.failures g Division t).0;
       }
 
       throws_too : (f : Name) (h : Helper) → (z.has f).helper (helper_name h) ≡ true → Contains (used_helpers h) (helpers.Throws Division) → (z.has (z.home (a_helper h))).helper (helper_name (helpers.Throws Division)) ≡ true
@@ -357,23 +390,108 @@ module _ (z : Spread) where
         boxes = λ e. subst (ReachesBoxes place) (sym d.home) (test_boxes_here f d.kind d.helper e);
       }
 
+      -- the class of arrays
+      arrays_here : (f h : Name) → (z.has f).helper (helper_name helpers.ArrayClass) ≡ true → (z.has h).arrays ≡ true → CanGiveArrays place
+      arrays_here f h l arrays = let d = can.arrays f l in let g = z.home (a_helper helpers.ArrayClass) in let made = d.made h arrays in record {
+        members_are = members_there g (helper_name helpers.ArrayClass) array_members (helper_item can.ancestors helpers.ArrayClass) (extending (class_name object_class)) (helper_there f helpers.ArrayClass l);
+        alone = d.alone;
+        top = made_here g object_class made;
+        somewhere = record { maker = h; can = arrays; file = f; made = l };
+        made = record { file = g; made = made };
+      }
+
+      reaches_arrays : (g : Name) → (z.has g).helper (helper_name helpers.ArrayClass) ≡ true → ReachesArrays place g
+      reaches_arrays g l = record { owned = reaches g (a_helper helpers.ArrayClass) l; user = g; usable = l }
+
+      array_test_here : (f : Name) (r : ArrayRef) → z.home (a_test (Array r)) ≡ z.home (a_helper helpers.TestOfArray) → (z.has f).helper (helper_name helpers.TestOfArray) ≡ true → CanTestArrays place r
+      array_test_here f r home l = let g = z.home (a_helper helpers.TestOfArray) in record {
+        home = home;
+        stands = helper_stands f helpers.TestOfArray refl l;
+        arrays = reaches_arrays g (can.helpers f helpers.TestOfArray helpers.ArrayClass l (at_front helpers.ArrayClass (helpers.Covers ∷ [])));
+        covers = reaches_helper g helpers.Covers refl (can.helpers f helpers.TestOfArray helpers.Covers l (further_on helpers.ArrayClass (helpers.Covers ∷ []) helpers.Covers (at_front helpers.Covers [])));
+      }
+
+      makes_here : (f : Name) → (z.has f).helper (helper_name helpers.MakeArray) ≡ true → CanMakeArrays place
+      makes_here f l = let g = z.home (a_helper helpers.MakeArray) in record {
+        stands = helper_stands f helpers.MakeArray refl l;
+        arrays = reaches_arrays g (can.helpers f helpers.MakeArray helpers.ArrayClass l (further_on (helpers.Throws Size) (helpers.ArrayClass ∷ []) helpers.ArrayClass (at_front helpers.ArrayClass [])));
+        throws = reaches_thrower g Size (can.helpers f helpers.MakeArray (helpers.Throws Size) l (at_front (helpers.Throws Size) (helpers.ArrayClass ∷ [])));
+      }
+
+      -- a helper that checks an index
+      index_here : (f : Name) (h : Helper) → helper_item can.ancestors h ≡ function_item (helper_name h) (helper_code h).parameters (helper_code h).body → Contains (used_helpers h) helpers.CheckIndex → (z.has f).helper (helper_name h) ≡ true → ChecksIndex place h
+      index_here f h e u l =
+          let its_check = can.helpers f h helpers.CheckIndex l u in
+          let g = z.home (a_helper h) in
+          record {
+            stands = helper_stands f h e l;
+            check = reaches_helper g helpers.CheckIndex refl its_check;
+            throws = reaches_thrower (z.home (a_helper helpers.CheckIndex)) Index (can.helpers g helpers.CheckIndex (helpers.Throws Index) its_check (at_front (helpers.Throws Index) []));
+          }
+
+      gets_here : (f : Name) → (z.has f).helper (helper_name helpers.Get) ≡ true → ChecksIndex place helpers.Get
+      gets_here f l = index_here f helpers.Get refl (at_front helpers.CheckIndex []) l
+
+      sets_here : (f : Name) → (z.has f).helper (helper_name helpers.Set) ≡ true → ChecksIndex place helpers.Set
+      sets_here f l = index_here f helpers.Set refl (at_front helpers.CheckIndex []) l
+
+      -- the helper that tells the class of a value
+      classes_here : (f : Name) → (z.has f).helper (helper_name helpers.ClassOf) ≡ true → TellsClasses place
+      classes_here f l = let g = z.home (a_helper helpers.ClassOf) in record {
+        tests = λ k i. reaches_test g k (can.helpers f helpers.ClassOf (helpers.TestOf k) l (both_used worded_kinds k i).0);
+        constants = λ k i. let u = can.helpers f helpers.ClassOf (helpers.ConstantsOf k) l (both_used worded_kinds k i).1 in record { owned = reaches g (a_helper (helpers.ConstantsOf k)) u; user = g; usable = u };
+      }
+
+      -- the helper that tells whether a value may be an item
+      items_here : (f : Name) → (z.has f).helper (helper_name helpers.Fits) ≡ true → TellsItems place
+      items_here f l = record {
+        arrays = reaches_arrays g (its helpers.ArrayClass (at_front helpers.ArrayClass behind_arrays));
+        covers = reaches_helper g helpers.Covers refl (its helpers.Covers (further_on helpers.ArrayClass behind_arrays helpers.Covers (at_front helpers.Covers behind_covers)));
+        byte = reaches_helper g (helpers.TestOf kinds.Byte) refl (its (helpers.TestOf kinds.Byte) (further_on helpers.ArrayClass behind_arrays (helpers.TestOf kinds.Byte) (further_on helpers.Covers behind_covers (helpers.TestOf kinds.Byte) (at_front (helpers.TestOf kinds.Byte) behind_bytes))));
+        short = reaches_helper g (helpers.TestOf kinds.Short) refl (its (helpers.TestOf kinds.Short) (further_on helpers.ArrayClass behind_arrays (helpers.TestOf kinds.Short) (further_on helpers.Covers behind_covers (helpers.TestOf kinds.Short) (further_on (helpers.TestOf kinds.Byte) behind_bytes (helpers.TestOf kinds.Short) (at_front (helpers.TestOf kinds.Short) behind_shorts)))));
+        class_of = reaches_helper g helpers.ClassOf refl tells;
+        classes = classes_here g tells;
+      }
+        where
+          g : Name
+          g = z.home (a_helper helpers.Fits)
+
+          behind_shorts : List Helper
+          behind_shorts = helpers.ClassOf ∷ []
+
+          behind_bytes : List Helper
+          behind_bytes = helpers.TestOf kinds.Short ∷ behind_shorts
+
+          behind_covers : List Helper
+          behind_covers = helpers.TestOf kinds.Byte ∷ behind_bytes
+
+          behind_arrays : List Helper
+          behind_arrays = helpers.Covers ∷ behind_covers
+
+          its : (k : Helper) → Contains (used_helpers helpers.Fits) k → (z.has g).helper (helper_name k) ≡ true
+          its k i = can.helpers f helpers.Fits k l i
+
+          tells : (z.has g).helper (helper_name helpers.ClassOf) ≡ true
+          tells = its helpers.ClassOf (further_on helpers.ArrayClass behind_arrays helpers.ClassOf (further_on helpers.Covers behind_covers helpers.ClassOf (further_on (helpers.TestOf kinds.Byte) behind_bytes helpers.ClassOf (further_on (helpers.TestOf kinds.Short) behind_shorts helpers.ClassOf (at_front helpers.ClassOf [])))))
+
+      puts_here : (f : Name) → (z.has f).helper (helper_name helpers.Put) ≡ true → CanPut place
+      puts_here f l =
+          let g = z.home (a_helper helpers.Put) in
+          let fits = can.helpers f helpers.Put helpers.Fits l (further_on helpers.CheckIndex (helpers.Fits ∷ helpers.Throws Store ∷ []) helpers.Fits (at_front helpers.Fits (helpers.Throws Store ∷ []))) in
+          record {
+            index = index_here f helpers.Put refl (at_front helpers.CheckIndex (helpers.Fits ∷ helpers.Throws Store ∷ [])) l;
+            fits = reaches_helper g helpers.Fits refl fits;
+            items = items_here g fits;
+            throws = reaches_thrower g Store (can.helpers f helpers.Put (helpers.Throws Store) l (further_on helpers.CheckIndex (helpers.Fits ∷ helpers.Throws Store ∷ []) (helpers.Throws Store) (further_on helpers.Fits (helpers.Throws Store ∷ []) (helpers.Throws Store) (at_front (helpers.Throws Store) []))));
+          }
+
       tested_here : (f : Name) (t : IrType) → (z.has f).tests t ≡ true → Tested place t
       tested_here f t l = by_declaration t (can.tests f t l)
         where
           by_declaration : (t : IrType) → TestDeclared z f t → Tested place t
           by_declaration _ (declared.of_kind t d) = of_kind t (kind_tested_here f t d)
           by_declaration _ (declared.of_class c d) = of_class c (class_test_here c d)
-
-      throws_cast : (g : Name) → (z.has g).helper (helper_name (helpers.Throws Cast)) ≡ true → CastThrows z → ThrowsCast place g
-      throws_cast g l can_throw = record {
-        failure = function_there (z.home (a_helper (helpers.Throws Cast))) (helper_name (helpers.Throws Cast)) (helper_code (helpers.Throws Cast)).parameters (helper_code (helpers.Throws Cast)).body (helper_there g (helpers.Throws Cast) l);
-        owned = reaches g (a_helper (helpers.Throws Cast)) l;
-        user = g;
-        usable = l;
-        reaches = reaches (z.home (a_helper (helpers.Throws Cast)));
-        built = can_throw.built;
-        made = can_throw.made;
-      }
+          by_declaration _ (declared.of_array r d) = of_array r (array_test_here f r d.home d.helper)
 
       kind_cast_here : (f : Name) (t : IrType) → KindCastDeclared z f t → CanCast place t
       kind_cast_here f t d =
@@ -385,7 +503,7 @@ module _ (z : Spread) where
             its_kind = d.its_kind;
             cast = ap (js_meaning.code_of z.program (z.home (a_cast t))) (cast_named t d.kind d.its_kind) ∙ ap (λ x. js_meaning.code_of z.program x (helper_name (helpers.CastTo d.kind))) d.home ∙ function_there g (helper_name (helpers.CastTo d.kind)) (helper_code (helpers.CastTo d.kind)).parameters (helper_code (helpers.CastTo d.kind)).body (helper_there f (helpers.CastTo d.kind) d.helper);
             tests = subst (λ (x : Name). ReachesTest place x d.kind) (sym d.home) (reaches_test g d.kind its_test);
-            throws = subst (ThrowsCast place) (sym d.home) (throws_cast g thrower d.throws);
+            throws = subst (ThrowsCast place) (sym d.home) (reaches_thrower g Cast thrower);
           }
 
       class_cast_here : (c : Name) → ClassCastDeclared z c → CanCastClass place c
@@ -396,7 +514,7 @@ module _ (z : Spread) where
         owned = reaches g (a_test (Class c)) d.tests;
         user = g;
         usable = d.tests;
-        throws = throws_cast g d.thrower d.throws;
+        throws = reaches_thrower g Cast d.thrower;
       }
 
       cast_here : (f : Name) (t : IrType) → (z.has f).casts t ≡ true → Casted place t
@@ -405,6 +523,11 @@ module _ (z : Spread) where
           by_declaration : (t : IrType) → CastDeclared z f t → Casted place t
           by_declaration _ (declared.to_kind t d) = to_kind t (kind_cast_here f t d)
           by_declaration _ (declared.to_class c d) = to_class c (class_cast_here c d)
+          by_declaration _ (declared.to_array r d) =
+              let its_test = can.helpers f helpers.CastToArray helpers.TestOfArray d.helper (at_front helpers.TestOfArray (helpers.Throws Cast ∷ [])) in
+              let thrower = can.helpers f helpers.CastToArray (helpers.Throws Cast) d.helper (further_on helpers.TestOfArray (helpers.Throws Cast ∷ []) (helpers.Throws Cast) (at_front (helpers.Throws Cast) [])) in
+              let g = z.home (a_helper helpers.CastToArray) in
+              to_array r (record { home = d.home; stands = helper_stands f helpers.CastToArray refl d.helper; tests = array_test_here g r d.tests its_test; test = reaches_helper g helpers.TestOfArray refl its_test; throws = reaches_thrower g Cast thrower })
 
       case_runs : (m : MethodName) (t : Told) → CaseDeclared z m t → CaseRuns place m t
       case_runs m t d = record { told = d.told; test = reaches_test (z.home (a_dispatch m)) t.kind d.test; its = target_runs (a_dispatch m) (kind_class t.kind) m d.its; owner_is = d.owner_is }
@@ -421,6 +544,9 @@ module _ (z : Spread) where
         objects = λ o made below. let k = finds_along o m (chain_of z.classes o) (d.objects made.file o made.made below) in record { at = k.at; above = k.above; lookup = k.lookup; its = k.its; code = k.code; distinct = d.distinct };
         kinds = kinds_run c m ((z.has f).lookup.has_hijacked c) d.kinds;
       }
+
+      called_on_arrays : (f : Name) (m : MethodName) → (z.has f).on_arrays m ≡ true → MadeSomewhere place object_class → FindsTarget place object_class m
+      called_on_arrays f m l somewhere = let d = can.on_arrays f m l in let k = finds_along object_class m (chain_of z.classes object_class) (d.objects somewhere.file somewhere.made) in record { at = k.at; above = k.above; lookup = k.lookup; its = k.its; code = k.code; distinct = d.distinct }
 
       -- none of these classes has an entry of the name
       none_along : (m : MethodName) (cs : List Name) → NoEntryDeclared z m cs → method_on z.program (map (link_of place) cs) (entry_name m) ≡ None
@@ -469,7 +595,6 @@ module _ (z : Spread) where
       reflected_here f m l =
           let d = can.reflected f m l in
           let code = reflective_code m (units_of (spelled_method m)) d.cases in
-          let g = z.home (a_helper (helpers.Throws Method)) in
           let entries = (and_parts (not (is_among (parameters_of m) (codes "x"))) (are_distinct (parameters_of m)) d.distinct).1 in
           record {
             cases = d.cases;
@@ -480,15 +605,7 @@ module _ (z : Spread) where
             each = λ k told. kind_answers m d.cases k (d.each k told);
             objects = λ o made. answers_here o m entries (d.objects made.file o made.made);
             boxless = box_bare m d.boxes;
-            throws = record {
-              failure = function_there g (helper_name (helpers.Throws Method)) (helper_code (helpers.Throws Method)).parameters (helper_code (helpers.Throws Method)).body (helper_there (z.home (a_reflection m)) (helpers.Throws Method) d.thrower);
-              owned = reaches (z.home (a_reflection m)) (a_helper (helpers.Throws Method)) d.thrower;
-              user = z.home (a_reflection m);
-              usable = d.thrower;
-              reaches = reaches g;
-              built = d.built;
-              made = d.made;
-            };
+            throws = reaches_thrower (z.home (a_reflection m)) Method d.thrower;
           }
 
       compared_here : (f : Name) → compares (z.has f) ≡ true → CanCompare place
@@ -501,38 +618,8 @@ module _ (z : Spread) where
       target_here : (f : Name) (m : MemberName) → (z.has f).received ((z.has f).lookup.target m) ≡ true → IsTargetOf z.classes m ((z.has f).lookup.target m)
       target_here f m l = let same = (laws.among f).targets m in subst (IsTargetOf z.classes m) same (laws.objects.targets m (subst (λ (o : MemberName). all.received o ≡ true) (sym same) ((laws.among f).tops (a_method ((z.has f).lookup.target m)) l)))
 
-      -- no array is made
-      uncovered : (f : Name) (h : Helper) → is_covered h ≡ false → (b : Bool) → (z.has f).helper (helper_name h) ≡ b → (z.has f).helper (helper_name h) ≡ false
-      uncovered f h none true l = impossible (sym none ∙ (can.helper f h l).0)
-      uncovered f h none false l = l
-
-      no_test : {A : Type 0} (f : Name) (r : ArrayRef) → TestDeclared z f (Array r) → A
-      no_test f r (declared.of_kind _ d) = let e = d.its_kind in absurd (cc)
-
-      no_cast : {A : Type 0} (f : Name) (r : ArrayRef) → CastDeclared z f (Array r) → A
-      no_cast f r (declared.to_kind _ d) = let e = d.its_kind in absurd (cc)
-
-      untested : (f : Name) (r : ArrayRef) (b : Bool) → (z.has f).tests (Array r) ≡ b → (z.has f).tests (Array r) ≡ false
-      untested f r true l = no_test f r (can.tests f (Array r) l)
-      untested f r false l = l
-
-      uncast : (f : Name) (r : ArrayRef) (b : Bool) → (z.has f).casts (Array r) ≡ b → (z.has f).casts (Array r) ≡ false
-      uncast f r true l = no_cast f r (can.casts f (Array r) l)
-      uncast f r false l = l
-
-      no_arrays_here : (f : Name) → NoArrays (z.has f)
-      no_arrays_here f = record {
-        made = uncovered f helpers.MakeArray refl _ refl;
-        given = uncovered f helpers.ArrayClass refl _ refl;
-        got = uncovered f helpers.Get refl _ refl;
-        set = uncovered f helpers.Set refl _ refl;
-        put = uncovered f helpers.Put refl _ refl;
-        tested = λ r. untested f r _ refl;
-        cast = λ r. uncast f r _ refl;
-      }
-
       pub has_objects : HasObjects place
-      has_objects = record { linked = linked_here; received = runs_here; targets = target_here; looked = looked_here; reflected = reflected_here; built = constructs_here; made = made_here; lives = can.made; objects = object_here; field = field_here; statics = static_here; cells = cell_here; stores = store_here; loads = load_here; checked = check_here; divided = divided_here; boxes = box_here; tested = tested_here; cast = cast_here; compared = compared_here; no_arrays = no_arrays_here; each = omega arith; beyond = omega arith }
+      has_objects = record { linked = linked_here; received = runs_here; targets = target_here; looked = looked_here; reflected = reflected_here; built = constructs_here; made = made_here; lives = can.made; objects = object_here; field = field_here; statics = static_here; cells = cell_here; stores = store_here; loads = load_here; checked = check_here; divided = divided_here; boxes = box_here; tested = tested_here; cast = cast_here; compared = compared_here; gives = arrays_here; makes = makes_here; gets = gets_here; sets = sets_here; puts = puts_here; on_arrays = called_on_arrays; each = omega arith; beyond = omega arith }
 
     -- the state behind the declarations
     module _ (t : js.State) (hold : AllHold z.program t 0 (all_items z)) (made : (a : ℕ) (y : js.Stored) → slice_get t.heap a ≡ Some y → OfPlaced (all_items z) y) where
@@ -572,25 +659,36 @@ module _ (z : Spread) where
           let from : h.from ≡ z.home (a_class d) = some_same h.from (z.home (a_class d)) (sym h.owned ∙ to) in
           h.held ∙ ap (λ ls. js.holds false (js.class (link (z.home (a_class c)) (class_name c) ∷ ls))) (same_classes h.above (map (link_of place) (d ∷ ds)) (sym h.held_above ∙ ap (λ g. t.tops g (class_name d)) from ∙ class_held d ds rest))
 
-      constants_held : (c : Name) (superclass : Option Name) (k : ClassDeclared z c superclass) → HoldsConstants begun.owned c (t.tops (z.home (some_constants c)) (constants_name c))
-      constants_held c superclass k = let h = held_in (z.home (some_constants c)) (object_item (constants_name c) (constants c k.ancestors)) k.constants in record {
+      constants_held : (c : Name) → ConstantsDeclared z c → HoldsConstants begun.owned c (t.tops (z.home (some_constants c)) (constants_name c))
+      constants_held c k = let h = held_in (z.home (some_constants c)) (object_item (constants_name c) (constants c k.ancestors)) k.constants in record {
         address = h.0;
         constants = h.1.properties;
         held = h.1.held;
         owned_there = h.1.there;
         marked = marker_held c k.ancestors h.1.properties h.1.literal;
-        known = λ v. ap (λ o. object_shown o v) k.marked ∙ ap (λ (b : Bool). cond b (char_shown v) (Some (shown_ends.object_of c))) k.no_char;
+        known = λ no_char v. ap (λ o. object_shown o v) k.marked ∙ ap (λ (b : Bool). cond b (char_shown v) (Some (shown_ends.object_of c))) no_char;
       }
 
       first_constants : (c : Name) (cs : List Name) → ChainDeclared z (c ∷ cs) → HoldsConstants begun.owned c (t.tops (z.home (some_constants c)) (constants_name c))
-      first_constants _ _ (declared.extends_none c k) = constants_held c None k
-      first_constants _ _ (declared.extends_one c d ds k to rest) = constants_held c (Some d) k
+      first_constants _ _ (declared.extends_none c k) = constants_held c (record { ancestors = k.ancestors; constants = k.constants; marked = k.marked })
+      first_constants _ _ (declared.extends_one c d ds k to rest) = constants_held c (record { ancestors = k.ancestors; constants = k.constants; marked = k.marked })
 
-      helper_held : (h : Helper) → is_covered h ≡ true → Stands z (a_helper h) (helper_item can.ancestors h) → TopHolds place begun.owned (a_helper h) (t.tops (z.home (a_helper h)) (helper_name h))
-      helper_held (helpers.ConstantsOf kinds.Char) covered i = let h = held_in (z.home (a_helper (helpers.ConstantsOf kinds.Char))) (helper_item can.ancestors (helpers.ConstantsOf kinds.Char)) i in record { address = h.0; constants = h.1.properties; held = h.1.held; owned_there = h.1.there; marked = marker_held (codes "java.lang.Character") (can.ancestors kinds.Char) h.1.properties h.1.literal }
-      helper_held (helpers.ConstantsOf _) covered i = impossible covered
-      helper_held helpers.ArrayClass covered i = impossible covered
-      helper_held h covered i = (held_in (z.home (a_helper h)) (helper_item can.ancestors h) i).1
+      whole_class_held : (f c : Name) → (z.has f).live c ≡ true → t.tops (z.home (a_class c)) (class_name c) ≡ js.holds false (js.class (links_of place c))
+      whole_class_held f c l = let k = can.live f c l in class_held c k.above k.classes ∙ ap (λ cs. js.holds false (js.class (map (link_of place) cs))) (sym k.chain)
+
+      -- the class of arrays holds itself in front of that of all objects
+      arrays_held : (f : Name) → (z.has f).helper (helper_name helpers.ArrayClass) ≡ true → t.tops (z.home (a_helper helpers.ArrayClass)) (helper_name helpers.ArrayClass) ≡ js.holds false (js.class (array_links place))
+      arrays_held f l =
+          let g = z.home (a_helper helpers.ArrayClass) in
+          let d = can.arrays f l in
+          let h = (held_in g (helper_item can.ancestors helpers.ArrayClass) (can.helper f helpers.ArrayClass l)).1 in
+          let from : h.from ≡ z.home (a_class object_class) = some_same h.from (z.home (a_class object_class)) (sym h.owned ∙ can.leads g (a_class object_class) d.live) in
+          h.held ∙ ap (λ ls. js.holds false (js.class (link g (helper_name helpers.ArrayClass) ∷ ls))) (same_classes h.above (links_of place object_class) (sym h.held_above ∙ ap (λ (q : Name). t.tops q (class_name object_class)) from ∙ whole_class_held g object_class d.live))
+
+      helper_held : (f : Name) (h : Helper) → (z.has f).helper (helper_name h) ≡ true → TopHolds place begun.owned (a_helper h) (t.tops (z.home (a_helper h)) (helper_name h))
+      helper_held f (helpers.ConstantsOf k) l = let h = held_in (z.home (a_helper (helpers.ConstantsOf k))) (helper_item can.ancestors (helpers.ConstantsOf k)) (can.helper f (helpers.ConstantsOf k) l) in record { address = h.0; constants = h.1.properties; held = h.1.held; owned_there = h.1.there; marked = marker_held (kind_class k) (can.ancestors k) h.1.properties h.1.literal }
+      helper_held f helpers.ArrayClass l = arrays_held f l
+      helper_held f h l = (held_in (z.home (a_helper h)) (helper_item can.ancestors h) (can.helper f h l)).1
 
       -- tests and casts
       abbrev HoldsFunction : Top → Type 0
@@ -604,12 +702,14 @@ module _ (z : Spread) where
       class_test_held _ (declared.by_kind k kinds item uses) = (held_in (z.home (a_test (Class (kind_class k)))) (test_piece (kind_class k) kinds (Some k)).item item).1
 
       test_held : (f : Name) (k : IrType) → TestDeclared z f k → HoldsFunction (a_test k)
-      test_held f _ (declared.of_kind k d) = let h = can.helper f (helpers.TestOf d.kind) d.helper in named_helper_held f (a_test k) (helpers.TestOf d.kind) d.helper (helper_held (helpers.TestOf d.kind) h.0 h.1) d.home (test_named k d.kind d.its_kind)
+      test_held f _ (declared.of_kind k d) = named_helper_held f (a_test k) (helpers.TestOf d.kind) d.helper (helper_held f (helpers.TestOf d.kind) d.helper) d.home (test_named k d.kind d.its_kind)
       test_held f _ (declared.of_class c d) = class_test_held c d
+      test_held f _ (declared.of_array r d) = named_helper_held f (a_test (Array r)) helpers.TestOfArray d.helper (helper_held f helpers.TestOfArray d.helper) d.home refl
 
       cast_held : (f : Name) (k : IrType) → CastDeclared z f k → HoldsFunction (a_cast k)
-      cast_held f _ (declared.to_kind k d) = let h = can.helper f (helpers.CastTo d.kind) d.helper in named_helper_held f (a_cast k) (helpers.CastTo d.kind) d.helper (helper_held (helpers.CastTo d.kind) h.0 h.1) d.home (cast_named k d.kind d.its_kind)
+      cast_held f _ (declared.to_kind k d) = named_helper_held f (a_cast k) (helpers.CastTo d.kind) d.helper (helper_held f (helpers.CastTo d.kind) d.helper) d.home (cast_named k d.kind d.its_kind)
       cast_held f _ (declared.to_class c d) = (held_in (z.home (a_cast (Class c))) (cast_piece c).item d.cast).1
+      cast_held f _ (declared.to_array r d) = named_helper_held f (a_cast (Array r)) helpers.CastToArray d.helper (helper_held f helpers.CastToArray d.helper) d.home refl
 
       top_held : (f : Name) (x : Top) → is_usable (z.has f) x ≡ true → TopHolds place begun.owned x (t.tops (z.home x) (top_name x))
       top_held f (a_function m) l = let d = can.linked f m l in (held_in (z.home (a_function m)) (member_item d) d.function).1
@@ -617,8 +717,8 @@ module _ (z : Spread) where
       top_held f (a_dispatch m) l = let d = can.dispatched f m l in (held_in (z.home (a_dispatch m)) (dispatch_item m d.cases) d.function).1
       top_held f (a_reflection m) l = let d = can.reflected f m l in (held_in (z.home (a_reflection m)) (reflective_item m (units_of (spelled_method m)) d.cases) d.function).1
       top_held f (a_constructor m) l = let d = (can.built f m l).0 in (held_in (z.home (a_constructor m)) (member_item d) d.function).1
-      top_held f (a_class c) l = let k = can.live f c l in class_held c k.above k.classes ∙ ap (λ cs. js.holds false (js.class (map (link_of place) cs))) (sym k.chain)
-      top_held f (some_constants c) l = let k = can.live f c (live_alone ((z.has f).live c) ((z.has f).bases c) (can.bases f c) l) in first_constants c k.above k.classes
+      top_held f (a_class c) l = whole_class_held f c l
+      top_held f (some_constants c) l = ⊎_elim (λ live. let k = can.live f c live in first_constants c k.above k.classes) (λ base. constants_held c (can.bases f c base)) (or_cases ((z.has f).live c) ((z.has f).bases c) l)
       top_held f (a_static c g k) l = tt
       top_held f (a_setter c g k) l = let its = can.static_field f c g k (set_static (z.has f) c g k l) in (held_in (z.home (a_setter c g k)) (setter (setter_name c g) (static_name c g)) (subst (λ n. Stands z (a_setter c g k) (setter (setter_name c n) (static_name c n))) its.field.named its.setter)).1
       top_held f (a_cell c) l = tt
@@ -626,7 +726,7 @@ module _ (z : Spread) where
       top_held f (a_storer c) l = (held_in (z.home (a_storer c)) (store_piece c).item (can.stored f c (store_cell (z.has f) c l)).storer).1
       top_held f (a_test k) l = test_held f k (can.tests f k l)
       top_held f (a_cast k) l = cast_held f k (can.casts f k l)
-      top_held f (a_helper h) l = let k = can.helper f h l in helper_held h k.0 k.1
+      top_held f (a_helper h) l = helper_held f h l
 
       -- the variable of a static field holds the zero of its type
       static_held : (f c g : Name) (k : IrType) → has_static (z.has f) c g k ≡ true → Holding begun k (ir_world.statics_in (ir_world.class_of z.classes c) g) (t.tops (z.home (a_static c g k)) (static_name c g))
@@ -636,8 +736,8 @@ module _ (z : Spread) where
           let its_zero = static_begins place can.kept c g k its.field in
           let item = let_item (static_name c its.field.field.name) (zero_literal its.field.field.tpe) in
           let held = (held_in home item its.variable).1 in
-          let same = some_same held.value (zero_value k) (sym held.literal ∙ ap (λ u. literal_value (zero_literal u)) its.field.typed ∙ zero_literal_is k) in
-          subst (λ o. Holding begun k o (t.tops home (static_name c g))) (sym its_zero.zero) (subst (Holding begun k (Some (ir_world.zero_of k))) (sym (ap (λ n. t.tops home (static_name c n)) (sym its.field.named) ∙ held.held ∙ ap (js.holds false) same)) (holding (ir_world.zero_of k) (zero_value k) (zero_alike begun k its_zero.values)))
+          let same = some_same held.value (zero_shown k) (sym held.literal ∙ ap (λ u. literal_value (zero_literal u)) its.field.typed ∙ zero_literal_is k) in
+          subst (λ o. Holding begun k o (t.tops home (static_name c g))) (sym its_zero.zero) (subst (Holding begun k (Some (ir_world.zero_of k))) (sym (ap (λ n. t.tops home (static_name c n)) (sym its.field.named) ∙ held.held ∙ ap (js.holds false) same)) (holding (ir_world.zero_of k) (zero_shown k) (zero_alike begun k its_zero.values)))
 
       -- the cell of a class holds null
       cell_held : (f c : Name) → has_cell (z.has f) c ≡ true → Holding begun (class_type c) (Some ir.null) (t.tops (z.home (a_cell c)) (cell_name c))

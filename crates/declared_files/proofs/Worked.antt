@@ -8,19 +8,17 @@ use Rattle.std.proofs.lemmas.Bool.{or_cases}
 use Rattle.outcomes.specs.Agreement.{Agree}
 use Rattle.body_rules.proofs.Equal.{is-equal}
 use Rattle.body_rules.proofs.Lists.{nothing_in, in_front_or_behind, at_front, further_on}
-use Rattle.body_rules.proofs.RulesGive.{no_division}
 use Rattle.body_soundness.proofs.Worked.{member-same, main_right as main_right_at_all, each_class, plain, OneField, the_field, field_is, object_laws}
-use Rattle.body_soundness.specs.Laws.{null_pointer, arithmetic}
 use Rattle.body_soundness.specs.Rules.{RightMember}
 use Rattle.body_soundness.specs.Worked.{class_name, field_name, init_name, get_name, init_method, get_method, main_method, gets, gets_field, its_field, object_world, main_member, object_use}
 use Rattle.body_soundness.specs.Worked as worked
-use Rattle.built_forms.specs.Built.{Usable, has_static, has_cell, members_alone, divides, can_look_up}
-use Rattle.file_declarations.specs.Declared.{alone, on_receiver, completing, is_covered, FieldsAreKept}
+use Rattle.built_forms.specs.Built.{Usable, has_static, has_cell, members_alone, can_look_up}
+use Rattle.file_declarations.specs.Declared.{alone, on_receiver, completing, FieldsAreKept}
 use Rattle.file_tops.proofs.Run.{some_same}
-use Rattle.helper_rules.specs.Helpers.{helper_name, helper_item, used_helpers, constants}
-use Rattle.helper_rules.specs.declared.kinds.Failure.TheVariants.{NullReceiver, Division}
+use Rattle.helper_rules.specs.Helpers.{failure_class, helper_name, helper_item, used_helpers, constants}
+use Rattle.helper_rules.specs.declared.kinds.Failure.{Failure}
 use Rattle.helper_rules.specs.declared.kinds.Helper.{Helper}
-use Rattle.helper_rules.specs.declared.kinds.Helper.TheVariants.{Throws}
+use Rattle.helper_rules.specs.declared.kinds.Helper.TheVariants.{ArrayClass, Throws}
 use Rattle.ir_mean.proofs.AncestorsFound.{ancestors_are_worked_out}
 use Rattle.ir_mean.specs.Dispatch.{is_ancestor}
 use Rattle.ir_mean.specs.Meaning.{with_message}
@@ -30,7 +28,6 @@ use Rattle.js_mean.specs.Shows.{js_shows}
 use Rattle.js_tree.specs.Names.{is_same_text}
 use Rattle.js_tree.specs.Terms.{Name, Property, Item, object_item}
 use Rattle.sj_desugar.specs.Desugar.{member}
-use Rattle.sj_emit_expr.specs.Templates.{check_name}
 use Rattle.sj_names.proofs.Same.{impossible}
 use Rattle.sj_names.specs.Grammar.{is_class_name, is_plain_name}
 use Rattle.sj_names.specs.declared.entry_points.EntryPoint.{EntryPoint}
@@ -43,15 +40,13 @@ use Rattle.body_soundness.specs.Methods.{KeepsRules}
 use Rattle.sj_trees.specs.Term.{skip}
 use Rattle.sj_trees.specs.declared.classes.FieldDef.{FieldDef}
 use Rattle.sj_trees.specs.declared.classes.ClassDef.{ClassDef}
-use Rattle.sj_trees.specs.declared.operators.BinaryOp.{BinaryOp}
 use Rattle.sj_trees.specs.declared.types.IrType.{IrType}
 use Rattle.sj_trees.specs.declared.types.IrType.TheVariants.{Int, Nothing, NoType}
 use Rattle.sj_world.specs.Known.{is_same}
 use Rattle.sj_world.specs.Subtypes.{equal}
 use Rattle.sj_world.specs.Tables.{AreAncestors}
 use Rattle.typing_rules.specs.Rules.{nothing_wanted, fitting, HasFieldType}
-use Rattle.declared_files.proofs.Place.{live_alone}
-use Rattle.declared_files.specs.Declared.{Leads, Stands, Makes, Uses, FunctionDeclared, ClassDeclared, extends_none, extends_one, MadeDeclared, StaticDeclared, StoreDeclared, LoadDeclared, LookupDeclared, TellsApart, ReflectionDeclared, Declared, IsAmong, IsPublic, IsLawful, all_items, TestDeclared, CastDeclared, AreConstants}
+use Rattle.declared_files.specs.Declared.{Leads, Stands, Makes, Uses, FunctionDeclared, ClassDeclared, ConstantsDeclared, ArraysDeclared, ArrayCallDeclared, extends_none, extends_one, MadeDeclared, StaticDeclared, StoreDeclared, LoadDeclared, LookupDeclared, TellsApart, ReflectionDeclared, Declared, IsAmong, IsPublic, IsLawful, all_items, TestDeclared, CastDeclared, AreConstants}
 use Rattle.declared_files.specs.Placed.{Placed, placed}
 use Rattle.declared_files.specs.Worked.{object_constants, object_class, its_constants, its_class, init_function, get_function, main_function, main_file, class_file, object_file, main_use, class_use, use_of, three_files, spread}
 use Rattle.declared_files.proofs.Whole.{files_agree}
@@ -294,10 +289,10 @@ each_tells [] all l h = nothing_in l h
 each_tells (m ∷ ms) all l h = ⊎_elim (λ same. subst (λ (k : Placed). Tells k.item) same all.0) (λ later. each_tells ms all.1 l later) (in_front_or_behind m ms l h)
 
 tells_object : Tells object_constants
-tells_object x ps e = let same : constants object_name (object_name ∷ []) ≡ ps = cc in record { class = object_name; ancestors = object_name ∷ []; are = sym same; above = above_object }
+tells_object x ps e = let same : constants object_name (object_name ∷ []) ≡ ps = cc in record { class = object_name; ancestors = object_name ∷ []; are = sym same; known = refl; above = above_object }
 
 tells_class : Tells its_constants
-tells_class x ps e = let same : constants class_name (class_name ∷ object_name ∷ []) ≡ ps = cc in record { class = class_name; ancestors = class_name ∷ object_name ∷ []; are = sym same; above = above_class }
+tells_class x ps e = let same : constants class_name (class_name ∷ object_name ∷ []) ≡ ps = cc in record { class = class_name; ancestors = class_name ∷ object_name ∷ []; are = sym same; known = refl; above = above_class }
 
 all_tell : AllTell (all_items spread)
 all_tell = (tells_object, (λ x ps e. absurd (cc), (tells_class, (λ x ps e. absurd (cc), (λ x ps e. absurd (cc), (λ x ps e. absurd (cc), (λ x ps e. absurd (cc), tt)))))))
@@ -310,9 +305,10 @@ all_declared = record {
   looked = by_file (λ f u. (c : Name) (m : MethodName) → can_look_up u c m ≡ true → LookupDeclared spread c m (u.lookup.has_hijacked c)) (λ c m h. impossible h) (λ c m h. impossible h) (λ f c m h. impossible h);
   reflected = by_file (λ f u. (m : MethodName) → u.reflected m ≡ true → ReflectionDeclared spread m) (λ m h. impossible h) (λ m h. impossible h) (λ f m h. impossible h);
   dispatched = by_file (λ f u. (m : MethodName) → u.dispatched m ≡ true → TellsApart spread m) (λ m h. impossible h) (λ m h. impossible h) (λ f m h. impossible h);
+  on_arrays = by_file (λ f u. (m : MethodName) → u.on_arrays m ≡ true → ArrayCallDeclared spread m) (λ m h. impossible h) (λ m h. impossible h) (λ f m h. impossible h);
   built = by_file (λ f u. (m : Member) → u.built m ≡ true → Completes m) (λ m h. subst Completes (sym (member-same m (member class_name Constructor init_name) h)) (init_declared, refl)) (λ m h. impossible h) (λ f m h. impossible h);
   live = by_file (λ f u. (c : Name) → u.live c ≡ true → MadeDeclared spread c) (λ c h. main_makes c (is-equal class_name c h)) (λ c h. class_makes c (is-equal object_name c h)) (λ f c h. impossible h);
-  bases = by_file (λ f u. (c : Name) → u.bases c ≡ false) (λ c. refl) (λ c. refl) (λ f c. refl);
+  bases = by_file (λ f u. (c : Name) → u.bases c ≡ true → ConstantsDeclared spread c) (λ c h. impossible h) (λ c h. impossible h) (λ f c h. impossible h);
   made = by_file (λ f u. (c : Name) → u.made c ≡ true → u.live c ≡ true) (λ c h. h) (λ c h. h) (λ f c h. impossible h);
   field = by_file (λ f u. (c g : Name) (t : IrType) → u.field c g t ≡ true → IsField object_world c g t) (λ c g t h. impossible h) (λ c g t h. field_declared c g t (field_is c g t h)) (λ f c g t h. impossible h);
   static_field = by_file (λ f u. (c g : Name) (t : IrType) → has_static u c g t ≡ true → StaticDeclared spread c g t) (λ c g t h. impossible h) (λ c g t h. impossible h) (λ f c g t h. impossible h);
@@ -323,11 +319,16 @@ all_declared = record {
   marked = λ f x ps i. each_tells (all_items spread) all_tell (placed f (object_item x ps)) i x ps refl;
   kept = fields_kept;
   ancestors = λ k. [];
-  helper = by_file (λ f u. (h : Helper) → u.helper (helper_name h) ≡ true → (is_covered h ≡ true) × Stands spread (a_helper h) (helper_item (λ k. []) h)) (λ h l. impossible l) (λ h l. impossible l) (λ f h l. impossible l);
+  helper = by_file (λ f u. (h : Helper) → u.helper (helper_name h) ≡ true → Stands spread (a_helper h) (helper_item (λ k. []) h)) (λ h l. impossible l) (λ h l. impossible l) (λ f h l. impossible l);
   helpers = by_file (λ f u. (h k : Helper) → u.helper (helper_name h) ≡ true → Contains (used_helpers h) k → Uses spread (a_helper h) (a_helper k)) (λ h k l c. impossible l) (λ h k l c. impossible l) (λ f h k l c. impossible l);
-  exceptions = by_file (λ f u. u.helper check_name ≡ true → Makes spread (a_helper (Throws NullReceiver)) null_pointer × Uses spread (a_helper (Throws NullReceiver)) (a_constructor (member null_pointer Constructor with_message))) (λ h. impossible h) (λ h. impossible h) (λ f h. impossible h);
-  divisions = by_file (λ f u. (o : BinaryOp) → divides u o ≡ true → Makes spread (a_helper (Throws Division)) arithmetic × Uses spread (a_helper (Throws Division)) (a_constructor (member arithmetic Constructor with_message))) (λ o h. no_division main_use (λ x. refl) o h) (λ o h. no_division class_use (λ x. refl) o h) (λ f o h. no_division nothing (λ x. refl) o h);
+  failures = by_file (λ f u. (x : Failure) → u.helper (helper_name (Throws x)) ≡ true → Makes spread (a_helper (Throws x)) (failure_class x) × Uses spread (a_helper (Throws x)) (a_constructor (member (failure_class x) Constructor with_message))) (λ x h. impossible h) (λ x h. impossible h) (λ f x h. impossible h);
+  arrays = by_file (λ f u. u.helper (helper_name ArrayClass) ≡ true → ArraysDeclared spread) (λ h. impossible h) (λ h. impossible h) (λ f h. impossible h);
 }
+
+-- no class is the base of arrays there
+live_alone : (live base : Bool) → base ≡ false → (live || base) ≡ true → live ≡ true
+live_alone true base none h = refl
+live_alone false base none h = impossible (sym none ∙ h)
 
 -- what each file can use can be used of the classes
 main_among : (t : Top) → is_usable main_use t ≡ true → is_usable object_use t ≡ true

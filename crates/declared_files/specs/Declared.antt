@@ -1,20 +1,21 @@
 -- What the code of bodies can use in a world, as the items of several files declare it.
 use Rattle.std.specs.Prelude.{◌≡◌, ℕ, Bool, true, false, List, [], ◌∷◌, ◌++◌, map, Option, Some, None, codes}
 use Rattle.std.specs.List.{Contains, list_all}
-use Rattle.body_soundness.specs.Laws.{ObjectLaws, null_pointer, arithmetic, class_cast}
+use Rattle.body_soundness.specs.Laws.{ObjectLaws}
 use Rattle.body_soundness.specs.Rules.{RightMember}
 use Rattle.body_soundness.specs.Targets.{IsTargetOf}
-use Rattle.built_forms.specs.Built.{Usable, has_static, has_cell, divides, can_look_up}
-use Rattle.file_declarations.specs.Declared.{Running, alone, on_receiver, completing, running, is_covered, FieldsAreKept}
-use Rattle.helper_rules.specs.Helpers.{Above, helper_name, helper_item, used_helpers, constants}
-use Rattle.helper_rules.specs.Words.{marker, kind_class, worded_kinds, entry_name, parameters_of, units_of}
-use Rattle.helper_rules.specs.declared.kinds.Failure.TheVariants.{NullReceiver, Division, Cast, Method}
+use Rattle.built_forms.specs.Built.{Usable, has_static, has_cell, can_look_up}
+use Rattle.file_declarations.specs.Declared.{Running, alone, on_receiver, completing, running, FieldsAreKept}
+use Rattle.helper_rules.specs.Helpers.{Above, failure_class, helper_name, helper_item, used_helpers, constants}
+use Rattle.helper_rules.specs.Words.{marker, kind_class, object_class, worded_kinds, entry_name, parameters_of, units_of}
+use Rattle.helper_rules.specs.declared.kinds.Failure.{Failure}
+use Rattle.helper_rules.specs.declared.kinds.Failure.TheVariants.{Cast, Method}
 use Rattle.helper_rules.specs.declared.kinds.Helper.{Helper}
 use Rattle.helper_rules.specs.declared.kinds.Kind.{Kind}
 use Rattle.file_declarations.specs.Helpers.{kind_of}
-use Rattle.helper_rules.specs.declared.kinds.Helper.TheVariants.{BoxedChar, Throws, TestOf, CastTo}
+use Rattle.helper_rules.specs.declared.kinds.Helper.TheVariants.{ArrayClass, BoxedChar, CastToArray, Throws, TestOf, TestOfArray, CastTo}
 use Rattle.ir_mean.specs.Dispatch.{chain_of, is_ancestor, proxy_target}
-use Rattle.ir_mean.specs.Meaning.{with_message, without_parameters, no_such_method}
+use Rattle.ir_mean.specs.Meaning.{with_message, without_parameters}
 use Rattle.ir_mean.specs.World.{World, class_of}
 use Rattle.js_mean.specs.Classes.{method_among, method_in, members_of}
 use Rattle.js_mean.specs.Proper.{are_distinct}
@@ -33,22 +34,22 @@ use Rattle.file_declarations.specs.Reflecting.{proxy_code}
 use Rattle.file_declarations.specs.Pieces.{is_char as is_char_result, constants_piece, class_item_of, constructor_body, variable_piece, setter_piece, cell_piece, load_piece, store_piece, test_piece, cast_piece}
 use Rattle.sj_desugar.specs.Desugar.{desugared_member, member}
 use Rattle.sj_emit_expr.specs.Members.{member_piece}
-use Rattle.sj_emit_expr.specs.Templates.{check_name, member_name}
+use Rattle.sj_emit_expr.specs.Templates.{member_name}
 use Rattle.sj_names.specs.MethodNames.{spelled_method}
 use Rattle.sj_names.specs.Same.{is_same_text}
 use Rattle.sj_names.specs.declared.entry_points.EntryPoint.{EntryPoint}
 use Rattle.sj_names.specs.declared.method_names.Member.{Member as MemberName}
 use Rattle.sj_names.specs.declared.method_names.MethodName.{MethodName}
+use Rattle.sj_names.specs.declared.references.ArrayRef.{ArrayRef}
 use Rattle.sj_names.specs.declared.method_names.Namespace.TheVariants.{Public, Constructor}
 use Rattle.file_declarations.specs.Settings.{Top, a_function, a_method, a_constructor, a_dispatch, a_reflection, a_class, some_constants, a_static, a_setter, a_cell, a_loader, a_storer, a_test, a_cast, a_helper, top_name, is_usable, is_named, IsField, IsStaticField, IsClass}
 use Rattle.body_soundness.specs.Emitted.{initializer_member, call_item_of}
 use Rattle.sj_trees.specs.declared.classes.ClassDef.{ClassDef}
 use Rattle.sj_trees.specs.declared.classes.FieldDef.{FieldDef}
 use Rattle.sj_trees.specs.declared.classes.MethodDef.{MethodDef}
-use Rattle.sj_trees.specs.declared.operators.BinaryOp.{BinaryOp}
 use Rattle.sj_trees.specs.declared.types.IrType.{IrType}
-use Rattle.sj_trees.specs.declared.types.IrType.TheVariants.{NoType, Class}
-use Rattle.sj_world.specs.Known.{is_hijacked}
+use Rattle.sj_trees.specs.declared.types.IrType.TheVariants.{NoType, Array, Class}
+use Rattle.sj_world.specs.Known.{is_hijacked, is_known}
 use Rattle.sj_world.specs.Tables.{AreAncestors}
 use Rattle.declared_files.specs.Placed.{Placed, placed, items_until, declare}
 
@@ -106,6 +107,18 @@ pub record ClassDeclared (z : Spread) (c : Name) (superclass : Option Name) : Ty
   pub marked : class_marked (marker c) ≡ Some c
   pub no_char : is_same_text c (codes "java.lang.Character") ≡ false
 
+-- the constants of a class, by whose marker it is told
+pub record ConstantsDeclared (z : Spread) (c : Name) : Type 0 where
+  pub ancestors : List Name
+  pub constants : Stands z (some_constants c) (constants_piece c ancestors).item
+  pub marked : class_marked (marker c) ≡ Some c
+
+-- the file of the class of arrays can use that of all objects, which extends none, and can make objects of it where the code of some file can make arrays
+pub record ArraysDeclared (z : Spread) : Type 0 where
+  pub live : Uses z (a_helper ArrayClass) (a_class object_class)
+  pub alone : chain_of z.classes object_class ≡ object_class ∷ []
+  pub made : (f : Name) → (z.has f).arrays ≡ true → Makes z (a_helper ArrayClass) object_class
+
 -- each class of a chain with the one that it extends, to which its file leads
 pub data ChainDeclared (z : Spread) : List Name → Type 0 where
   extends_none : (c : Name) → ClassDeclared z c None → ChainDeclared z (c ∷ [])
@@ -152,15 +165,16 @@ pub data ClassTestDeclared (z : Spread) : Name → Type 0 where
   by_marker : (c : Name) (kinds : List Kind) → is_hijacked c ≡ false → AreInstances z.classes c worded_kinds kinds → Stands z (a_test (Class c)) (test_piece c kinds None).item → ((k : Kind) → Contains kinds k → Uses z (a_test (Class c)) (a_helper (TestOf k))) → ClassTestDeclared z c
   by_kind : (k : Kind) (kinds : List Kind) → Stands z (a_test (Class (kind_class k))) (test_piece (kind_class k) kinds (Some k)).item → Uses z (a_test (Class (kind_class k))) (a_helper (TestOf k)) → ClassTestDeclared z (kind_class k)
 
+-- a type of arrays: one helper tests for all of them
+pub record ArrayTestDeclared (z : Spread) (f : Name) (r : ArrayRef) : Type 0 where
+  pub helper : (z.has f).helper (helper_name TestOfArray) ≡ true
+  pub home : z.home (a_test (Array r)) ≡ z.home (a_helper TestOfArray)
+
 -- a type whose test the code of this file can use
 pub data TestDeclared (z : Spread) (f : Name) : IrType → Type 0 where
   of_kind : (t : IrType) → KindTestDeclared z f t → TestDeclared z f t
   of_class : (c : Name) → ClassTestDeclared z c → TestDeclared z f (Class c)
-
--- the file of what a cast throws can use the exception
-pub record CastThrows (z : Spread) : Type 0 where
-  pub made : Makes z (a_helper (Throws Cast)) class_cast
-  pub built : Uses z (a_helper (Throws Cast)) (a_constructor (member class_cast Constructor with_message))
+  of_array : (r : ArrayRef) → ArrayTestDeclared z f r → TestDeclared z f (Array r)
 
 -- a primitive type to which the code of this file can cast: the cast is the helper of its kind
 pub record KindCastDeclared (z : Spread) (f : Name) (t : IrType) : Type 0 where
@@ -168,7 +182,6 @@ pub record KindCastDeclared (z : Spread) (f : Name) (t : IrType) : Type 0 where
   pub its_kind : kind_of t ≡ Some kind
   pub helper : (z.has f).helper (helper_name (CastTo kind)) ≡ true
   pub home : z.home (a_cast t) ≡ z.home (a_helper (CastTo kind))
-  pub throws : CastThrows z
 
 -- a class with its cast, whose file can use its test and what throws
 pub record ClassCastDeclared (z : Spread) (c : Name) : Type 0 where
@@ -176,12 +189,18 @@ pub record ClassCastDeclared (z : Spread) (c : Name) : Type 0 where
   pub test : ClassTestDeclared z c
   pub tests : Uses z (a_cast (Class c)) (a_test (Class c))
   pub thrower : Uses z (a_cast (Class c)) (a_helper (Throws Cast))
-  pub throws : CastThrows z
+
+-- a type of arrays: one helper casts to all of them, by the one that tests
+pub record ArrayCastDeclared (z : Spread) (f : Name) (r : ArrayRef) : Type 0 where
+  pub helper : (z.has f).helper (helper_name CastToArray) ≡ true
+  pub home : z.home (a_cast (Array r)) ≡ z.home (a_helper CastToArray)
+  pub tests : z.home (a_test (Array r)) ≡ z.home (a_helper TestOfArray)
 
 -- a type to which the code of this file can cast
 pub data CastDeclared (z : Spread) (f : Name) : IrType → Type 0 where
   to_kind : (t : IrType) → KindCastDeclared z f t → CastDeclared z f t
   to_class : (c : Name) → ClassCastDeclared z c → CastDeclared z f (Class c)
+  to_array : (r : ArrayRef) → ArrayCastDeclared z f r → CastDeclared z f (Array r)
 
 -- what a call of the method runs on a value of the class: its target, whose function the code of the file of the binding can use
 pub record TargetDeclared (z : Spread) (t : Top) (c : Name) (m : MethodName) : Type 0 where
@@ -220,6 +239,11 @@ pub record LookupDeclared (z : Spread) (c : Name) (m : MethodName) (hijacked : B
   pub objects : (f d : Name) → (z.has f).made d ≡ true → is_ancestor z.classes d c ≡ true → EntryDeclared z d m (chain_of z.classes d)
   pub distinct : are_distinct (parameters_of m) ≡ true
   pub kinds : KindsDeclared z c m hijacked
+
+-- a method that can be called on arrays: objects of the class of all objects, if the code of some file makes some, find it
+pub record ArrayCallDeclared (z : Spread) (m : MethodName) : Type 0 where
+  pub objects : (f : Name) → (z.has f).made object_class ≡ true → EntryDeclared z object_class m (chain_of z.classes object_class)
+  pub distinct : are_distinct (parameters_of m) ≡ true
 
 -- the function that tells the primitive receivers of a method apart, with these cases
 pub record TellsApart (z : Spread) (m : MethodName) : Type 0 where
@@ -263,7 +287,7 @@ pub record BoxesDeclared (z : Spread) : Type 0 where
   pub bare : (m : MethodName) → method_in (members_of z.program (record { file = z.home (a_helper BoxedChar); name = helper_name BoxedChar })) (entry_name m) ≡ None
 
 -- a reflective name by which receivers can be called: its function, with a case for each kind whose class has a method of the name; the entries of objects of which the code of some file makes;
--- and the helper that throws where there is none, whose file can use the exception
+-- and the helper that throws where there is none
 pub record ReflectionDeclared (z : Spread) (m : MethodName) : Type 0 where
   pub cases : List Reflected
   pub function : Stands z (a_reflection m) (reflective_item m (units_of (spelled_method m)) cases)
@@ -273,30 +297,30 @@ pub record ReflectionDeclared (z : Spread) (m : MethodName) : Type 0 where
   pub objects : (f d : Name) → (z.has f).made d ≡ true → AnswerDeclared z d m
   pub boxes : BoxesDeclared z
   pub thrower : Uses z (a_reflection m) (a_helper (Throws Method))
-  pub made : Makes z (a_helper (Throws Method)) no_such_method
-  pub built : Uses z (a_helper (Throws Method)) (a_constructor (member no_such_method Constructor with_message))
 
--- properties that are the constants of a class, with the markers of the classes that stand above it
+-- properties that are the constants of a known class, with the markers of the classes that stand above it
 pub record AreConstants (w : World) (ps : List Property) : Type 0 where
   pub class : Name
   pub ancestors : List Name
   pub are : ps ≡ constants class ancestors
+  pub known : is_known w class ≡ true
   pub above : AreAncestors w class ancestors
 
--- all that the code of some file can use is declared, and its file leads to what it names: each member as it runs, and each method that can be looked up, each reflective name by which receivers can be called, a constructor without a value; each class whose
--- code it has, among them each that is made; each field and each static field; each class whose one object can be loaded or stored; no class as the base of arrays; tests and casts; and each helper, whose file can use those that it uses, and that of
--- a failure the exception of it. Each object that is declared is the constants of a class
+-- all that the code of some file can use is declared, and its file leads to what it names: each member as it runs, and each method that can be looked up or called on arrays, each reflective name by which receivers can be called, a constructor without a value; each class whose
+-- code it has, among them each that is made; each field and each static field; each class whose one object can be loaded or stored; the constants of each base of arrays; tests and casts; and each helper, whose file can use those that it uses, and that of
+-- a failure the exception of it, and the class of arrays. Each object that is declared is the constants of a class
 pub record Declared (z : Spread) : Type 0 where
   pub leads : (f : Name) (t : Top) → is_named (z.has f) t ≡ true → Leads z f t
   pub linked : (f : Name) (m : MemberName) → (z.has f).linked m ≡ true → FunctionDeclared z (a_function m) alone m
   pub received : (f : Name) (m : MemberName) → (z.has f).received m ≡ true → FunctionDeclared z (a_method m) on_receiver m
   pub looked : (f c : Name) (m : MethodName) → can_look_up (z.has f) c m ≡ true → LookupDeclared z c m ((z.has f).lookup.has_hijacked c)
   pub dispatched : (f : Name) (m : MethodName) → (z.has f).dispatched m ≡ true → TellsApart z m
+  pub on_arrays : (f : Name) (m : MethodName) → (z.has f).on_arrays m ≡ true → ArrayCallDeclared z m
   pub reflected : (f : Name) (m : MethodName) → (z.has f).reflected m ≡ true → ReflectionDeclared z m
   pub built : (f : Name) (m : MemberName) → (z.has f).built m ≡ true → (b : FunctionDeclared z (a_constructor m) completing m) × (b.right.definition.result ≡ NoType)
   pub live : (f c : Name) → (z.has f).live c ≡ true → MadeDeclared z c
   pub made : (f c : Name) → (z.has f).made c ≡ true → (z.has f).live c ≡ true
-  pub bases : (f c : Name) → (z.has f).bases c ≡ false
+  pub bases : (f c : Name) → (z.has f).bases c ≡ true → ConstantsDeclared z c
   pub field : (f c g : Name) (t : IrType) → (z.has f).field c g t ≡ true → IsField z.classes c g t
   pub static_field : (f c g : Name) (t : IrType) → has_static (z.has f) c g t ≡ true → StaticDeclared z c g t
   pub stored : (f c : Name) → has_cell (z.has f) c ≡ true → StoreDeclared z c
@@ -306,10 +330,10 @@ pub record Declared (z : Spread) : Type 0 where
   pub marked : (f x : Name) (ps : List Property) → Contains (all_items z) (placed f (object_item x ps)) → AreConstants z.classes ps
   pub kept : FieldsAreKept z.classes
   pub ancestors : Above
-  pub helper : (f : Name) (h : Helper) → (z.has f).helper (helper_name h) ≡ true → (is_covered h ≡ true) × Stands z (a_helper h) (helper_item ancestors h)
+  pub helper : (f : Name) (h : Helper) → (z.has f).helper (helper_name h) ≡ true → Stands z (a_helper h) (helper_item ancestors h)
   pub helpers : (f : Name) (h k : Helper) → (z.has f).helper (helper_name h) ≡ true → Contains (used_helpers h) k → Uses z (a_helper h) (a_helper k)
-  pub exceptions : (f : Name) → (z.has f).helper check_name ≡ true → Makes z (a_helper (Throws NullReceiver)) null_pointer × Uses z (a_helper (Throws NullReceiver)) (a_constructor (member null_pointer Constructor with_message))
-  pub divisions : (f : Name) (o : BinaryOp) → divides (z.has f) o ≡ true → Makes z (a_helper (Throws Division)) arithmetic × Uses z (a_helper (Throws Division)) (a_constructor (member arithmetic Constructor with_message))
+  pub failures : (f : Name) (x : Failure) → (z.has f).helper (helper_name (Throws x)) ≡ true → Makes z (a_helper (Throws x)) (failure_class x) × Uses z (a_helper (Throws x)) (a_constructor (member (failure_class x) Constructor with_message))
+  pub arrays : (f : Name) → (z.has f).helper (helper_name ArrayClass) ≡ true → ArraysDeclared z
 
 -- what can be used is among what can be used of the classes at all, and a call runs the same
 pub record IsAmong (has all : Usable) : Type 0 where

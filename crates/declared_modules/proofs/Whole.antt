@@ -1,5 +1,5 @@
 -- The files of a plan declare all that their code can use.
-use Rattle.std.proofs.Common.{arith, ◌<◌, ◌⊎◌, ◌++◌, ◌≡◌, ◌∙◌, not, ◌&&◌, ◌||◌, inl, inr, Bool, true, false, List, [], ◌∷◌, Option, Some, None, codes, map, refl, sym, ap, subst}
+use Rattle.std.proofs.Common.{arith, ◌<◌, ◌⊎◌, ◌++◌, ◌≡◌, ◌∙◌, not, ◌&&◌, ◌||◌, inl, inr, Bool, true, false, List, [], ◌∷◌, Option, Some, None, codes, map, refl, sym, ap, subst, IsTrue}
 use Rattle.std.specs.Prelude.{◌↔◌}
 use Rattle.std.specs.List.{Contains, list_all, list_any}
 use Rattle.std.proofs.lemmas.Bool.{and_parts, and_from, or_cases, or_left, or_right}
@@ -8,11 +8,11 @@ use Rattle.module_uses.proofs.Tested.{kind_uses, cast_kind_uses}
 use Rattle.module_uses.proofs.Written.{divisors_fit}
 use Rattle.module_uses.proofs.Markers.{marked}
 use Rattle.module_uses.proofs.KindHelpers.{helpers_of}
-use Rattle.module_uses.specs.Declared.{Spread, all_items, Leads, FunctionDeclared, ClassDeclared, ChainDeclared, extends_none, extends_one, MadeDeclared, StaticDeclared, StoreDeclared, LoadDeclared, KindTestDeclared, ClassTestDeclared, by_marker, by_kind, TestDeclared, of_kind, of_class, KindCastDeclared, ClassCastDeclared, CastDeclared, to_kind, to_class, TargetDeclared, EntryDeclared, has_entry as entry_declared_here, has_none as no_entry_declared, CaseDeclared, DispatchDeclared, KindsDeclared, no_kinds, some_kinds, LookupDeclared, TellsApart, Uses as UsesTop, Makes as CanMake, ReflectedDeclared, ReflectedKind, no_case, has_case as has_case_declared, NoEntryDeclared, none_left, none_here, ProxyDeclared, proxy_here, AnswerDeclared, no_answer, has_answer, ReflectionDeclared}
+use Rattle.module_uses.specs.Declared.{Spread, all_items, Leads, FunctionDeclared, ClassDeclared, ChainDeclared, extends_none, extends_one, MadeDeclared, StaticDeclared, StoreDeclared, LoadDeclared, KindTestDeclared, ClassTestDeclared, by_marker, by_kind, TestDeclared, of_kind, of_class, KindCastDeclared, ClassCastDeclared, CastDeclared, to_kind, to_class, TargetDeclared, EntryDeclared, has_entry as entry_declared_here, has_none as no_entry_declared, CaseDeclared, DispatchDeclared, KindsDeclared, no_kinds, some_kinds, LookupDeclared, TellsApart, Uses as UsesTop, Makes as CanMake, ReflectedDeclared, ReflectedKind, no_case, has_case as has_case_declared, NoEntryDeclared, none_left, none_here, ProxyDeclared, proxy_here, AnswerDeclared, no_answer, has_answer, ReflectionDeclared, ArraysDeclared, ConstantsDeclared, ArrayCallDeclared, of_array, to_array}
 use Rattle.module_uses.specs.Placed.{placed}
 use Rattle.module_uses.proofs.Blocks.{method_there}
 use Rattle.module_uses.proofs.Cells.{CellThere, loaded_there, stored_there}
-use Rattle.module_uses.proofs.DeclaredPiecesBelow.{stands_above, kind_hijacked, told_below, none_below}
+use Rattle.module_uses.proofs.DeclaredPiecesBelow.{stands_above, kind_hijacked, told_below, none_below, above_found, known_class}
 use Rattle.module_uses.proofs.DeclaredPiecesChains.{Stands, Chained, whole_chain}
 use Rattle.module_uses.proofs.DeclaredPiecesLooked.{runs_target, target_of, called_free, dispatch_there, told_case, has_case, reflection_there, kind_target, answer_there, boxed, parameters_differ, differ_from_receiver}
 use Rattle.module_uses.proofs.LinkedEntriesOne.{one_method}
@@ -20,16 +20,16 @@ use Rattle.module_uses.proofs.ReflectedCases.{reflected_case, worked_out, kind_r
 use Rattle.module_uses.specs.Reflected.{HasReflected}
 use Rattle.declared_modules.proofs.Boxes.{boxes_bare}
 use Rattle.module_uses.proofs.Facts.{called_known, made_known}
-use Rattle.module_uses.proofs.Fields.{field_there, fields_kept}
+use Rattle.module_uses.proofs.Fields.{field_there, fields_kept, class_named}
 use Rattle.module_uses.proofs.Live.{classes_kept}
 use Rattle.module_uses.proofs.Members.{same-class, defined, has_function-from}
 use Rattle.module_uses.proofs.Parts.{uses_superclass, uses_constants}
-use Rattle.module_uses.proofs.Whole.{static_alone, received_runs, constructor_is, no_value, own_fields, whole_fields, method_of, Good, free, own, its, is_named, constants_here, class_of_its, class_here, super_good, live_good, made_is_live, entry_there, Needed, needed_static, variable_there, setter_there, class_test_there, class_cast_there, IsWritten, helper_written, helper_had, helper_listed}
+use Rattle.module_uses.proofs.Whole.{static_alone, received_runs, constructor_is, no_value, own_fields, whole_fields, method_of, Good, free, own, its, is_named, constants_here, class_of_its, class_here, super_good, live_good, made_is_live, entry_there, Needed, needed_static, variable_there, setter_there, class_test_there, class_cast_there, IsWritten, helper_written, helper_had, helper_listed, class_base_there, entry_called}
 use Rattle.module_uses.specs.Accepted.{IsAccepted}
 use Rattle.module_uses.specs.Bodies.{AreBodies}
-use Rattle.module_uses.specs.Built.{can_look_up, Usable, has_static, has_cell, is_static, has_kind, has_no_value, divides}
+use Rattle.module_uses.specs.Built.{can_look_up, Usable, has_static, has_cell, is_static, has_kind, has_no_value}
 use Rattle.module_uses.specs.Closed.{IsClosed}
-use Rattle.module_uses.specs.FileDeclarationsDeclared.{Running, alone, on_receiver, completing, running, is_covered}
+use Rattle.module_uses.specs.FileDeclarationsDeclared.{Running, alone, on_receiver, completing, running}
 use Rattle.module_uses.specs.Emitted.{EmittedMethod}
 use Rattle.module_uses.specs.Dispatch.{Told, IsReachedTarget, dispatch_piece, Reflected, reflective_piece}
 use Rattle.module_uses.specs.Entries.{AreEntries, IsLive}
@@ -48,7 +48,7 @@ use Rattle.file_listings.specs.Listed.{AreBytes}
 use Rattle.helper_rules.specs.Helpers.{helper_name, helper_item, helper_piece, used_helpers, used_of_classes, failure_class, of}
 use Rattle.helper_rules.specs.Words.{kind_class, object_class, all_kinds, is_name, bound, public_function, helper as helper_binding}
 use Rattle.helper_rules.specs.declared.kinds.Failure.{Failure}
-use Rattle.helper_rules.specs.declared.kinds.Failure.TheVariants.{NullReceiver, Division, Cast, Method}
+use Rattle.helper_rules.specs.declared.kinds.Failure.TheVariants.{Cast, Method}
 use Rattle.helper_rules.specs.declared.kinds.Helper.{Helper}
 use Rattle.helper_rules.specs.declared.kinds.Helper.TheVariants as helpers
 use Rattle.helper_rules.specs.declared.kinds.Kind.{Kind}
@@ -65,12 +65,12 @@ use Rattle.module_uses.proofs.InFiles.{used_there}
 use Rattle.module_uses.specs.Used.{restricted, uses_in}
 use Rattle.module_uses.proofs.Chains.{byte_not}
 use Rattle.module_uses.proofs.Methods.{right_method}
-use Rattle.module_uses.proofs.Throwing.{exceptions, division, cast_throws, exception_made, module_made}
+use Rattle.module_uses.proofs.Throwing.{exception_made, module_made}
 use Rattle.module_uses.specs.Rules.{RightMember}
 use Rattle.sj_desugar.specs.Desugar.{member}
-use Rattle.sj_emit_expr.specs.Templates.{check_name, static_name}
+use Rattle.sj_emit_expr.specs.Templates.{static_name}
 use Rattle.sj_emit_expr.specs.Tests.{test_name, cast_name}
-use Rattle.sj_emit_expr.specs.Uses.{object_binding, function_binding, class_use, static_use, setter_use, load_use, store_use, test_uses, cast_uses, looked_up_uses, call_uses}
+use Rattle.sj_emit_expr.specs.Uses.{object_binding, function_binding, class_use, static_use, setter_use, load_use, store_use, test_uses, cast_uses, looked_up_uses, call_uses, base_uses}
 use Rattle.sj_desugar.specs.CalleeVariants as callees
 use Rattle.sj_names.proofs.Same.{impossible}
 use Rattle.sj_names.specs.declared.entry_points.EntryPoint.{EntryPoint}
@@ -82,10 +82,8 @@ use Rattle.module_uses.specs.Settings.{Top, a_function, a_method, a_constructor,
 use Rattle.sj_split.proofs.Members.{at_first, further, into_map}
 use Rattle.sj_split.specs.declared.plans.PlannedModule.{PlannedModule}
 use Rattle.sj_trees.specs.declared.classes.FieldDef.{FieldDef}
-use Rattle.sj_trees.specs.declared.operators.BinaryOp.{BinaryOp}
-use Rattle.sj_trees.specs.declared.operators.BinaryOp.TheVariants.{IntDivide, IntRemainder, LongDivide, LongRemainder}
 use Rattle.sj_trees.specs.declared.types.IrType.{IrType}
-use Rattle.sj_trees.specs.declared.types.IrType.TheVariants.{NoType, Class}
+use Rattle.sj_trees.specs.declared.types.IrType.TheVariants.{NoType, Class, Array}
 use Rattle.sj_world.proofs.OnCycles.{among}
 use Rattle.sj_world.specs.Known.{Classes, class_of, is_hijacked}
 use Rattle.sj_world.specs.Linked.{Linked}
@@ -94,6 +92,12 @@ use Rattle.sj_world.specs.declared.facts.Fact.TheVariants.{Body, Called}
 use Rattle.declared_modules.proofs.HijackedKinds.{kind_is, not_hijacked}
 use Rattle.declared_modules.specs.Laws.{ModulesDeclare}
 use Rattle.declared_modules.specs.Spread.{owner_of, file_or_none, spread_of, AllStand, DeclaresConstants}
+use Rattle.module_uses.proofs.Plain.{plain_world, class_found}
+use Rattle.sj_world.specs.Ancestors.{IsWritten as IsWrittenAbove, is_object, listed as in_list, written_in}
+use Rattle.sj_world.specs.Laws.{IsPlain}
+use Rattle.sj_names.specs.declared.references.BaseRef.{BaseRef}
+use Rattle.sj_names.specs.Grammar.{is_class_name}
+use Rattle.sj_trees.specs.declared.classes.ClassDef.{ClassDef}
 
 -- the binding at a top, with the class that owns it
 abbrev binding_of : Top → Binding
@@ -117,10 +121,12 @@ cast_kind_used uses t k h = (and_parts (uses (object_binding (cast_name t))) tru
 -- a test and a cast that can be used have a function, and use its binding
 test_used : (all : List EmittedMethod) (hs : List Helper) (written : List Name) (uses : Binding → Bool) (t : IrType) → uses_test all hs written t ≡ true → list_all uses (test_uses t) ≡ true → uses (binding_of (a_test t)) ≡ true
 test_used all hs written uses (Class c) h u = (and_parts (uses (binding_of (a_test (Class c)))) true u).0
+test_used all hs written uses (Array r) h u = (and_parts (uses (binding_of (a_test (Array r)))) true u).0
 test_used all hs written uses t h u = let k = (and_parts (has_kind t) (written_helper hs written (test_name t)) h).0 in subst (λ (c : Name). uses (record { owner = c; name = test_name t }) ≡ true) (sym (kind_owned t k)) (kind_used uses t k u)
 
 cast_used : (all : List EmittedMethod) (hs : List Helper) (written : List Name) (uses : Binding → Bool) (t : IrType) → uses_cast all hs written t ≡ true → list_all uses (cast_uses t) ≡ true → uses (binding_of (a_cast t)) ≡ true
 cast_used all hs written uses (Class c) h u = (and_parts (uses (binding_of (a_cast (Class c)))) true u).0
+cast_used all hs written uses (Array r) h u = (and_parts (uses (binding_of (a_cast (Array r)))) true u).0
 cast_used all hs written uses t h u = let k = (and_parts (has_kind t) (written_helper hs written (cast_name t)) h).0 in subst (λ (c : Name). uses (record { owner = c; name = cast_name t }) ≡ true) (sym (cast_owned t k)) (cast_kind_used uses t k u)
 
 -- what the code of a file names it uses, where the bindings of tests and casts that can be used are used with these
@@ -141,7 +147,7 @@ named_used has uses tests casts (a_test k) h = let q = and_parts (has.tests k) (
 named_used has uses tests casts (a_cast k) h = let q = and_parts (has.casts k) (list_all uses (cast_uses k)) h in casts k q.0 q.1
 named_used has uses tests casts (a_helper x) h = (and_parts (has.helper (helper_name x)) (uses (object_binding (helper_name x))) h).1
 
-module _ (entries : List EntryPoint) (files : List SourceFile) (l : Linked) (all : List EmittedMethod) (live written : List Name) (modules : List PlannedModule) (ps : List Piece) (front : List Name) (last : Name) (declared : List Item) (bytes : (file : SourceFile) → Contains files file → AreBytes file.bytes) (a : IsAccepted entries files l.world) (bodies : AreBodies l.world entries all) (p : AreLinkedPieces l all ps) (are : AreEntries l.world l.facts l.entries) (are_live : (c : Name) → Contains live c ↔ IsLive l.world l.facts c) (run : CanRun l.world entries l.facts all live p.helpers written) (owned : IsClosed ps written) (covered : (h : Helper) → Contains p.helpers h → is_covered h ≡ true) (together : StandTogether modules ps) (whole : AreWhole modules ps) (stand : AllStand modules ps written (spread_of modules ps l.world (used_of l.world l.facts all live p.helpers written) front last declared)) (marks : DeclaresConstants (spread_of modules ps l.world (used_of l.world l.facts all live p.helpers written) front last declared)) where
+module _ (entries : List EntryPoint) (files : List SourceFile) (l : Linked) (all : List EmittedMethod) (live written : List Name) (modules : List PlannedModule) (ps : List Piece) (front : List Name) (last : Name) (declared : List Item) (bytes : (file : SourceFile) → Contains files file → AreBytes file.bytes) (a : IsAccepted entries files l.world) (bodies : AreBodies l.world entries all) (p : AreLinkedPieces l all ps) (are : AreEntries l.world l.facts l.entries) (are_live : (c : Name) → Contains live c ↔ IsLive l.world l.facts c) (run : CanRun l.world entries l.facts all live p.helpers written) (owned : IsClosed ps written) (extends : Contains p.helpers helpers.ArrayClass → IsLive l.world l.facts object_class) (together : StandTogether modules ps) (whole : AreWhole modules ps) (stand : AllStand modules ps written (spread_of modules ps l.world (used_of l.world l.facts all live p.helpers written) front last declared)) (marks : DeclaresConstants (spread_of modules ps l.world (used_of l.world l.facts all live p.helpers written) front last declared)) where
   abbrev w : Classes
   w = l.world
 
@@ -412,6 +418,9 @@ module _ (entries : List EntryPoint) (files : List SourceFile) (l : Linked) (all
 
   test_declared : (f : Name) (t : IrType) → (z.has f).tests t ≡ true → TestDeclared z f t
   test_declared f (Class c) h = let q = and_parts (there.tests (Class c)) (list_all (uses_in modules ps f) (test_uses (Class c))) h in let b = binding_of (a_test (Class c)) in of_class c (class_test_declared c (class_test_there entries files l all live written ps bytes a bodies p are are_live run owned c q.0) (owner_stands f b (and_parts (uses_in modules ps f b) true q.1).0))
+  test_declared f (Array r) h =
+      let q = and_parts (there.tests (Array r)) (list_all (uses_in modules ps f) (test_uses (Array r))) h in
+      of_array r (record { helper = and_from (there.helper (test_name (Array r))) (uses_in modules ps f (object_binding (test_name (Array r)))) q.0 (and_parts (uses_in modules ps f (object_binding (test_name (Array r)))) true q.1).0; home = refl })
   test_declared f t h =
       let q = and_parts (there.tests t) (list_all (uses_in modules ps f) (test_uses t)) h in
       let k = and_parts (has_kind t) (written_helper p.helpers written (test_name t)) q.0 in
@@ -446,26 +455,17 @@ module _ (entries : List EntryPoint) (files : List SourceFile) (l : Linked) (all
       let used : (b : Binding) → Contains (init ∷ class_use c ∷ []) b → IsUsed (home_of object_class) b = λ b i. used_at_home (helper_piece p.above thrower) u.in_file (listed thrower u) b (Contains-append_left (init ∷ class_use c ∷ []) [] b i) in
       (and_from (there.made c) (uses_in modules ps (home_of object_class) (class_use c)) makes.0 (used (class_use c) (further init (class_use c) (class_use c ∷ []) (at_first (class_use c) []))), and_from (there.built (member c Constructor with_message)) (uses_in modules ps (home_of object_class) init) makes.1 (used init (at_first init (class_use c ∷ []))))
 
-  thrown_by : (x : Failure) (h : Helper) → Contains (used_helpers h) (helpers.Throws x) → (there.helper (helper_name h) ≡ true → Makes x) → (f : Name) → (z.has f).helper (helper_name h) ≡ true → Throwing x
-  thrown_by x h i makes f e = throwing x (beside h (helper_used f h e) (helpers.Throws x) i) (makes (and_parts (there.helper (helper_name h)) (uses_in modules ps f (object_binding (helper_name h))) e).0)
+  failure_declared : (f : Name) (x : Failure) → (z.has f).helper (helper_name (helpers.Throws x)) ≡ true → Throwing x
+  failure_declared f x e = let u = helper_used f (helpers.Throws x) e in throwing x u (exception_made w l.facts all live p.helpers written (failure_class x) (run.thrown x u.is_written.among_helpers u.is_written.with_object))
 
-  null_thrown : (f : Name) → (z.has f).helper check_name ≡ true → Throwing NullReceiver
-  null_thrown = thrown_by NullReceiver helpers.NotNull (at_first (helpers.Throws NullReceiver) []) (exceptions w entries l.facts all live p.helpers written run)
-
-  division_thrown : (f : Name) (o : BinaryOp) → divides (z.has f) o ≡ true → Throwing Division
-  division_thrown f IntDivide e = thrown_by Division helpers.IntQuotient (at_first (helpers.Throws Division) []) (division w entries l.facts all live p.helpers written run IntDivide) f e
-  division_thrown f IntRemainder e = thrown_by Division helpers.IntRemainder (at_first (helpers.Throws Division) []) (division w entries l.facts all live p.helpers written run IntRemainder) f e
-  division_thrown f LongDivide e = thrown_by Division helpers.LongQuotient (at_first (helpers.Throws Division) []) (division w entries l.facts all live p.helpers written run LongDivide) f e
-  division_thrown f LongRemainder e = thrown_by Division helpers.LongRemainder (at_first (helpers.Throws Division) []) (division w entries l.facts all live p.helpers written run LongRemainder) f e
-  division_thrown f o e = impossible e
-
-  -- the cast to a primitive type, at home with the helpers, and what it throws
-  kind_cast_declared : (f : Name) (t : IrType) → has_kind t ≡ true → there.casts t ≡ true → written_helper p.helpers written (cast_name t) ≡ true → list_all (uses_in modules ps f) (cast_uses t) ≡ true → KindCastDeclared z f t
-  kind_cast_declared f t k can h u =
-      let d = helpers_of t k in
-      let its_helper = subst (λ (x : Name). (z.has f).helper x ≡ true) d.cast (and_from (there.helper (cast_name t)) (uses_in modules ps f (object_binding (cast_name t))) h (cast_kind_used (uses_in modules ps f) t k u)) in
-      let thrown = thrown_by Cast (helpers.CastTo d.kind) (further (helpers.TestOf d.kind) (helpers.Throws Cast) (helpers.Throws Cast ∷ []) (at_first (helpers.Throws Cast) [])) (λ e. cast_throws w entries l.facts all live p.helpers written run t can) f its_helper in
-      record { kind = d.kind; its_kind = d.its_kind; helper = its_helper; home = ap home_of (cast_owned t k); throws = record { made = thrown.0; built = thrown.1 } }
+  -- the cast to a primitive type, at home with the helpers
+  kind_cast_declared : (f : Name) (t : IrType) → has_kind t ≡ true → written_helper p.helpers written (cast_name t) ≡ true → list_all (uses_in modules ps f) (cast_uses t) ≡ true → KindCastDeclared z f t
+  kind_cast_declared f t k h u = let d = helpers_of t k in record {
+    kind = d.kind;
+    its_kind = d.its_kind;
+    helper = subst (λ (x : Name). (z.has f).helper x ≡ true) d.cast (and_from (there.helper (cast_name t)) (uses_in modules ps f (object_binding (cast_name t))) h (cast_kind_used (uses_in modules ps f) t k u));
+    home = ap home_of (cast_owned t k);
+  }
 
   -- the cast to a class, with its test
   class_cast_declared : (c : Name) → there.casts (Class c) ≡ true → StandsThere c → ClassCastDeclared z c
@@ -476,21 +476,22 @@ module _ (entries : List EntryPoint) (files : List SourceFile) (l : Linked) (all
       let parts = and_parts (is_among written c) (is_cast all c) can in
       let thrower_written : IsWritten entries files l all live written ps bytes a bodies p are are_live run owned (helpers.Throws Cast) = let both = run.casts c k.tests.here parts.1 in record { among_helpers = both.1; with_object = both.0 } in
       let used_thrower = used_at_home (cast_piece c) s k.cast its_thrower (further its_test its_thrower (its_thrower ∷ []) (at_first its_thrower [])) in
-      let can_throw = throwing Cast (record { is_written = thrower_written; in_file = owner_stands (home_of c) its_thrower used_thrower }) (cast_throws w entries l.facts all live p.helpers written run (Class c) can) in
       record {
         cast = stands_at_home (cast_piece c) s k.cast k.tests.here;
         test = class_test_declared c k.tests s;
         tests = and_from (there.tests (Class c)) (list_all (uses_in modules ps (home_of c)) (test_uses (Class c))) (and_from (is_among written c) (is_tested all c || is_cast all c) parts.0 (or_right (is_tested all c) (is_cast all c) parts.1)) (and_from (uses_in modules ps (home_of c) its_test) true (used_at_home (cast_piece c) s k.cast its_test (at_first its_test (its_thrower ∷ []))) refl);
         thrower = and_from (there.helper (helper_name (helpers.Throws Cast))) (uses_in modules ps (home_of c) its_thrower) (helper_had entries files l all live written ps bytes a bodies p are are_live run owned (helpers.Throws Cast) thrower_written) used_thrower;
-        throws = record { made = can_throw.0; built = can_throw.1 };
       }
 
   cast_declared : (f : Name) (t : IrType) → (z.has f).casts t ≡ true → CastDeclared z f t
   cast_declared f (Class c) h = let q = and_parts (there.casts (Class c)) (list_all (uses_in modules ps f) (cast_uses (Class c))) h in let b = binding_of (a_cast (Class c)) in to_class c (class_cast_declared c q.0 (owner_stands f b (and_parts (uses_in modules ps f b) true q.1).0))
+  cast_declared f (Array r) h =
+      let q = and_parts (there.casts (Array r)) (list_all (uses_in modules ps f) (cast_uses (Array r))) h in
+      to_array r (record { helper = and_from (there.helper (cast_name (Array r))) (uses_in modules ps f (object_binding (cast_name (Array r)))) q.0 (and_parts (uses_in modules ps f (object_binding (cast_name (Array r)))) true q.1).0; home = refl; tests = refl })
   cast_declared f t h =
       let q = and_parts (there.casts t) (list_all (uses_in modules ps f) (cast_uses t)) h in
       let k = and_parts (has_kind t) (written_helper p.helpers written (cast_name t)) q.0 in
-      to_kind t (kind_cast_declared f t k.0 q.0 k.1 q.1)
+      to_kind t (kind_cast_declared f t k.0 k.1 q.1)
 
   -- methods that are looked up
 
@@ -604,6 +605,69 @@ module _ (entries : List EntryPoint) (files : List SourceFile) (l : Linked) (all
       kinds true e = some_kinds (dispatch_declared m (dispatch_used f m (dispatched e)) c called free e)
       kinds false e = no_kinds (none_below w c free e)
 
+  -- arrays
+
+  plain : IsPlain w
+  plain = let kept = classes_kept entries files w bytes a in plain_world w kept.superclass kept.hijacked
+
+  -- the first of these classes extends the second
+  abbrev Extends : List Name → Type 0
+  Extends (c ∷ d ∷ ds) = IsWrittenAbove w c d
+  Extends _ = Unit {0}
+
+  writes_above : (c d : Name) (m : MadeIn c) → (parts c m).class.superclass ≡ Some d → IsWrittenAbove w c d
+  writes_above c d m e = subst (λ (o : Option ClassDef). Contains (written_in o) d) (sym (own_class c m)) (subst (λ (o : Option Name). Contains (in_list o ++ (parts c m).class.interfaces) d) (sym e) (at_first d (parts c m).class.interfaces))
+
+  -- no class stands above that of all objects
+  object_alone : MadeIn object_class → chain_of w object_class ≡ object_class ∷ []
+  object_alone m = let chain = whole_chain w (classes_kept entries files w bytes a) a.world.no_cycle MadeIn stands Extends (λ c m e. tt) (λ c d ds m e rest. writes_above c d m e) object_class m in go chain.above chain.is_chain chain.classes
+    where
+      go : (cs : List Name) → chain_of w object_class ≡ object_class ∷ cs → Extends (object_class ∷ cs) → chain_of w object_class ≡ object_class ∷ []
+      go [] e h = e
+      go (d ∷ ds) e h = absurd (plain.topped d h)
+
+  arrays_declared : (f : Name) → (z.has f).helper (helper_name helpers.ArrayClass) ≡ true → ArraysDeclared z
+  arrays_declared f e = record {
+    live = and_from (there.live object_class) (uses_in modules ps (home_of object_class) (class_use object_class)) object_live uses_object;
+    alone = object_alone (record { good = live_good entries files l all live written ps bytes a bodies p are are_live run owned object_class object_live; user = home_of object_class; used = uses_object });
+    made = λ g can. and_from (there.made object_class) (uses_in modules ps (home_of object_class) (class_use object_class)) can uses_object;
+  }
+    where
+      u : HelperUsed helpers.ArrayClass
+      u = helper_used f helpers.ArrayClass e
+
+      uses_object : IsUsed (home_of object_class) (class_use object_class)
+      uses_object = used_at_home (helper_piece p.above helpers.ArrayClass) u.in_file (listed helpers.ArrayClass u) (class_use object_class) (at_first (class_use object_class) [])
+
+      object_live : there.live object_class ≡ true
+      object_live = and_from (is_among written object_class) (is_among live object_class) ((among written object_class).1 u.is_written.with_object) ((among live object_class).1 ((are_live object_class).1 (extends u.is_written.among_helpers)))
+
+  -- the constants of a class that is named as the base of arrays
+  base_declared : (f c : Name) → (z.has f).bases c ≡ true → ConstantsDeclared z c
+  base_declared f c h =
+      let q = and_parts (there.bases c) (list_all (uses_in modules ps f) (base_uses (BaseRef.Class c))) h in
+      let its = class_base_there entries files l all live written ps bytes a bodies p are are_live run owned c q.0 in
+      let b = binding_of (some_constants c) in
+      let s = owner_stands f b (and_parts (uses_in modules ps f b) true q.1).0 in
+      record {
+        ancestors = its.parts.ancestors;
+        constants = stands_at_home (constants_piece c its.parts.ancestors) s its.constants its.here;
+        marked = marked c (subst (λ (n : Name). IsTrue (is_class_name n)) (class_found w c its.parts.class its.are.class_is).1 (class_named entries files w bytes a its.parts.class (class_found w c its.parts.class its.are.class_is).0));
+      }
+
+  -- a method that is called on arrays is found on objects of the class of all objects
+  array_call_declared : (f : Name) (m : MethodName) → (z.has f).on_arrays m ≡ true → ArrayCallDeclared z m
+  array_call_declared f m h = record { objects = objects; distinct = parameters_differ m }
+    where
+      objects : (g : Name) → (z.has g).made object_class ≡ true → EntryDeclared z object_class m (chain_of w object_class)
+      objects g made =
+          let s = and_parts (there.made object_class) (uses_in modules ps g (class_use object_class)) made in
+          let its : MadeIn object_class = record { good = live_good entries files l all live written ps bytes a bodies p are are_live run owned object_class (made_is_live entries files l all live written ps bytes a bodies p are are_live run owned object_class s.0); user = g; used = s.1 } in
+          let below : is_ancestor w object_class object_class ≡ true = above_found w object_class object_class (record { known = known_class w object_class (parts object_class its).class (own_class object_class its); way = is_object refl }) in
+          let found = entry_called entries files l all live written ps bytes a bodies p are are_live run owned object_class m h object_class s.0 below in
+          let chain = chain_made object_class its in
+          entry_declared object_class m found.owner found.target found.here (chain_of w object_class) found.entry (subst AllMade (sym chain.is_chain) chain.classes)
+
   -- the function of a reflective name, where a file uses it
   record ReflectionUsed (m : MethodName) : Type 0 where
     function : ReflectionThere l ps written p.helpers m
@@ -688,12 +752,6 @@ module _ (entries : List EntryPoint) (files : List SourceFile) (l : Linked) (all
         go (not_named none lacks) = no_answer none (no_entries (chain_of w d) lacks all_made)
         go (is_named_there t is params hands found) = has_answer t is params (proxy_declared t.name (chain_of w d) hands all_made) (entry_declared d t.name found.owner found.target found.here (chain_of w d) found.entry all_made)
 
-    thrower_used : HelperUsed (helpers.Throws Method)
-    thrower_used = record { is_written = record { among_helpers = its_reflection.thrower; with_object = its_reflection.here }; in_file = u.in_file }
-
-    exception_there : Throwing Method
-    exception_there = throwing Method thrower_used (exception_made w l.facts all live p.helpers written (failure_class Method) (run.thrown Method its_reflection.thrower its_reflection.here))
-
     its_declaration : ReflectionDeclared z m
     its_declaration = record {
       cases = its_reflection.cases;
@@ -704,39 +762,38 @@ module _ (entries : List EntryPoint) (files : List SourceFile) (l : Linked) (all
       objects = answers_declared;
       boxes = record { bare = λ n. boxes_bare n l all ps p modules (home_of object_class) };
       thrower = helper_here (helpers.Throws Method) its_reflection.thrower its_reflection.throws;
-      made = exception_there.0;
-      built = exception_there.1;
     }
 
   reflection_declared : (f : Name) (m : MethodName) → (z.has f).reflected m ≡ true → ReflectionDeclared z m
   reflection_declared f m h = its_declaration m (reflection_used f m h)
 
 pub modules_declare : ModulesDeclare
-modules_declare entries files l all live written modules ps front last declared bytes a bodies p are are_live run owned covered together whole stand marks = record {
-  leads = λ f t h. leads_to entries files l all live written modules ps front last declared bytes a bodies p are are_live run owned covered together whole stand marks f t (named_used (used_of l.world l.facts all live p.helpers written) (uses_in modules ps f) (test_used all p.helpers written (uses_in modules ps f)) (cast_used all p.helpers written (uses_in modules ps f)) t h);
-  linked = linked_declared entries files l all live written modules ps front last declared bytes a bodies p are are_live run owned covered together whole stand marks;
-  received = received_declared entries files l all live written modules ps front last declared bytes a bodies p are are_live run owned covered together whole stand marks;
-  looked = looked_declared entries files l all live written modules ps front last declared bytes a bodies p are are_live run owned covered together whole stand marks;
-  dispatched = told_apart entries files l all live written modules ps front last declared bytes a bodies p are are_live run owned covered together whole stand marks;
-  reflected = reflection_declared entries files l all live written modules ps front last declared bytes a bodies p are are_live run owned covered together whole stand marks;
-  built = built_declared entries files l all live written modules ps front last declared bytes a bodies p are are_live run owned covered together whole stand marks;
-  live = class_made entries files l all live written modules ps front last declared bytes a bodies p are are_live run owned covered together whole stand marks;
-  bases = λ f c. refl;
+modules_declare entries files l all live written modules ps front last declared bytes a bodies p are are_live run owned extends together whole stand marks = record {
+  leads = λ f t h. leads_to entries files l all live written modules ps front last declared bytes a bodies p are are_live run owned extends together whole stand marks f t (named_used (used_of l.world l.facts all live p.helpers written) (uses_in modules ps f) (test_used all p.helpers written (uses_in modules ps f)) (cast_used all p.helpers written (uses_in modules ps f)) t h);
+  linked = linked_declared entries files l all live written modules ps front last declared bytes a bodies p are are_live run owned extends together whole stand marks;
+  received = received_declared entries files l all live written modules ps front last declared bytes a bodies p are are_live run owned extends together whole stand marks;
+  looked = looked_declared entries files l all live written modules ps front last declared bytes a bodies p are are_live run owned extends together whole stand marks;
+  dispatched = told_apart entries files l all live written modules ps front last declared bytes a bodies p are are_live run owned extends together whole stand marks;
+  reflected = reflection_declared entries files l all live written modules ps front last declared bytes a bodies p are are_live run owned extends together whole stand marks;
+  built = built_declared entries files l all live written modules ps front last declared bytes a bodies p are are_live run owned extends together whole stand marks;
+  live = class_made entries files l all live written modules ps front last declared bytes a bodies p are are_live run owned extends together whole stand marks;
+  bases = base_declared entries files l all live written modules ps front last declared bytes a bodies p are are_live run owned extends together whole stand marks;
+  on_arrays = array_call_declared entries files l all live written modules ps front last declared bytes a bodies p are are_live run owned extends together whole stand marks;
   made = λ f c h. let q = and_parts ((used_of l.world l.facts all live p.helpers written).made c) (uses_in modules ps f (class_use c)) h in and_from ((used_of l.world l.facts all live p.helpers written).live c) (uses_in modules ps f (class_use c)) (made_is_live entries files l all live written ps bytes a bodies p are are_live run owned c q.0) q.1;
   field = λ f. field_there l.world;
-  static_field = static_declared entries files l all live written modules ps front last declared bytes a bodies p are are_live run owned covered together whole stand marks;
-  stored = store_declared entries files l all live written modules ps front last declared bytes a bodies p are are_live run owned covered together whole stand marks;
-  loaded = load_declared entries files l all live written modules ps front last declared bytes a bodies p are are_live run owned covered together whole stand marks;
-  tests = test_declared entries files l all live written modules ps front last declared bytes a bodies p are are_live run owned covered together whole stand marks;
-  casts = cast_declared entries files l all live written modules ps front last declared bytes a bodies p are are_live run owned covered together whole stand marks;
+  static_field = static_declared entries files l all live written modules ps front last declared bytes a bodies p are are_live run owned extends together whole stand marks;
+  stored = store_declared entries files l all live written modules ps front last declared bytes a bodies p are are_live run owned extends together whole stand marks;
+  loaded = load_declared entries files l all live written modules ps front last declared bytes a bodies p are are_live run owned extends together whole stand marks;
+  tests = test_declared entries files l all live written modules ps front last declared bytes a bodies p are are_live run owned extends together whole stand marks;
+  casts = cast_declared entries files l all live written modules ps front last declared bytes a bodies p are are_live run owned extends together whole stand marks;
   marked = marks;
   kept = fields_kept entries files l.world bytes a;
   ancestors = p.above;
-  helper = λ f h e. let u = its_helper f h e in (covered h u.is_written.among_helpers, helper_stands entries files l all live written modules ps front last declared bytes a bodies p are are_live run owned covered together whole stand marks h u);
-  helpers = λ f h k e i. uses_helper entries files l all live written modules ps front last declared bytes a bodies p are are_live run owned covered together whole stand marks h (its_helper f h e) k i;
-  exceptions = null_thrown entries files l all live written modules ps front last declared bytes a bodies p are are_live run owned covered together whole stand marks;
-  divisions = division_thrown entries files l all live written modules ps front last declared bytes a bodies p are are_live run owned covered together whole stand marks;
+  helper = λ f h e. helper_stands entries files l all live written modules ps front last declared bytes a bodies p are are_live run owned extends together whole stand marks h (its_helper f h e);
+  helpers = λ f h k e i. uses_helper entries files l all live written modules ps front last declared bytes a bodies p are are_live run owned extends together whole stand marks h (its_helper f h e) k i;
+  failures = failure_declared entries files l all live written modules ps front last declared bytes a bodies p are are_live run owned extends together whole stand marks;
+  arrays = arrays_declared entries files l all live written modules ps front last declared bytes a bodies p are are_live run owned extends together whole stand marks;
 }
   where
-    its_helper : (f : Name) (h : Helper) → (restricted (used_of l.world l.facts all live p.helpers written) (uses_in modules ps f)).helper (helper_name h) ≡ true → HelperUsed entries files l all live written modules ps front last declared bytes a bodies p are are_live run owned covered together whole stand marks h
-    its_helper f h e = helper_used entries files l all live written modules ps front last declared bytes a bodies p are are_live run owned covered together whole stand marks f h e
+    its_helper : (f : Name) (h : Helper) → (restricted (used_of l.world l.facts all live p.helpers written) (uses_in modules ps f)).helper (helper_name h) ≡ true → HelperUsed entries files l all live written modules ps front last declared bytes a bodies p are are_live run owned extends together whole stand marks h
+    its_helper f h e = helper_used entries files l all live written modules ps front last declared bytes a bodies p are are_live run owned extends together whole stand marks f h e

@@ -1,22 +1,22 @@
 -- Laws of the files of a plan.
-use Rattle.std.specs.Prelude.{◌≡◌, ◌↔◌, true, List}
+use Rattle.std.specs.Prelude.{◌↔◌, List}
 use Rattle.std.specs.List.{Contains}
 use Rattle.module_uses.specs.Declared.{Declared}
 use Rattle.module_uses.specs.Accepted.{IsAccepted}
 use Rattle.module_uses.specs.Bodies.{AreBodies}
 use Rattle.module_uses.specs.Closed.{IsClosed}
-use Rattle.module_uses.specs.FileDeclarationsDeclared.{is_covered}
 use Rattle.module_uses.specs.Emitted.{EmittedMethod}
 use Rattle.module_uses.specs.Entries.{AreEntries, IsLive}
 use Rattle.module_uses.specs.LinkedPiecesPieces.{AreLinkedPieces}
 use Rattle.module_uses.specs.Running.{CanRun}
 use Rattle.module_uses.specs.LinkedPiecesUsed.{used_of}
 use Rattle.file_listings.specs.Listed.{AreBytes}
-use Rattle.helper_rules.specs.declared.kinds.Helper.{Helper}
+use Rattle.helper_rules.specs.declared.kinds.Helper.TheVariants.{ArrayClass}
 use Rattle.js_tree.specs.Terms.{Name, Item, Piece}
 use Rattle.module_uses.specs.Files.{AreWhole, StandTogether}
 use Rattle.sj_names.specs.declared.entry_points.EntryPoint.{EntryPoint}
 use Rattle.sj_names.specs.declared.folders.SourceFile.{SourceFile}
+use Rattle.sj_names.specs.WellKnown.{object}
 use Rattle.sj_split.specs.declared.plans.PlannedModule.{PlannedModule}
 use Rattle.sj_world.specs.Linked.{Linked}
 use Rattle.declared_modules.specs.Spread.{spread_of, AllStand, DeclaresConstants}
@@ -33,7 +33,7 @@ ModulesDeclare = (entries : List EntryPoint) (files : List SourceFile) (l : Link
     → ((c : Name) → Contains live c ↔ IsLive l.world l.facts c)
     → CanRun l.world entries l.facts all live p.helpers written
     → IsClosed ps written
-    → ((h : Helper) → Contains p.helpers h → is_covered h ≡ true)
+    → (Contains p.helpers ArrayClass → IsLive l.world l.facts object)
     → StandTogether modules ps
     → AreWhole modules ps
     → AllStand modules ps written (spread_of modules ps l.world (used_of l.world l.facts all live p.helpers written) front last declared)

@@ -42,7 +42,7 @@ module _ (w : Classes) where
   pub known_class : (d : Name) (k : ClassDef) → class_of w d ≡ Some k → is_known w d ≡ true
   known_class d k e = ap (λ (o : Option ClassDef). is_some o || is_hijacked d) e
 
-  known_hijacked : (h : Name) → is_hijacked h ≡ true → is_known w h ≡ true
+  pub known_hijacked : (h : Name) → is_hijacked h ≡ true → is_known w h ≡ true
   known_hijacked h e = or_right (is_some (class_of w h)) (is_hijacked h) e
 
   pub stands_above : (a b : Name) → is_ancestor w a b ≡ true → IsAncestor w a b

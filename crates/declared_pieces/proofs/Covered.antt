@@ -3,17 +3,16 @@ use Rattle.std.proofs.Common.{◌≡◌, true, List, [], ◌∷◌, map, refl}
 use Rattle.std.specs.Prelude.{is_some}
 use Rattle.std.specs.List.{list_all}
 use Rattle.file_declarations.specs.Declarations.{declares}
-use Rattle.file_declarations.specs.Declared.{is_covered}
 use Rattle.file_tops.specs.Tops.{literal_value}
 use Rattle.helper_rules.specs.Helpers.{Above, helper_name, marker_property, constants, helper_item}
-use Rattle.helper_rules.specs.Words.{kind_class}
+use Rattle.helper_rules.specs.Words.{class_name, kind_class, object_class}
 use Rattle.helper_rules.specs.declared.kinds.Failure.{Failure}
 use Rattle.helper_rules.specs.declared.kinds.Failure.TheVariants as failures
 use Rattle.helper_rules.specs.declared.kinds.Helper.{Helper}
 use Rattle.helper_rules.specs.declared.kinds.Helper.TheVariants as helpers
+use Rattle.js_mean.specs.Proper.{is_among}
 use Rattle.js_tree.specs.Terms.{Name, Property, object_item}
 use Rattle.file_declarations.specs.Pieces.{zero_of}
-use Rattle.sj_names.proofs.Same.{impossible}
 use Rattle.sj_trees.specs.declared.types.IrType.{IrType}
 use Rattle.sj_trees.specs.declared.types.IrType.TheVariants as types
 
@@ -44,7 +43,7 @@ failure_declares fs above failures.Store = refl
 failure_declares fs above failures.Size = refl
 failure_declares fs above failures.Method = refl
 
-pub helper_declares : (fs : List Name) (above : Above) (h : Helper) → is_covered h ≡ true → declares fs (helper_item above h) ≡ true
+pub helper_declares : (fs : List Name) (above : Above) (h : Helper) → (h ≡ helpers.ArrayClass → is_among fs (class_name object_class) ≡ true) → declares fs (helper_item above h) ≡ true
 helper_declares fs above (helpers.TestOf k) c = refl
 helper_declares fs above (helpers.CastTo k) c = refl
 helper_declares fs above (helpers.ConstantsOf k) c = constants_declare fs (helper_name (helpers.ConstantsOf k)) (kind_class k) (above k)
@@ -55,7 +54,7 @@ helper_declares fs above helpers.LongQuotient c = refl
 helper_declares fs above helpers.LongRemainder c = refl
 helper_declares fs above helpers.BoxedChar c = refl
 helper_declares fs above helpers.Equal c = refl
-helper_declares fs above helpers.ArrayClass c = impossible c
+helper_declares fs above helpers.ArrayClass c = c refl
 helper_declares fs above helpers.MakeArray c = refl
 helper_declares fs above helpers.CheckIndex c = refl
 helper_declares fs above helpers.Get c = refl

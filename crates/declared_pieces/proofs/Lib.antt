@@ -5,7 +5,6 @@ pub mod Chains
 pub mod Covered
 pub mod Fields
 pub mod Forms
-pub mod HelperNames
 pub mod Live
 pub mod Looked
 pub mod Named
@@ -48,7 +47,7 @@ pub use Rattle.object_helpers.proofs.Bodies
 pub use Rattle.object_helpers.proofs.Brought
 pub use Rattle.object_helpers.proofs.Pieces
 pub use Rattle.object_helpers.proofs.WrittenTrees
-pub use Rattle.object_helpers.proofs.WithoutArrays
+pub use Rattle.object_helpers.proofs.HelperNames
 pub use Rattle.object_helpers.proofs.Resolves
 pub use Rattle.object_helpers.proofs.Boxes
 pub use Rattle.file_declarations.proofs.Markers

@@ -1,5 +1,5 @@
 -- The items of the pieces that some classes own only declare: a class that another extends stands in front of it.
-use Rattle.std.proofs.Common.{◌≡◌, ◌⊎◌, ◌++◌, ◌||◌, Bool, true, false, List, [], ◌∷◌, Option, Some, None, inl, inr, refl, sym, subst, ◌∙◌, map, cond, arith, if◌then◌else◌}
+use Rattle.std.proofs.Common.{◌≡◌, ◌⊎◌, ◌++◌, ◌||◌, Bool, true, false, List, [], ◌∷◌, Option, Some, None, inl, inr, refl, sym, subst, ◌∙◌, map, cond, arith, if◌then◌else◌, append_assoc}
 use Rattle.std.specs.List.{Contains, filter, flat_map}
 use Rattle.std.proofs.lemmas.Bool.{and_from, or_left, or_right}
 use Rattle.std.proofs.lemmas.List.Elements.{Contains-append_left, Contains-append_right, Contains-append_cases}
@@ -12,12 +12,12 @@ use Rattle.declared_pieces.proofs.Parts.{class_there, uses_superclass}
 use Rattle.declared_pieces.specs.Closed.{IsClosed, items_of}
 use Rattle.declared_pieces.specs.Laws.{PiecesAreDeclarations}
 use Rattle.file_declarations.specs.Declarations.{with_class, declares, declare}
-use Rattle.file_declarations.specs.Declared.{is_covered}
 use Rattle.object_helpers.specs.Entries.{IsLive}
 use Rattle.file_listings.specs.Listed.{AreBytes}
 use Rattle.helper_rules.specs.Helpers.{Above, helper_piece}
 use Rattle.helper_rules.specs.Words.{all_kinds, class_name, constants_name, bound}
 use Rattle.helper_rules.specs.declared.kinds.Helper.{Helper}
+use Rattle.helper_rules.specs.declared.kinds.Helper.TheVariants.{ArrayClass}
 use Rattle.js_mean.specs.Proper.{is_among}
 use Rattle.js_tree.specs.Names.{is_same_text}
 use Rattle.js_tree.specs.Terms.{Name, Member, Item, const_item, object_item, let_item, expression_item, function_item, class_item, subclass_item, Piece}
@@ -29,8 +29,8 @@ use Rattle.file_declarations.specs.Classes.{AreClassPieces, AreParts, absent, pr
 use Rattle.file_declarations.specs.Pieces.{Parts, pieces, when, constants_piece, members, class_item_of, class_piece, variable_piece, setter_piece, cell_piece, load_piece, store_piece, cell_pieces, all_statics, test_piece, kind_of_class, cast_piece, constants_of, class_of, module_of, tests_of}
 use Rattle.object_helpers.specs.Modules.{item_of, is_owned}
 use Rattle.object_helpers.specs.Reachable.{Reachable}
-use Rattle.sj_names.proofs.Same.{impossible, text-refl}
-use Rattle.sj_names.specs.WellKnown.{is_object}
+use Rattle.sj_names.proofs.Same.{impossible, text-refl, text-same}
+use Rattle.sj_names.specs.WellKnown.{is_object, object}
 use Rattle.sj_names.specs.declared.entry_points.EntryPoint.{EntryPoint}
 use Rattle.sj_names.specs.declared.folders.SourceFile.{SourceFile}
 use Rattle.object_helpers.specs.Emitted.{EmittedMethod}
@@ -178,8 +178,12 @@ module _ (written : List Name) where
   methods_each : (w : Classes) (fs : List Name) (es : List EmittedMethod) → Each fs (map (piece_of_member w) es)
   methods_each w fs es q i own = let m = from_map (piece_of_member w) es q i in subst (λ (x : Piece). declares fs x.item ≡ true) m.is refl
 
-  helpers_each : (fs : List Name) (above : Above) (hs : List Helper) → ((h : Helper) → Contains hs h → is_covered h ≡ true) → Each fs (map (helper_piece above) hs)
-  helpers_each fs above hs covered q i own = let m = from_map (helper_piece above) hs q i in subst (λ (x : Piece). declares fs x.item ≡ true) m.is (helper_declares fs above m.item (covered m.item m.among))
+  -- the class of arrays stands behind that of all objects
+  helpers_each : (fs : List Name) (above : Above) (hs : List Helper) → (Contains hs ArrayClass → Contains written object → is_among fs (class_name object) ≡ true) → Each fs (map (helper_piece above) hs)
+  helpers_each fs above hs extends q i own =
+      let m = from_map (helper_piece above) hs q i in
+      let here : Contains written object = (among written object).0 (subst (λ (x : Piece). is_owned written x ≡ true) (sym m.is) own) in
+      subst (λ (x : Piece). declares fs x.item ≡ true) m.is (helper_declares fs above m.item (λ e. extends (subst (Contains hs) e m.among) here))
 
   methods_told : (fs : List Name) (l : Linked) (qs told : List Piece) → AreDispatchPieces l qs told → Each fs told
   methods_told fs l qs told h q i own = subst (λ (x : Piece). declares fs x.item ≡ true) (sym (h.made q i).is_piece.piece_is) refl
@@ -199,7 +203,7 @@ module _ (written : List Name) where
     never_itself : (c s : Name) (names : List Name) → AreAncestors w c names → IsNext w c s → c ≡ s → ⊥
     never_itself c s names are next e = let grow = ancestors_grow w acyclic plain c c names names (subst (λ (n : Name). IsNext w c n) (sym e) next) are are in omega (arith, grow)
 
-  module _ (entries : List EntryPoint) (files : List SourceFile) (l : Linked) (all : List EmittedMethod) (ps : List Piece) (bytes : (file : SourceFile) → Contains files file → AreBytes file.bytes) (a : IsAccepted entries files l.world) (reached : (f : Fact) → Contains l.facts f → Reachable l.world entries f) (closed : IsClosed ps written) (behind : List Piece) (each_behind : (fs : List Name) → Each fs behind) where
+  module _ (entries : List EntryPoint) (files : List SourceFile) (l : Linked) (all : List EmittedMethod) (ps : List Piece) (bytes : (file : SourceFile) → Contains files file → AreBytes file.bytes) (a : IsAccepted entries files l.world) (reached : (f : Fact) → Contains l.facts f → Reachable l.world entries f) (closed : IsClosed ps written) (behind : List Piece) (each_behind : (fs : List Name) → (IsLive l.world l.facts object → Contains written object → is_among fs (class_name object) ≡ true) → Each fs behind) where
     abbrev w : Classes
     w = l.world
 
@@ -247,30 +251,26 @@ module _ (written : List Name) where
       own_each_there (absent none is) = subst (Each fs) (sym is) (each_none fs)
       own_each_there (present p are is) = subst (Each fs) (sym is) (own_each fs p (extends_one p are is))
 
-      block_each : Each fs (with_helpers w behind b)
-      block_each = go (is_object b.class)
-        where
-          block_itself : Each fs (pieces_of_block w b)
-          block_itself = each_joined fs b.own (map (piece_of_member w) b.methods) (own_each_there block.own) (methods_each w fs b.methods)
+      block_each : Each fs (pieces_of_block w b)
+      block_each = each_joined fs b.own (map (piece_of_member w) b.methods) (own_each_there block.own) (methods_each w fs b.methods)
 
-          go : (t : Bool) → Each fs (if t then pieces_of_block w b ++ behind else pieces_of_block w b)
-          go true = each_joined fs (pieces_of_block w b) behind block_itself (each_behind fs)
-          go false = block_itself
+      owned_there : (q : Piece) → Contains b.own q → Contains (pieces_of_block w b) q
+      owned_there q i = Contains-append_left b.own (map (piece_of_member w) b.methods) q i
 
       declares_itself : (superclass : Option Name) (ms : List Member) → is_among (with_class (class_item_of c superclass ms) []) (class_name c) ≡ true
       declares_itself None ms = or_left (is_same_text (class_name c) (class_name c)) false (text-refl (class_name c))
       declares_itself (Some s) ms = or_left (is_same_text (class_name c) (class_name c)) false (text-refl (class_name c))
 
       -- behind its block a class is declared, if it is live and owned
-      itself_given : (gs : List Name) → Gives (with_helpers w behind b) gs → Live c → Contains written c → is_among gs (class_name c) ≡ true
+      itself_given : (gs : List Name) → Gives (pieces_of_block w b) gs → Live c → Contains written c → is_among gs (class_name c) ≡ true
       itself_given gs given live own =
           let k = live_there entries files w bytes a l.facts reached c live in
           let r = parts_of l c b.own k.0 k.1 block.own in
           let its_class : Piece = class_piece c r.parts.class.superclass r.parts.entries r.parts.fields in
           let named : r.parts.class.name ≡ c = (class_found w c r.parts.class r.are.class_is).1 in
-          given its_class (own_there its_class (subst (λ (qs : List Piece). Contains qs its_class) (sym r.own) (subst (λ (n : Name). Contains (pieces r.parts) (class_piece n r.parts.class.superclass r.parts.entries r.parts.fields)) named (class_there r.parts (r.are.live.1 live))))) ((among written c).1 own) (class_name c) (declares_itself r.parts.class.superclass (members c r.parts.class.superclass r.parts.entries r.parts.fields))
+          given its_class (owned_there its_class (subst (λ (qs : List Piece). Contains qs its_class) (sym r.own) (subst (λ (n : Name). Contains (pieces r.parts) (class_piece n r.parts.class.superclass r.parts.entries r.parts.fields)) named (class_there r.parts (r.are.live.1 live))))) ((among written c).1 own) (class_name c) (declares_itself r.parts.class.superclass (members c r.parts.class.superclass r.parts.entries r.parts.fields))
 
-      placed_behind : (gs : List Name) → Below fs gs → Gives (with_helpers w behind b) gs → Placed gs cs
+      placed_behind : (gs : List Name) → Below fs gs → Gives (pieces_of_block w b) gs → Placed gs cs
       placed_behind gs below given s live own = go (placed s live own)
         where
           at_front : (c ≡ s) ⊎ Contains cs s → Contains cs s ⊎ (is_among gs (class_name s) ≡ true)
@@ -281,16 +281,27 @@ module _ (written : List Name) where
           go (inl i) = at_front (cons_cases c s cs i)
           go (inr h) = inr (below (class_name s) h)
 
+      -- the helpers stand behind the block of the class of all objects
+      helpers_behind : (gs : List Name) → is_object b.class ≡ true → Gives (pieces_of_block w b) gs → Each gs behind
+      helpers_behind gs e given = each_behind gs (λ live own. let same : c ≡ object = sym block.class_is ∙ text-same b.class object e in subst (λ (n : Name). is_among gs (class_name n) ≡ true) same (itself_given gs given (subst Live (sym same) live) (subst (Contains written) (sym same) own)))
+
+      block_declares : (rest : List Piece) → ((gs : List Name) → Below fs gs → Gives (pieces_of_block w b) gs → declare gs (items_of written rest) ≡ true) → declare fs (items_of written (with_helpers w behind b ++ rest)) ≡ true
+      block_declares rest k = go (is_object b.class) refl
+        where
+          go : (t : Bool) → is_object b.class ≡ t → declare fs (items_of written ((if t then pieces_of_block w b ++ behind else pieces_of_block w b) ++ rest)) ≡ true
+          go false e = declare_joined fs (pieces_of_block w b) rest block_each k
+          go true e = subst (λ (qs : List Piece). declare fs (items_of written qs) ≡ true) (sym (append_assoc (pieces_of_block w b) behind rest)) (declare_joined fs (pieces_of_block w b) (behind ++ rest) block_each (λ gs below given. declare_joined gs behind rest (helpers_behind gs e given) (λ hs more theirs. k hs (λ x i. more x (below x i)) (λ q i own x j. more x (given q i own x j)))))
+
     blocks_declare : (cs : List Name) (bs : List Block) → AreBlocks l all cs bs → AreInOrder (StandsBefore w) cs → (fs : List Name) → Placed fs cs → ((q : Piece) → Contains (flat_map (with_helpers w behind) bs) q → Contains ps q) → declare fs (items_of written (flat_map (with_helpers w behind) bs)) ≡ true
     blocks_declare [] [] h o fs placed there = refl
     blocks_declare [] (b ∷ bs) h o fs placed there = absurd h
     blocks_declare (c ∷ cs) [] h o fs placed there = absurd h
     blocks_declare (c ∷ cs) (b ∷ bs) h o fs placed there =
         let here = λ (q : Piece) (i : Contains (with_helpers w behind b) q). there q (Contains-append_left (with_helpers w behind b) (flat_map (with_helpers w behind) bs) q i) in
-        declare_joined fs (with_helpers w behind b) (flat_map (with_helpers w behind) bs) (block_each c cs b h.0 o.0 here fs placed) (λ gs below given. blocks_declare cs bs h.1 o.1 gs (placed_behind c cs b h.0 o.0 here fs placed gs below given) (λ q i. there q (Contains-append_right (with_helpers w behind b) (flat_map (with_helpers w behind) bs) q i)))
+        block_declares c cs b h.0 o.0 here fs placed (flat_map (with_helpers w behind) bs) (λ gs below given. blocks_declare cs bs h.1 o.1 gs (placed_behind c cs b h.0 o.0 here fs placed gs below given) (λ q i. there q (Contains-append_right (with_helpers w behind b) (flat_map (with_helpers w behind) bs) q i)))
 
 pub pieces_are_declarations : PiecesAreDeclarations
-pieces_are_declarations entries files l all written ps bytes a reached p closed covered = subst (λ (qs : List Piece). declare [] (items_of written qs) ≡ true) (sym p.pieces_are) (blocks_declare written entries files l all ps bytes a reached closed (helpers ++ p.told) (λ fs. each_joined written fs helpers p.told (helpers_each written fs p.above p.helpers covered) (told_each written fs l (flat_map (pieces_of_block l.world) p.blocks) p.told p.are_told)) p.classes p.blocks p.are_blocks p.are_classes.in_order [] placed (λ q i. subst (λ (qs : List Piece). Contains qs q) (sym p.pieces_are) i))
+pieces_are_declarations entries files l all written ps bytes a reached p closed arrays = subst (λ (qs : List Piece). declare [] (items_of written qs) ≡ true) (sym p.pieces_are) (blocks_declare written entries files l all ps bytes a reached closed (helpers ++ p.told) (λ fs extends. each_joined written fs helpers p.told (helpers_each written fs p.above p.helpers (λ i. extends (arrays i))) (told_each written fs l (flat_map (pieces_of_block l.world) p.blocks) p.told p.are_told)) p.classes p.blocks p.are_blocks p.are_classes.in_order [] placed (λ q i. subst (λ (qs : List Piece). Contains qs q) (sym p.pieces_are) i))
   where
     helpers : List Piece
     helpers = map (helper_piece p.above) p.helpers

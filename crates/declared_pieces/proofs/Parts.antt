@@ -36,6 +36,15 @@ module _ (p : Parts) (live : p.is_live ≡ true) where
   pub class_there : Contains (pieces p) its_class
   class_there = in_front its_class (Contains-append_right (constants_of p) (class_of p) its_class (subst (λ (b : Bool). Contains (when b (its_class ∷ [])) its_class) (sym live) (at_first its_class [])))
 
+-- the constants of a class that is live or named as the base of arrays, among its pieces
+pub constants_among : (p : Parts) → (p.is_live || p.is_base) ≡ true → Contains (pieces p) (constants_piece p.class.name p.ancestors)
+constants_among p h =
+    let own : Piece = constants_piece p.class.name p.ancestors in
+    Contains-append_left (constants_of p ++ class_of p ++ all_statics p.class.name p.statics ++ module_of p) (tests_of p) own
+    (Contains-append_left (constants_of p ++ class_of p ++ all_statics p.class.name p.statics) (module_of p) own
+    (Contains-append_left (constants_of p ++ class_of p) (all_statics p.class.name p.statics) own
+    (Contains-append_left (constants_of p) (class_of p) own (subst (λ (b : Bool). Contains (when b (own ∷ [])) own) (sym h) (at_first own [])))))
+
 -- the test of a class, and the cast to it, among its pieces
 abbrev before_tests : Parts → List Piece
 before_tests p = constants_of p ++ class_of p ++ all_statics p.class.name p.statics ++ module_of p

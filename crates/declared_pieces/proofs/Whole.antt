@@ -19,10 +19,10 @@ use Rattle.declared_pieces.proofs.HelperNames.{one_helper}
 use Rattle.declared_pieces.proofs.Below.{stands_above}
 use Rattle.declared_pieces.proofs.Live.{classes_kept}
 use Rattle.declared_pieces.proofs.Looked as looked
-use Rattle.declared_pieces.proofs.Parts.{statics_among, in_statics, is_reached, test_among, cast_among}
-use Rattle.declared_pieces.proofs.Forms.{body_tells, test_form, cast_form}
+use Rattle.declared_pieces.proofs.Parts.{constants_among, statics_among, in_statics, is_reached, test_among, cast_among}
+use Rattle.declared_pieces.proofs.Forms.{body_tells, test_form, cast_form, base_form}
 use Rattle.declared_pieces.specs.Closed.{IsClosed}
-use Rattle.declared_pieces.specs.Laws.{FindsEntry, TestThere, CastThere, WhatIsUsedHasPieces}
+use Rattle.declared_pieces.specs.Laws.{FindsEntry, TestThere, CastThere, BaseThere, WhatIsUsedHasPieces}
 use Rattle.file_declarations.specs.Declared.{alone, on_receiver, running}
 use Rattle.object_helpers.proofs.Facts.{made_known, called_known}
 use Rattle.object_helpers.specs.Entries.{AreEntries, IsLive}
@@ -36,7 +36,7 @@ use Rattle.helper_rules.specs.declared.kinds.Helper.TheVariants.{TestOf}
 use Rattle.js_tree.specs.Terms.{Piece}
 use Rattle.object_helpers.specs.Pieces.{pieces_of_block, by_piece, AreLinkedPieces}
 use Rattle.object_helpers.proofs.Statics.{static_is}
-use Rattle.object_helpers.specs.Used.{used_of, makes, calls_on, tells_apart, is_among, is_received, is_constructor, has_static_in, needs_static, is_tested, is_cast}
+use Rattle.object_helpers.specs.Used.{used_of, makes, calls_on, tells_apart, is_among, is_received, is_constructor, has_static_in, needs_static, is_tested, is_cast, is_based_on}
 use Rattle.file_declarations.specs.Settings.{IsStaticField}
 use Rattle.object_helpers.proofs.Made as made
 use Rattle.object_helpers.specs.Running.{CanRun}
@@ -203,11 +203,13 @@ module _ (entries : List EntryPoint) (files : List SourceFile) (l : Linked) (all
 
   -- methods that are looked up
 
-  pub entry_there : (c : Name) (m : MethodName) → has.looked_up c m ≡ true → (d : Name) → has.made d ≡ true → is_ancestor w d c ≡ true → FindsEntry l ps written d m
-  entry_there c m h d made below =
-      let q = and_parts (list_any (calls_on c m) l.facts) (not (has_hijacked_in w c) || tells_apart w l.facts all written m) h in
+  pub entry_called : (c : Name) (m : MethodName) → list_any (calls_on c m) l.facts ≡ true → (d : Name) → has.made d ≡ true → is_ancestor w d c ≡ true → FindsEntry l ps written d m
+  entry_called c m called d made below =
       let r = and_parts (is_among written d) (list_any (makes d) l.facts) made in
-      looked.finds entries files l all written ps bytes a bodies p are exact owned c m (called_known l.facts c m q.0) d ((among written d).0 r.0) (made_known l.facts d r.1) (stands_above w d c below)
+      looked.finds entries files l all written ps bytes a bodies p are exact owned c m (called_known l.facts c m called) d ((among written d).0 r.0) (made_known l.facts d r.1) (stands_above w d c below)
+
+  pub entry_there : (c : Name) (m : MethodName) → has.looked_up c m ≡ true → (d : Name) → has.made d ≡ true → is_ancestor w d c ≡ true → FindsEntry l ps written d m
+  entry_there c m h = entry_called c m (and_parts (list_any (calls_on c m) l.facts) (not (has_hijacked_in w c) || tells_apart w l.facts all written m) h).0
 
   -- static fields
 
@@ -304,6 +306,24 @@ module _ (entries : List EntryPoint) (files : List SourceFile) (l : Linked) (all
     | inr cast ↦ (class_cast_there c (and_from (is_among written c) (is_cast all c) q.0 cast)).tests
   ]
 
+  -- the bases of arrays
+
+  reads_base : (c : Name) → HasForm w l.facts (forms.Base c) → Reads w entries (Reachable w entries) (NamesClass c)
+  reads_base c form = record { member = form.member; needed = run.reached (Body form.member) form.needed; definition = form.definition; defined = form.defined; asked = body_tells form.definition.body (forms.Base c) form.has }
+
+  pub class_base_there : (c : Name) → (is_among written c && is_based_on all c) ≡ true → BaseThere l written ps c
+  class_base_there c h =
+      let q = and_parts (is_among written c) (is_based_on all c) h in
+      let form = base_form w entries l.facts all bodies run.listed c q.1 in
+      let own = own_needed c (reads_base c form) in
+      let its = own.parts in
+      record {
+        parts = its;
+        are = own.are;
+        here = (among written c).0 q.0;
+        constants = subst (λ (n : Name). Contains ps (constants_piece n its.ancestors)) (class_found w c its.class own.are.class_is).1 (own.there (constants_piece its.class.name its.ancestors) (constants_among its (or_right its.is_live its.is_base (own.are.base.1 form))));
+      }
+
   -- helpers
 
   abbrev IsNamed : Name → Helper → Bool
@@ -354,5 +374,6 @@ has_pieces entries files l all live written ps bytes a bodies p are are_live run
   };
   tests = λ c h. class_test_there entries files l all live written ps bytes a bodies p are are_live run owned c h;
   casts = λ c h. class_cast_there entries files l all live written ps bytes a bodies p are are_live run owned c h;
+  bases = λ c h. class_base_there entries files l all live written ps bytes a bodies p are are_live run owned c h;
   helpers = λ h e. helper_listed entries files l all live written ps bytes a bodies p are are_live run owned h (helper_written entries files l all live written ps bytes a bodies p are are_live run owned h e);
 }

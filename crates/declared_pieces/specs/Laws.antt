@@ -3,12 +3,11 @@ use Rattle.std.specs.Prelude.{codes, ◌≡◌, ◌↔◌, ◌&&◌, true, List,
 use Rattle.std.specs.List.{Contains}
 use Rattle.declared_pieces.specs.Closed.{IsClosed, items_of}
 use Rattle.file_declarations.specs.Declarations.{declare}
-use Rattle.file_declarations.specs.Declared.{is_covered}
 use Rattle.file_listings.specs.Listed.{AreBytes}
 use Rattle.helper_rules.specs.Helpers.{helper_name, helper_piece}
 use Rattle.helper_rules.specs.Words.{all_kinds, told_kinds, helper, is_name, bound, entry_name, public_function, parameters_of}
 use Rattle.helper_rules.specs.declared.kinds.Helper.{Helper}
-use Rattle.helper_rules.specs.declared.kinds.Helper.TheVariants.{BoxedChar, TestOf, Throws}
+use Rattle.helper_rules.specs.declared.kinds.Helper.TheVariants.{ArrayClass, BoxedChar, TestOf, Throws}
 use Rattle.helper_rules.specs.declared.kinds.Failure.TheVariants.{Method}
 use Rattle.helper_rules.specs.declared.kinds.Kind.{Kind}
 use Rattle.ir_mean.specs.Dispatch.{chain_of, is_ancestor, proxy_target}
@@ -128,6 +127,13 @@ pub record CastThere (l : Linked) (written : List Name) (ps : List Piece) (helpe
   pub tests : TestThere l written ps helpers c
   pub cast : Contains ps (cast_piece c)
 
+-- a written class that bodies name as the base of arrays, with its parts and the piece of its constants
+pub record BaseThere (l : Linked) (written : List Name) (ps : List Piece) (c : Name) : Type 0 where
+  pub parts : Parts
+  pub are : AreParts l c parts
+  pub here : Contains written c
+  pub constants : Contains ps (constants_piece c parts.ancestors)
+
 -- what the code of the written classes can use has its pieces
 pub record HasPieces (l : Linked) (all : List EmittedMethod) (live written : List Name) (ps : List Piece) (p : AreLinkedPieces l all ps) : Type 0 where
   pub methods : (m : Member) → (is_among written m.class && has_function all m) ≡ true → MethodThere l.world all ps m
@@ -139,6 +145,7 @@ pub record HasPieces (l : Linked) (all : List EmittedMethod) (live written : Lis
   pub statics : (c f : Name) (t : IrType) → has_static (used_of l.world l.facts all live p.helpers written) c f t ≡ true → StaticThere l.world ps c f t
   pub tests : (c : Name) → (used_of l.world l.facts all live p.helpers written).tests (Class c) ≡ true → TestThere l written ps p.helpers c
   pub casts : (c : Name) → (used_of l.world l.facts all live p.helpers written).casts (Class c) ≡ true → CastThere l written ps p.helpers c
+  pub bases : (c : Name) → (used_of l.world l.facts all live p.helpers written).bases c ≡ true → BaseThere l written ps c
   pub helpers : (h : Helper) → (used_of l.world l.facts all live p.helpers written).helper (helper_name h) ≡ true → Contains ps (helper_piece p.above h)
 
 -- where what is written can run, and uses nothing but what is written, what its code can use has its pieces
@@ -154,7 +161,7 @@ WhatIsUsedHasPieces = (entries : List EntryPoint) (files : List SourceFile) (l :
     → IsClosed ps written
     → HasPieces l all live written ps p
 
--- the items of what is written do nothing but declare
+-- the items of what is written do nothing but declare, where the class of all objects is live if the class of arrays is there
 abbrev pub PiecesAreDeclarations : Type 0
 PiecesAreDeclarations = (entries : List EntryPoint) (files : List SourceFile) (l : Linked) (all : List EmittedMethod) (written : List Name) (ps : List Piece)
     → ((file : SourceFile) → Contains files file → AreBytes file.bytes)
@@ -162,5 +169,5 @@ PiecesAreDeclarations = (entries : List EntryPoint) (files : List SourceFile) (l
     → ((f : Fact) → Contains l.facts f → Reachable l.world entries f)
     → (p : AreLinkedPieces l all ps)
     → IsClosed ps written
-    → ((h : Helper) → Contains p.helpers h → is_covered h ≡ true)
+    → (Contains p.helpers ArrayClass → IsLive l.world l.facts object)
     → declare [] (items_of written ps) ≡ true

@@ -14,7 +14,7 @@ use Rattle.js_mean.specs.States as js
 use Rattle.js_tree.specs.Terms.{Name}
 use Rattle.sj_calls.specs.Pieces.{zero_of as zero_literal}
 use Rattle.sj_calls.proofs.Marked.{markers_tell}
-use Rattle.sj_calls.specs.Made.{zero_value}
+use Rattle.sj_calls.specs.Made.{zero_shown}
 use Rattle.sj_mangling.proofs.Injective.{mangled_texts_differ}
 use Rattle.sj_mangling.specs.Bindings.{class_binding}
 use Rattle.sj_mangling.specs.Mangling.{mangled}
@@ -22,8 +22,9 @@ use Rattle.sj_mangling.specs.declared.bindings.ClassBinding.TheVariants.{Marker}
 use Rattle.sj_trees.specs.declared.types.IrType.{IrType}
 use Rattle.sj_trees.specs.declared.types.IrType.TheVariants.{Undefined, Boolean, Char, Byte, Short, Int, Long, String}
 use Rattle.sj_calls.specs.Settings.{MarksAncestors}
-use Rattle.sj_world.specs.Ancestors.{IsAncestor, next_on_chain}
-use Rattle.sj_world.specs.Known.{Classes, is_same}
+use Rattle.sj_world.specs.Ancestors.{IsAncestor, by_path, next_on_chain}
+use Rattle.sj_world.specs.Known.{Classes, is_known, is_same}
+use Rattle.sj_world.specs.Paths.{stay}
 use Rattle.sj_world.specs.Tables.{AreAncestors}
 
 -- the marker of a class is the first of its constants, and none behind it hides it
@@ -35,12 +36,14 @@ pub marker_held : (c : Name) (names : List Name) (all : Name → Option js.Value
 marker_held c names all h = markers_stay names (with_property (codes "s") (js.text (marker c)) no_properties) all h
 
 -- constants tell the classes above their own
-pub marks_above : (w : Classes) (d : Name) (names : List Name) (own : Name → Option js.Value) → AreAncestors w d names → literal_properties (constants d names) no_properties ≡ Some own → MarksAncestors w own
-marks_above w d names own above literal c b e =
-    let texts : ◌≡◌ {A = Option js.Value} (Some (js.text (marker d))) (Some (js.text (marker c))) = sym (marker_held d names own literal) ∙ e in
-    let markers : marker d ≡ marker c = cc in
-    let same : d ≡ c = mangled_texts_differ d c (append_cancel_left (codes "i_") (mangled d) (mangled c) markers) in
-    subst (λ (x : Name). (is_some (own (marker b)) ≡ true) ↔ IsAncestor w x b) same (markers_tell w d b names own above literal)
+pub marks_above : (w : Classes) (d : Name) (names : List Name) (own : Name → Option js.Value) → is_known w d ≡ true → AreAncestors w d names → literal_properties (constants d names) no_properties ≡ Some own → MarksAncestors w own
+marks_above w d names own known above literal = record { known = λ c e. subst (λ (x : Name). IsAncestor w x x) (same c e) (record { known = known; way = by_path stay }); above = λ c b e. subst (λ (x : Name). (is_some (own (marker b)) ≡ true) ↔ IsAncestor w x b) (same c e) (markers_tell w d b names own above literal) }
+  where
+    same : (c : Name) → own (codes "s") ≡ Some (js.text (class_binding Marker c)) → d ≡ c
+    same c e =
+        let texts : ◌≡◌ {A = Option js.Value} (Some (js.text (marker d))) (Some (js.text (marker c))) = sym (marker_held d names own literal) ∙ e in
+        let markers : marker d ≡ marker c = cc in
+        mangled_texts_differ d c (append_cancel_left (codes "i_") (mangled d) (mangled c) markers)
 
 pub same_classes : (a b : List js.ClassLink) → js.holds false (js.class a) ≡ js.holds false (js.class b) → a ≡ b
 same_classes a b e = cc
@@ -55,7 +58,7 @@ chain_length w (suc k) seen c = go (list_any (is_same c) seen) (next_on_chain w 
     go false (Some d) below = let h : length (chain_from w k (c ∷ seen) d) ≤ k = below d in omega (arith, h)
 
 -- what the variable of a static field begins with
-pub zero_literal_is : (t : IrType) → literal_value (zero_literal t) ≡ Some (zero_value t)
+pub zero_literal_is : (t : IrType) → literal_value (zero_literal t) ≡ Some (zero_shown t)
 zero_literal_is Boolean = refl
 zero_literal_is Char = refl
 zero_literal_is Byte = refl

@@ -1,9 +1,6 @@
--- How members run, which helpers are covered, and what is asked of the fields of classes.
-use Rattle.std.specs.Prelude.{◌≡◌, Bool, true, false, IsTrue}
+-- How members run, and what is asked of the fields of classes.
+use Rattle.std.specs.Prelude.{◌≡◌, IsTrue}
 use Rattle.std.specs.List.{Contains}
-use Rattle.helper_rules.specs.declared.kinds.Helper.{Helper}
-use Rattle.helper_rules.specs.declared.kinds.Helper.TheVariants.{ArrayClass, ConstantsOf, Get, MakeArray, Put, Set}
-use Rattle.helper_rules.specs.declared.kinds.Kind.TheVariants as kinds
 use Rattle.ir_mean.specs.World.{World}
 use Rattle.sj_names.specs.Grammar.{is_class_name, is_plain_name}
 use Rattle.sj_names.specs.declared.method_names.Namespace.{Namespace}
@@ -24,17 +21,6 @@ running PrivateStatic = alone
 running Public = on_receiver
 running Private = on_receiver
 running Constructor = completing
-
--- a helper that is a function, the class of objects that hold chars, or the constants of theirs
-abbrev pub is_covered : Helper → Bool
-is_covered (ConstantsOf kinds.Char) = true
-is_covered (ConstantsOf _) = false
-is_covered ArrayClass = false
-is_covered MakeArray = false
-is_covered Get = false
-is_covered Set = false
-is_covered Put = false
-is_covered _ = true
 
 -- names of classes and fields are in their grammar; a field has its own name in its class, among the instance fields or the static ones, and a type of which there are
 -- values

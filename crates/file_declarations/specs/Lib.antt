@@ -11,6 +11,7 @@ pub use Rattle.sj_calls.specs.Methods
 pub use Rattle.sj_calls.specs.Names
 pub use Rattle.sj_calls.specs.Objects
 pub use Rattle.sj_calls.specs.Worlds
+pub use Rattle.sj_calls.specs.Arrays
 pub use Rattle.sj_calls.specs.Settings
 pub use Rattle.sj_calls.specs.SjPlainWorlds
 pub use Rattle.sj_calls.specs.Bridges

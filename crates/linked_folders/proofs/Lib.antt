@@ -1,3 +1,4 @@
+pub mod AboveMade
 pub mod Live
 pub mod Links
 pub mod One
@@ -20,7 +21,6 @@ pub use Rattle.declared_pieces.proofs.Firsts
 pub use Rattle.declared_pieces.proofs.Bodies
 pub use Rattle.declared_pieces.proofs.Brought
 pub use Rattle.declared_pieces.proofs.WrittenTrees
-pub use Rattle.declared_pieces.proofs.WithoutArrays
 pub use Rattle.declared_pieces.proofs.Pieces
 pub use Rattle.declared_pieces.proofs.Derivations
 pub use Rattle.declared_pieces.proofs.Direct

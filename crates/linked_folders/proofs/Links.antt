@@ -31,7 +31,6 @@ use Rattle.declared_pieces.proofs.Forms.{body_tells, cast_form, load_form}
 use Rattle.declared_pieces.proofs.Parts.{cast_among}
 use Rattle.declared_pieces.proofs.Plain.{class_found}
 use Rattle.declared_pieces.specs.Closed.{IsClosed}
-use Rattle.declared_pieces.specs.FileDeclarations.{is_covered}
 use Rattle.declared_pieces.specs.Entries.{AreEntries, IsLive}
 use Rattle.declared_pieces.specs.Files.{HasFunction}
 use Rattle.file_listings.specs.Listed.{AreBytes}
@@ -39,10 +38,10 @@ use Rattle.helper_rules.specs.Helpers.{failure_class, helper_name, helper_piece,
 use Rattle.helper_rules.specs.Words.{bound, class_name, helper, kind_class}
 use Rattle.helper_rules.specs.declared.kinds.Failure.{Failure}
 use Rattle.helper_rules.specs.declared.kinds.Failure.TheVariants.{Cast as CastFails}
-use Rattle.helper_rules.specs.declared.kinds.Helper.{Helper}
 use Rattle.helper_rules.specs.declared.kinds.Helper.TheVariants as helpers
+use Rattle.helper_rules.specs.declared.kinds.Helper.TheVariants.{ArrayClass}
+use Rattle.linked_folders.proofs.AboveMade.{arrays_extend}
 use Rattle.helper_rules.specs.declared.kinds.Kind.{Kind}
-use Rattle.helper_rules.specs.declared.kinds.Kind.TheVariants as kinds
 use Rattle.ir_mean.specs.Dispatch.{is_ancestor, proxy_target}
 use Rattle.ir_mean.specs.Meaning.{no_such_method}
 use Rattle.ir_mean.specs.Shows.{initializers}
@@ -50,9 +49,8 @@ use Rattle.js_tree.specs.Terms.{Piece}
 use Rattle.declared_pieces.specs.Pieces.{piece_of_member, pieces_of_block, by_piece, by_helper, AreLinkedPieces}
 use Rattle.declared_pieces.specs.Used.{used_of, makes, calls_on, tells_apart, is_among, is_cast, is_loaded}
 use Rattle.declared_pieces.proofs.Made as made
-use Rattle.declared_pieces.specs.Running.{CanBeThrown, CanRun, makes_array}
-use Rattle.declared_pieces.proofs.Pieces.{of_objects, reached}
-use Rattle.declared_pieces.specs.Helpers.{is_object_helper}
+use Rattle.declared_pieces.specs.Running.{CanBeThrown, CanRun}
+use Rattle.declared_pieces.proofs.Pieces.{reached}
 use Rattle.declared_pieces.specs.ProperPiecesLaws.{AreNamed}
 use Rattle.declared_pieces.proofs.Derivations.{closed}
 use Rattle.declared_pieces.specs.Reachable.{Reachable}
@@ -61,7 +59,6 @@ use Rattle.declared_pieces.specs.PieceRulesPieces.{cast_piece}
 use Rattle.declared_pieces.proofs.Found.{OwnerOf, owner_of}
 use Rattle.declared_pieces.proofs.Classes.{class-keeps}
 use Rattle.declared_pieces.proofs.Methods.{body_keeps}
-use Rattle.sj_names.proofs.Same.{impossible}
 use Rattle.sj_names.specs.Same.{is_same_text}
 use Rattle.sj_infos.specs.declared.forms.BodyForm.TheVariants as forms
 use Rattle.sj_infos.specs.declared.infos.Info.TheVariants.{Load}
@@ -90,12 +87,6 @@ use Rattle.declared_pieces.proofs.Live.{classes_kept}
 use Rattle.linked_folders.proofs.Live.{live, are_live}
 use Rattle.linked_folders.specs.Laws.{WrittenPiecesRun}
 
--- no helper of the forms that are built makes arrays
-makes_none : {A : Type 0} (h : Helper) → is_object_helper h ≡ true → makes_array h ≡ true → A
-makes_none helpers.MakeArray e maker = impossible e
-makes_none helpers.ArrayClass e maker = impossible e
-makes_none _ e maker = impossible maker
-
 pub initializers_among : (id : List ℕ) (es : List EntryPoint) (e : EntryPoint) → Contains (initializers es id) e → Contains es e
 initializers_among id [] e h = nothing_in e h
 initializers_among id (d ∷ es) e h = go (is_same_text id d.module) h (initializers_among id es e)
@@ -107,28 +98,6 @@ initializers_among id (d ∷ es) e h = go (is_same_text id d.module) h (initiali
     go : (b : Bool) → Contains (if b then (d ∷ initializers es id) else initializers es id) e → (Contains (initializers es id) e → Contains es e) → Contains (d ∷ es) e
     go true i rest = later (cons_cases d e (initializers es id) i) rest
     go false i rest = further d e es (rest i)
-
-covered : (h : Helper) → is_object_helper h ≡ true → is_covered h ≡ true
-covered helpers.NotNull e = refl
-covered helpers.IntQuotient e = refl
-covered helpers.IntRemainder e = refl
-covered helpers.LongQuotient e = refl
-covered helpers.LongRemainder e = refl
-covered helpers.BoxedChar e = refl
-covered (helpers.ConstantsOf kinds.Char) e = refl
-covered (helpers.ConstantsOf kinds.Undefined) e = impossible e
-covered (helpers.ConstantsOf kinds.Boolean) e = impossible e
-covered (helpers.ConstantsOf kinds.Byte) e = impossible e
-covered (helpers.ConstantsOf kinds.Short) e = impossible e
-covered (helpers.ConstantsOf kinds.Int) e = impossible e
-covered (helpers.ConstantsOf kinds.Long) e = impossible e
-covered (helpers.ConstantsOf kinds.Text) e = impossible e
-covered helpers.ArrayClass e = impossible e
-covered helpers.MakeArray e = impossible e
-covered helpers.Get e = impossible e
-covered helpers.Set e = impossible e
-covered helpers.Put e = impossible e
-covered h e = refl
 
 module _ (entries : List EntryPoint) (files : List SourceFile) (l : Linked) (all : List EmittedMethod) (ps : List Piece) (bytes : (file : SourceFile) → Contains files file → AreBytes file.bytes) (a : IsAccepted entries files l.world) (bodies : AreBodies l.world entries all) (exact : (f : Fact) → Contains l.facts f ↔ Reachable l.world entries f) (objects : (e : EmittedMethod) → Contains all e → is_object_body e.definition e.its_body ≡ true) (p : AreLinkedPieces l all ps) (methods : AreEntries l.world l.facts l.entries) (written : List Name) (owned : IsClosed ps written) where
   abbrev w : Classes
@@ -180,7 +149,7 @@ module _ (entries : List EntryPoint) (files : List SourceFile) (l : Linked) (all
   thrown : (f : Failure) → Contains p.helpers (helpers.Throws f) → Contains written object → CanBeThrown l.facts all written (failure_class f)
   thrown f i here =
       let c = failure_class f in
-      let r = reached entries files l all ps a bodies holds objects p f i in
+      let r = reached entries files l all ps a bodies holds p f i in
       let k = made.present w entries a.resolved (classes_kept entries files w bytes a) object (closed w entries (Needed object) the_object) in
       record {
         is_made = (exact (Made c)).1 r.0;
@@ -324,14 +293,14 @@ module _ (entries : List EntryPoint) (files : List SourceFile) (l : Linked) (all
     listed = listed;
     casts = cast_throws;
     loads = loaded;
-    arrays = λ h i maker. makes_none h (of_objects entries files l all ps a bodies holds objects p h i) maker;
     on_arrays = on_arrays;
     looked = answers;
     reflected = named_answers;
   }
 
-  pub all_covered : (h : Helper) → Contains p.helpers h → is_covered h ≡ true
-  all_covered h i = covered h (of_objects entries files l all ps a bodies holds objects p h i)
+  -- where the class of arrays is a helper, the class that it extends is live
+  pub extends : Contains p.helpers ArrayClass → IsLive w l.facts object
+  extends = arrays_extend entries files l all ps bytes a bodies exact p
 
   pub named : AreNamed w
   named = record { kept = λ c i. (judged entries files w bytes a c i).unbroken; class_names = class_named entries files w bytes a }

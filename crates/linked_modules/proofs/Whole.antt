@@ -161,15 +161,15 @@ module _ (entries : List EntryPoint) (files : List SourceFile) (l : Linked) (all
       in_last e = item_in_last program runs_last.front last own_items q.item (into_map item_of (filter (is_owned_in (file_with modules) last) ps) q (into_filter (is_owned_in (file_with modules) last) ps q i (is_it last (file_with modules q.owner) e)))
 
       go : Contains runs_last.front f ⊎ (last ≡ f) → Contains (all_items z) (placed f q.item)
-      go (inl j) = item_in_front program runs_last.front last own_items f q.item j (item_at sha1_digest graph entries style modules files l all ps bytes a (λ g. (exact g).0) p (links.all_covered entries files l all ps bytes a bodies exact objects p methods written owned) valid keep is_graph is closed q f i is_in)
+      go (inl j) = item_in_front program runs_last.front last own_items f q.item j (item_at sha1_digest graph entries style modules files l all ps bytes a (λ g. (exact g).0) p (links.extends entries files l all ps bytes a bodies exact objects p methods written owned) valid keep is_graph is closed q f i is_in)
       go (inr e) = subst (λ (g : Name). Contains (all_items z) (placed g q.item)) e (in_last (is_in ∙ ap Some (sym e)))
 
   -- the objects of those files are constants of classes
   marks : DeclaresConstants z
-  marks g x qs i = modules_declare_constants sha1_digest graph entries style modules files l all ps bytes a (λ f. (exact f).0) p (links.all_covered entries files l all ps bytes a bodies exact objects p methods written owned) valid keep is_graph is closed there.planned there.among runs_last.front runs_last.order g x qs i
+  marks g x qs i = modules_declare_constants sha1_digest graph entries style modules files l all ps bytes a (λ f. (exact f).0) p (links.extends entries files l all ps bytes a bodies exact objects p methods written owned) valid keep is_graph is closed there.planned there.among runs_last.front runs_last.order g x qs i
 
   declared : Declared z
-  declared = modules_declare entries files l all its_live written modules ps runs_last.front last own_items bytes a bodies p methods (links.lives entries files l all ps bytes a bodies exact objects p methods written owned) run owned (links.all_covered entries files l all ps bytes a bodies exact objects p methods written owned) proper.together whole all_stand marks
+  declared = modules_declare entries files l all its_live written modules ps runs_last.front last own_items bytes a bodies p methods (links.lives entries files l all ps bytes a bodies exact objects p methods written owned) run owned (links.extends entries files l all ps bytes a bodies exact objects p methods written owned) proper.together whole all_stand marks
 
   lawful : IsLawful z has
   lawful = record {
@@ -194,7 +194,7 @@ module _ (entries : List EntryPoint) (files : List SourceFile) (l : Linked) (all
     order = runs_last.order;
     good = reached_files_are_good modules ps proper there.planned there.among;
     items = modules_have_their_items sha1_digest graph entries style modules ps keep is there.planned there.among ∙ ap (λ (es : List EntryPoint). own_items ++ map call_item_of es) there.calls;
-    declares = modules_declare_in_order sha1_digest graph entries style modules files l all ps bytes a (λ f. (exact f).0) p (links.all_covered entries files l all ps bytes a bodies exact objects p methods written owned) valid keep is_graph is closed there.planned there.among runs_last.front runs_last.order;
+    declares = modules_declare_in_order sha1_digest graph entries style modules files l all ps bytes a (λ f. (exact f).0) p (links.extends entries files l all ps bytes a bodies exact objects p methods written owned) valid keep is_graph is closed there.planned there.among runs_last.front runs_last.order;
     linked = initializer_linked;
   }
 

@@ -10,7 +10,7 @@ use Rattle.helper_rules.specs.declared.kinds.Helper.{Helper}
 use Rattle.sj_sound.specs.Tests.{test_name, cast_name}
 use Rattle.sj_infos.specs.Forms.{forms_in}
 use Rattle.sj_infos.specs.declared.forms.BodyForm.{BodyForm}
-use Rattle.sj_infos.specs.declared.forms.BodyForm.TheVariants.{Test, Cast, Load, Store, Reflective}
+use Rattle.sj_infos.specs.declared.forms.BodyForm.TheVariants.{Test, Cast, Base, Load, Store, Reflective}
 use Rattle.sj_names.specs.WellKnown.{object}
 use Rattle.sj_names.specs.Same.{is_same_text, is_same_method}
 use Rattle.sj_names.specs.declared.method_names.Member.{Member}
@@ -23,7 +23,7 @@ use Rattle.sj_trees.specs.SameTypes.{is_same_type}
 use Rattle.sj_trees.specs.declared.classes.ClassDef.{ClassDef}
 use Rattle.sj_trees.specs.declared.classes.FieldDef.{FieldDef}
 use Rattle.sj_trees.specs.declared.types.IrType.{IrType}
-use Rattle.sj_trees.specs.declared.types.IrType.TheVariants.{Class}
+use Rattle.sj_trees.specs.declared.types.IrType.TheVariants.{Array, Class}
 use Rattle.sj_world.specs.Known.{Name, Classes, class_of}
 use Rattle.sj_world.specs.declared.facts.Fact.{Fact}
 use Rattle.sj_world.specs.declared.facts.Fact.TheVariants.{NeededField, Made, Called}
@@ -104,20 +104,34 @@ is_loaded all c = list_any (λ (e : EmittedMethod). list_any (is_load_of c) (for
 abbrev pub is_stored : List EmittedMethod → Name → Bool
 is_stored all c = list_any (λ (e : EmittedMethod). list_any (is_store_of c) (forms_in e.its_body)) all
 
--- the test of a class that is written, for which bodies test or to which they cast, and that of a primitive type among the helpers
+-- one of these bodies names the class as the base of an array
+abbrev pub is_base_of : Name → BodyForm → Bool
+is_base_of c (Base d) = is_same_text c d
+is_base_of c _ = false
+
+abbrev pub is_based_on : List EmittedMethod → Name → Bool
+is_based_on all c = list_any (λ (e : EmittedMethod). list_any (is_base_of c) (forms_in e.its_body)) all
+
+-- the test of a class that is written, for which bodies test or to which they cast, and those of a primitive type and of arrays among the helpers
 abbrev pub uses_test : List EmittedMethod → List Helper → List Name → IrType → Bool
 uses_test all helpers written (Class c) = is_among written c && (is_tested all c || is_cast all c)
+uses_test all helpers written (Array r) = uses_helper helpers written (test_name (Array r))
 uses_test all helpers written t = has_kind t && uses_helper helpers written (test_name t)
 
 -- and the casts
 abbrev pub uses_cast : List EmittedMethod → List Helper → List Name → IrType → Bool
 uses_cast all helpers written (Class c) = is_among written c && is_cast all c
+uses_cast all helpers written (Array r) = uses_helper helpers written (cast_name (Array r))
 uses_cast all helpers written t = has_kind t && uses_helper helpers written (cast_name t)
 
 -- that objects of this class are made
 abbrev pub makes : Name → Fact → Bool
 makes c (Made d) = is_same_text c d
 makes c _ = false
+
+-- the class is written, and objects of it are made
+abbrev pub is_made : List Fact → List Name → Name → Bool
+is_made facts written c = is_among written c && list_any (makes c) facts
 
 -- that the method is called on receivers of this class; on those of any
 abbrev pub calls_on : Name → MethodName → Fact → Bool
@@ -154,7 +168,7 @@ calls_by_name w all written p = is_called_by all p && list_any (uses_reflective 
 
 -- what the code can use, of a world with these facts, methods, live classes and helpers, where the pieces of these classes are written: their members, a call of a public one running
 -- its target, the methods that are called on their objects, where no hijacked class stands there or below or the function that tells primitive receivers apart is written, the reflective names of which the function is written, and their constructors that have no value, their objects, each instance field of the world, their static fields that are needed, those that a body loads as modules or stores, the helpers, and the tests of primitive
--- types and the casts to them that are among them, and those of these classes; no class is the base of an array yet
+-- types and of arrays and the casts to them that are among them, and those of these classes, and these classes as the bases of arrays where a body names them so; arrays can be made where objects of the class of all are
 abbrev pub used_of : Classes → List Fact → List EmittedMethod → List Name → List Helper → List Name → Usable
 used_of w facts all live helpers written = record {
   linked = λ m. is_static m.namespace && (is_among written m.class && has_function all m);
@@ -164,7 +178,7 @@ used_of w facts all live helpers written = record {
   dispatched = tells_apart w facts all written;
   reflected = calls_by_name w all written;
   built = λ m. is_constructor_without_value m && (is_among written m.class && has_function all m);
-  made = λ c. is_among written c && list_any (makes c) facts;
+  made = is_made facts written;
   live = λ c. is_among written c && is_among live c;
   field = λ c f t. has_field_in (class_of w c) f t;
   static_field = uses_static w facts written;
@@ -173,7 +187,8 @@ used_of w facts all live helpers written = record {
   stored = λ c. is_among written c && is_stored all c;
   tests = uses_test all helpers written;
   casts = uses_cast all helpers written;
-  bases = λ c. false;
+  bases = λ c. is_among written c && is_based_on all c;
+  arrays = is_made facts written object;
   on_arrays = λ m. list_any (calls_on object m) facts;
   helper = uses_helper helpers written;
   objects = true;

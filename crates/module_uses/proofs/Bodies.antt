@@ -77,8 +77,8 @@ module _ (has : Usable) (uses : Binding → Bool) where
     gives (select_static p c f t) i = (and_from (has.static_field c f t) (uses (static_use c f)), and_from (has.static_setter c f t) (uses (setter_use c f)))
     gives (load_module p c) i = and_from (has.modules c) (uses (load_use c))
     gives (store_module p c d) i = and_from (has.stored c) (uses (store_use c))
-    gives (new_array p r d) i = base_gives r.base
-    gives (array_value p r ts) i = base_gives r.base
+    gives (new_array p r d) i = (λ h u. h, base_gives r.base)
+    gives (array_value p r ts) i = (λ h u. h, base_gives r.base)
     gives (is_instance_of p d t) i = (λ h u. and_from (has.tests t) (list_all uses (test_uses t)) h (all_used (test_uses t) u), type_gives t)
     gives (as_instance_of p d t) i = (λ h u. and_from (has.casts t) (list_all uses (cast_uses t)) h (all_used (cast_uses t) u), type_gives t)
     gives (binary_op p o a d) i = λ h. fit p o a d i

@@ -55,3 +55,4 @@ pub use Rattle.running_modules.proofs.LinkedEntriesOne
 pub use Rattle.running_modules.proofs.ReflectedCases
 pub use Rattle.running_modules.proofs.Places
 pub use Rattle.running_modules.proofs.Each
+pub use Rattle.running_modules.proofs.Plain

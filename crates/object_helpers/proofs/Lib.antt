@@ -1,9 +1,10 @@
 pub mod Bodies
 pub mod Brought
+pub mod HelperNames
 pub mod Named
+pub mod NestedTrees
 pub mod Pieces
 pub mod Sures
-pub mod WithoutArrays
 pub mod WrittenTrees
 pub use Rattle.body_uses.proofs.Direct
 pub use Rattle.body_uses.proofs.Given

@@ -1,4 +1,4 @@
--- The helpers of the pieces of a linked world: each piece uses none but these, and what they use are these again.
+-- The helpers of the pieces of a linked world, and what bodies ask for where they are there: each piece uses none but these, and what they use are these again.
 use Rattle.dispatch_laws.specs.Targets.{lookup_in}
 use Rattle.std.proofs.Common.{◌≡◌, Bool, true, false, List, [], ◌∷◌, ◌++◌, ◌||◌, ◌⊎◌, inl, inr, ⊎_elim, Option, Some, None, refl, sym, subst, codes, map, Contains, if◌then◌else◌}
 use Rattle.std.specs.Prelude.{is_none}
@@ -9,12 +9,11 @@ use Rattle.body_uses.proofs.Calls.{needed}
 use Rattle.body_uses.proofs.Members.{defined}
 use Rattle.body_uses.specs.Accepted.{IsAccepted}
 use Rattle.body_uses.specs.Bodies.{AreBodies}
-use Rattle.body_uses.specs.Built.{is_object_body}
 use Rattle.body_uses.proofs.Uses.{combine}
 use Rattle.body_uses.proofs.EachTyped.{in_all}
 use Rattle.body_uses.proofs.Undenied.{first_or_later}
-use Rattle.helper_rules.specs.Helpers.{helper_name, used_helpers, failure_class}
-use Rattle.helper_rules.specs.Words.{bound, helper, all_kinds, class_name, public_function}
+use Rattle.helper_rules.specs.Helpers.{helper_name, used_helpers, tests_and_constants, failure_class}
+use Rattle.helper_rules.specs.Words.{bound, helper, all_kinds, worded_kinds, class_name, public_function}
 use Rattle.helper_rules.specs.declared.kinds.Failure.{Failure}
 use Rattle.helper_rules.specs.declared.kinds.Failure.TheVariants as failures
 use Rattle.helper_rules.specs.declared.kinds.Helper.{Helper}
@@ -36,7 +35,7 @@ use Rattle.body_uses.specs.PieceRulesPieces.{Parts, pieces, constants_piece, cla
 use Rattle.proper_pieces.proofs.Names.{function_rank}
 use Rattle.body_uses.proofs.Derivations.{closed}
 use Rattle.body_uses.specs.Reachable.{Reachable}
-use Rattle.body_uses.specs.Rules.{Reads, message_constructor, public_member, of_throw, asked_body, throw_made}
+use Rattle.body_uses.specs.Rules.{Reads, message_constructor, public_member, of_throw, asked_body, throw_made, array_made}
 use Rattle.sj_infos.specs.Forms.{form_of, of_base, of_test, of_cast, forms_by_body}
 use Rattle.sj_infos.specs.Forms as of_form
 use Rattle.sj_infos.specs.Infos as infos
@@ -45,13 +44,14 @@ use Rattle.sj_infos.specs.Sure.{sure_among}
 use Rattle.sj_infos.specs.Trees.{trees}
 use Rattle.sj_infos.specs.declared.forms.BodyForm.TheVariants as forms
 use Rattle.sj_infos.specs.declared.infos.Info.{Info}
-use Rattle.sj_infos.specs.declared.infos.Info.TheVariants.{Class, Throws, Reflective}
+use Rattle.sj_infos.specs.declared.infos.Info.TheVariants.{Class, ArrayForm, Throws, Reflective}
 use Rattle.body_uses.proofs.Found.{owner_of, here, there}
 use Rattle.body_uses.proofs.Classes.{class-keeps}
 use Rattle.sj_mangling.specs.Bindings.{class_binding, field_binding}
 use Rattle.sj_mangling.specs.declared.bindings.ClassBinding.TheVariants.{Instance, IsInstance}
 use Rattle.sj_mangling.specs.declared.bindings.FieldBinding.TheVariants.{Variable}
 use Rattle.sj_names.proofs.Same.{impossible}
+use Rattle.sj_names.specs.WellKnown.{object}
 use Rattle.sj_names.specs.declared.entry_points.EntryPoint.{EntryPoint}
 use Rattle.sj_names.specs.declared.folders.SourceFile.{SourceFile}
 use Rattle.sj_names.specs.declared.method_names.MethodName.{MethodName}
@@ -68,10 +68,10 @@ use Rattle.sj_world.specs.declared.facts.Fact.{Fact}
 use Rattle.sj_world.specs.declared.facts.Fact.TheVariants.{Made, Body}
 use Rattle.sj_world.specs.declared.linked.MethodEntry.{MethodEntry}
 use Rattle.worklist.proofs.Inserted.{nothing_in, only_one}
-use Rattle.object_helpers.specs.Helpers.{is_division, is_object_helper, UsesIt, a_check, a_division, a_char, a_test, a_cast, an_identity}
-use Rattle.object_helpers.specs.Laws.{HelpersAreOfObjects, ThrownClassesAreReached}
+use Rattle.object_helpers.specs.Helpers.{is_division, UsesIt, a_check, a_division, a_char, a_test, a_cast, an_identity, a_new_array, an_array_of_items, an_item, a_primitive_item, another_item, a_test_of_arrays, a_cast_to_arrays}
+use Rattle.object_helpers.specs.Laws.{ThrownClassesAreReached, ArraysExtendAMadeClass}
 use Rattle.object_helpers.proofs.Bodies.{cast_exception, method_exception, Only, only_function, once_in, all_used}
-use Rattle.object_helpers.proofs.Named.{no_helper, named_box, named_test, named_cast, named_no_method}
+use Rattle.object_helpers.proofs.Named.{no_helper, named_as}
 
 -- what a list that is made of lists has is in one of them
 pub record InOne {X Y : Type 0} (f : X → List Y) (xs : List X) (y : Y) : Type 0 where
@@ -178,46 +178,38 @@ exception_asked p = calls_ask p method_exception (λ names m e same. there (Refl
 pub name_asked : (p : MethodName) (body : Option Term) → Contains (forms_by_body body) (forms.Reflective p) → Contains (asked_by_body body) (Reflective p)
 name_asked p = calls_ask p (Reflective p) (λ names m e same. subst (λ (x : MethodName). Contains (asked_by_name names m e) (Reflective x)) same (here (Reflective m) (infos.of_receiver names e ++ infos.no_such_method)))
 
-module _ (entries : List EntryPoint) (files : List SourceFile) (l : Linked) (all : List EmittedMethod) (accepted : IsAccepted entries files l.world) (bodies : AreBodies l.world entries all) (reached : (f : Fact) → Contains l.facts f → Reachable l.world entries f) (objects : (e : EmittedMethod) → Contains all e → is_object_body e.definition e.its_body ≡ true) where
+module _ (entries : List EntryPoint) (files : List SourceFile) (l : Linked) (all : List EmittedMethod) (accepted : IsAccepted entries files l.world) (bodies : AreBodies l.world entries all) (reached : (f : Fact) → Contains l.facts f → Reachable l.world entries f) where
   abbrev Asked : Name → Type 0
   Asked c = Reads l.world entries (Reachable l.world entries) (Throws c)
 
-  -- the helpers of these forms: one that throws, or that uses one that does, is there only where a needed body asks for the exception
+  abbrev AskedArrays : Type 0
+  AskedArrays = Reads l.world entries (Reachable l.world entries) ArrayForm
+
+  -- the class of arrays is there by a form that asks for arrays, or by the exception of a store
+  abbrev Arrays : Type 0
+  Arrays = AskedArrays ⊎ Asked (failure_class failures.Store)
+
+  -- a helper that throws, or that uses one that does, is there only where a needed body asks for the exception, and one of arrays only where a body asks for arrays or sets an item
   abbrev Good : Helper → Type 0
-  Good helpers.NotNull = Asked (codes "java.lang.NullPointerException")
-  Good helpers.IntQuotient = Asked (codes "java.lang.ArithmeticException")
-  Good helpers.IntRemainder = Asked (codes "java.lang.ArithmeticException")
-  Good helpers.LongQuotient = Asked (codes "java.lang.ArithmeticException")
-  Good helpers.LongRemainder = Asked (codes "java.lang.ArithmeticException")
-  Good helpers.BoxedChar = Unit {0}
-  Good (helpers.ConstantsOf kinds.Char) = Unit {0}
-  Good helpers.Equal = Unit {0}
-  Good (helpers.TestOf k) = Unit {0}
-  Good (helpers.CastTo k) = Asked (codes "java.lang.ClassCastException")
-  Good (helpers.Throws failures.NullReceiver) = Asked (codes "java.lang.NullPointerException")
-  Good (helpers.Throws failures.Division) = Asked (codes "java.lang.ArithmeticException")
-  Good (helpers.Throws failures.Cast) = Asked (codes "java.lang.ClassCastException")
-  Good (helpers.Throws failures.Method) = Asked (codes "java.lang.NoSuchMethodException")
-  Good _ = ⊥
+  Good helpers.NotNull = Asked (failure_class failures.NullReceiver)
+  Good helpers.IntQuotient = Asked (failure_class failures.Division)
+  Good helpers.IntRemainder = Asked (failure_class failures.Division)
+  Good helpers.LongQuotient = Asked (failure_class failures.Division)
+  Good helpers.LongRemainder = Asked (failure_class failures.Division)
+  Good (helpers.CastTo k) = Asked (failure_class failures.Cast)
+  Good helpers.ArrayClass = Arrays
+  Good helpers.MakeArray = AskedArrays × Asked (failure_class failures.Size)
+  Good helpers.CheckIndex = Asked (failure_class failures.Index)
+  Good helpers.Get = Asked (failure_class failures.Index)
+  Good helpers.Set = Asked (failure_class failures.Index)
+  Good helpers.Put = Asked (failure_class failures.Index) × Asked (failure_class failures.Store)
+  Good helpers.Fits = Arrays
+  Good helpers.TestOfArray = Arrays
+  Good helpers.CastToArray = Arrays × Asked (failure_class failures.Cast)
+  Good (helpers.Throws f) = Asked (failure_class f)
+  Good _ = Unit {0}
 
-  good_helper : (h : Helper) → Good h → is_object_helper h ≡ true
-  good_helper helpers.NotNull g = refl
-  good_helper helpers.IntQuotient g = refl
-  good_helper helpers.IntRemainder g = refl
-  good_helper helpers.LongQuotient g = refl
-  good_helper helpers.LongRemainder g = refl
-  good_helper helpers.BoxedChar g = refl
-  good_helper (helpers.ConstantsOf kinds.Char) g = refl
-  good_helper helpers.Equal g = refl
-  good_helper (helpers.TestOf k) g = refl
-  good_helper (helpers.CastTo k) g = refl
-  good_helper (helpers.Throws failures.NullReceiver) g = refl
-  good_helper (helpers.Throws failures.Division) g = refl
-  good_helper (helpers.Throws failures.Cast) g = refl
-  good_helper (helpers.Throws failures.Method) g = refl
-  good_helper _ g = absurd g
-
-  good_division : (h : Helper) → is_division h ≡ true → Asked (codes "java.lang.ArithmeticException") → Good h
+  good_division : (h : Helper) → is_division h ≡ true → Asked (failure_class failures.Division) → Good h
   good_division helpers.IntQuotient e r = r
   good_division helpers.IntRemainder e r = r
   good_division helpers.LongQuotient e r = r
@@ -225,23 +217,43 @@ module _ (entries : List EntryPoint) (files : List SourceFile) (l : Linked) (all
   good_division _ e r = impossible e
 
   -- the helpers of a helper
-  only_good : (g h : Helper) → Good g → Contains (g ∷ []) h → Good h
-  only_good g h r i = subst Good (only_one g h i) r
+  only : (h : Helper) → Good h → All Good (h ∷ [])
+  only h r = All-cons Good h [] r (All-nil Good)
 
-  of_helper : (g h : Helper) → Good g → Contains (used_helpers g) h → Good h
-  of_helper helpers.NotNull h r i = only_good (helpers.Throws failures.NullReceiver) h r i
-  of_helper helpers.IntQuotient h r i = only_good (helpers.Throws failures.Division) h r i
-  of_helper helpers.IntRemainder h r i = only_good (helpers.Throws failures.Division) h r i
-  of_helper helpers.LongQuotient h r i = only_good (helpers.Throws failures.Division) h r i
-  of_helper helpers.LongRemainder h r i = only_good (helpers.Throws failures.Division) h r i
-  of_helper helpers.BoxedChar h r i = only_good (helpers.ConstantsOf kinds.Char) h tt i
-  of_helper (helpers.ConstantsOf k) h r i = nothing_in h i
-  of_helper (helpers.TestOf kinds.Char) h r i = only_good helpers.BoxedChar h tt i
-  of_helper (helpers.TestOf k) h r i = nothing_in h i
-  of_helper (helpers.CastTo k) h r i = All-contains Good (helpers.TestOf k ∷ helpers.Throws failures.Cast ∷ []) h (All-cons Good (helpers.TestOf k) (helpers.Throws failures.Cast ∷ []) tt (All-cons Good (helpers.Throws failures.Cast) [] r (All-nil Good))) i
-  of_helper helpers.Equal h r i = only_good helpers.BoxedChar h tt i
-  of_helper (helpers.Throws f) h r i = nothing_in h i
-  of_helper _ h r i = absurd r
+  first : (h : Helper) (hs : List Helper) → Good h → All Good hs → All Good (h ∷ hs)
+  first h hs r = All-cons Good h hs r
+
+  tests_and_constants_good : (ks : List Kind) → All Good (tests_and_constants ks)
+  tests_and_constants_good [] = All-nil Good
+  tests_and_constants_good (k ∷ ks) = first (helpers.TestOf k) (helpers.ConstantsOf k ∷ tests_and_constants ks) tt (first (helpers.ConstantsOf k) (tests_and_constants ks) tt (tests_and_constants_good ks))
+
+  each_of_helper : (g : Helper) → Good g → All Good (used_helpers g)
+  each_of_helper helpers.NotNull r = only (helpers.Throws failures.NullReceiver) r
+  each_of_helper helpers.IntQuotient r = only (helpers.Throws failures.Division) r
+  each_of_helper helpers.IntRemainder r = only (helpers.Throws failures.Division) r
+  each_of_helper helpers.LongQuotient r = only (helpers.Throws failures.Division) r
+  each_of_helper helpers.LongRemainder r = only (helpers.Throws failures.Division) r
+  each_of_helper helpers.BoxedChar r = only (helpers.ConstantsOf kinds.Char) tt
+  each_of_helper (helpers.ConstantsOf k) r = All-nil Good
+  each_of_helper (helpers.TestOf kinds.Char) r = only helpers.BoxedChar tt
+  each_of_helper (helpers.TestOf k) r = All-nil Good
+  each_of_helper (helpers.CastTo k) r = first (helpers.TestOf k) (helpers.Throws failures.Cast ∷ []) tt (only (helpers.Throws failures.Cast) r)
+  each_of_helper helpers.Equal r = only helpers.BoxedChar tt
+  each_of_helper helpers.ArrayClass r = All-nil Good
+  each_of_helper helpers.MakeArray r = first (helpers.Throws failures.Size) (helpers.ArrayClass ∷ []) r.1 (only helpers.ArrayClass (inl r.0))
+  each_of_helper helpers.CheckIndex r = only (helpers.Throws failures.Index) r
+  each_of_helper helpers.Get r = only helpers.CheckIndex r
+  each_of_helper helpers.Set r = only helpers.CheckIndex r
+  each_of_helper helpers.Put r = first helpers.CheckIndex (helpers.Fits ∷ helpers.Throws failures.Store ∷ []) r.0 (first helpers.Fits (helpers.Throws failures.Store ∷ []) (inr r.1) (only (helpers.Throws failures.Store) r.1))
+  each_of_helper helpers.Covers r = All-nil Good
+  each_of_helper helpers.Fits r =
+      first helpers.ArrayClass (helpers.Covers ∷ helpers.TestOf kinds.Byte ∷ helpers.TestOf kinds.Short ∷ helpers.ClassOf ∷ []) r
+      (first helpers.Covers (helpers.TestOf kinds.Byte ∷ helpers.TestOf kinds.Short ∷ helpers.ClassOf ∷ []) tt
+      (first (helpers.TestOf kinds.Byte) (helpers.TestOf kinds.Short ∷ helpers.ClassOf ∷ []) tt (first (helpers.TestOf kinds.Short) (helpers.ClassOf ∷ []) tt (only helpers.ClassOf tt))))
+  each_of_helper helpers.ClassOf r = tests_and_constants_good worded_kinds
+  each_of_helper helpers.TestOfArray r = first helpers.ArrayClass (helpers.Covers ∷ []) r (only helpers.Covers tt)
+  each_of_helper helpers.CastToArray r = first helpers.TestOfArray (helpers.Throws failures.Cast ∷ []) r.0 (only (helpers.Throws failures.Cast) r.1)
+  each_of_helper (helpers.Throws f) r = All-nil Good
 
   -- bindings of a piece that are of no other helper
   abbrev Q : Binding → Type 0
@@ -253,8 +265,11 @@ module _ (entries : List EntryPoint) (files : List SourceFile) (l : Linked) (all
   one : (b : Binding) → Q b → All Q (b ∷ [])
   one b q = All-cons Q b [] q none
 
+  of_helper : (h : Helper) → Good h → Q (helper (helper_name h))
+  of_helper g r h same = subst Good (named_as g h same) r
+
   box : Q (helper (codes "$C"))
-  box h same = subst Good (sym (named_box h same)) tt
+  box = of_helper helpers.BoxedChar tt
 
   abbrev EachGood : List Piece → Type 0
   EachGood ps = (p : Piece) → Contains ps p → All Q p.uses
@@ -292,13 +307,20 @@ module _ (entries : List EntryPoint) (files : List SourceFile) (l : Linked) (all
   of_body e i _ (a_test k) = tt
   of_body e i _ (a_cast k j) = reads e i (Throws (codes "java.lang.ClassCastException")) j
   of_body e i _ an_identity = tt
+  of_body e i _ (a_new_array f k) = (reads e i ArrayForm f, reads e i (Throws (codes "java.lang.NegativeArraySizeException")) k)
+  of_body e i _ (an_array_of_items f) = inl (reads e i ArrayForm f)
+  of_body e i _ (an_item k) = reads e i (Throws (codes "java.lang.ArrayIndexOutOfBoundsException")) k
+  of_body e i _ (a_primitive_item k) = reads e i (Throws (codes "java.lang.ArrayIndexOutOfBoundsException")) k
+  of_body e i _ (another_item k j) = (reads e i (Throws (codes "java.lang.ArrayIndexOutOfBoundsException")) k, reads e i (Throws (codes "java.lang.ArrayStoreException")) j)
+  of_body e i _ (a_test_of_arrays f) = inl (reads e i ArrayForm f)
+  of_body e i _ (a_cast_to_arrays f j) = (inl (reads e i ArrayForm f), reads e i (Throws (codes "java.lang.ClassCastException")) j)
 
   method_good : (e : EmittedMethod) → Contains all e → All Q (piece_of_member l.world e).uses
   method_good e i =
       let o = owner_of l.world e.member e.definition (bodies.found e i).found in
       let among = Contains-permutation l.world accepted.classes o.owner (IsPermutation-sym accepted.classes l.world accepted.world.sorted.same) o.in_world in
       let kept = class-keeps o.owner (accepted.kept o.owner among) e.definition o.listed in
-      weaken (piece_of_member l.world e).uses (all_used (lookup_in l.world) o.owner e.definition e.its_body (bodies.found e i).has_body kept (objects e i))
+      weaken (piece_of_member l.world e).uses (all_used (lookup_in l.world) o.owner e.definition e.its_body (bodies.found e i).has_body kept)
     where
       weaken : (bs : List Binding) → All (Only (UsesIt (asked_in e.its_body))) bs → All Q bs
       weaken bs h = All-weaker (Only (UsesIt (asked_in e.its_body))) Q (λ b f k same. of_body e i k (f k same)) bs h
@@ -343,7 +365,7 @@ module _ (entries : List EntryPoint) (files : List SourceFile) (l : Linked) (all
   cells_good c loaded = more_pieces (cell_piece c) (when loaded (load_piece c ∷ []) ++ store_piece c ∷ []) none (joined (when loaded (load_piece c ∷ [])) (store_piece c ∷ []) (pieces_when loaded (load_piece c ∷ []) (λ h. one_piece (load_piece c) (load_good c))) (one_piece (store_piece c) (one (bound c (class_binding Instance c)) (cell c))))
 
   kind_good : (k : Kind) → Q (test_binding k)
-  kind_good k h same = named_test Good (λ j. tt) k h same
+  kind_good k = of_helper (helpers.TestOf k) tt
 
   kinds_good : (ks : List Kind) → All Q (map test_binding ks)
   kinds_good [] = none
@@ -354,7 +376,7 @@ module _ (entries : List EntryPoint) (files : List SourceFile) (l : Linked) (all
   test_good ks None = kinds_good ks
 
   cast_good : (c : Name) → Asked (codes "java.lang.ClassCastException") → All Q (cast_piece c).uses
-  cast_good c r = All-cons Q (bound c (class_binding IsInstance c)) (helper (codes "$cce") ∷ []) (λ h same. no_helper (bound c (class_binding IsInstance c)) 7 refl refl h same) (one (helper (codes "$cce")) (λ h same. subst Good (sym (named_cast h same)) r))
+  cast_good c r = All-cons Q (bound c (class_binding IsInstance c)) (helper (codes "$cce") ∷ []) (λ h same. no_helper (bound c (class_binding IsInstance c)) 7 refl refl h same) (one (helper (codes "$cce")) (of_helper (helpers.Throws failures.Cast) r))
 
   cast_read : (c : Name) → HasForm l.world l.facts (forms.Cast c) → Asked (codes "java.lang.ClassCastException")
   cast_read c h = record { member = h.member; needed = reached (Body h.member) h.needed; definition = h.definition; defined = h.defined; asked = body_asks c h.definition.body h.has }
@@ -399,7 +421,7 @@ module _ (entries : List EntryPoint) (files : List SourceFile) (l : Linked) (all
   names_good ps told h p i =
       let d = h.made p i in
       let own : List Binding = flat_map reflected_uses d.is_piece.cases in
-      subst (λ (q : Piece). All Q q.uses) (sym d.is_piece.piece_is) (once_in Q [] (own ++ helper (codes "$nme") ∷ []) (combine Q own (helper (codes "$nme") ∷ []) (reflected_good d.is_piece.cases) (one (helper (codes "$nme")) (λ g same. subst Good (sym (named_no_method g same)) (call_read d.method d.reflected.called)))))
+      subst (λ (q : Piece). All Q q.uses) (sym d.is_piece.piece_is) (once_in Q [] (own ++ helper (codes "$nme") ∷ []) (combine Q own (helper (codes "$nme") ∷ []) (reflected_good d.is_piece.cases) (one (helper (codes "$nme")) (of_helper (helpers.Throws failures.Method) (call_read d.method d.reflected.called)))))
 
   methods_told : (ps told : List Piece) → AreDispatchPieces l ps told → EachGood told
   methods_told ps told h p i = let d = h.made p i in subst (λ (q : Piece). All Q q.uses) (sym d.is_piece.piece_is) (once_in Q [] (flat_map (told_uses d.method) d.is_piece.cases) (cases_good d.method d.is_piece.cases))
@@ -409,7 +431,7 @@ module _ (entries : List EntryPoint) (files : List SourceFile) (l : Linked) (all
 
   used_good : (ps : List Piece) → EachGood ps → (h : Helper) → IsUsed ps h → Good h
   used_good ps each _ (by_piece p h i u) = All-contains Q p.uses (helper (helper_name h)) (each p i) u h refl
-  used_good ps each _ (by_helper g h k u) = of_helper g h (used_good ps each g k) u
+  used_good ps each _ (by_helper g h k u) = All-contains Good (used_helpers g) h (each_of_helper g (used_good ps each g k)) u
 
   pub linked_good : (ps : List Piece) (p : AreLinkedPieces l all ps) (h : Helper) → Contains p.helpers h → Good h
   linked_good ps p h i =
@@ -420,16 +442,14 @@ module _ (entries : List EntryPoint) (files : List SourceFile) (l : Linked) (all
   of_thrown c r = (closed l.world entries (Made c) (throw_made c r), closed l.world entries (Body (message_constructor c)) (asked_body (message_constructor c) (of_throw c r)))
 
   pub thrown : (f : Failure) → Good (helpers.Throws f) → Reachable l.world entries (Made (failure_class f)) × Reachable l.world entries (Body (message_constructor (failure_class f)))
-  thrown failures.NullReceiver r = of_thrown (codes "java.lang.NullPointerException") r
-  thrown failures.Division r = of_thrown (codes "java.lang.ArithmeticException") r
-  thrown failures.Cast r = of_thrown (codes "java.lang.ClassCastException") r
-  thrown failures.Index r = absurd r
-  thrown failures.Store r = absurd r
-  thrown failures.Size r = absurd r
-  thrown failures.Method r = of_thrown (codes "java.lang.NoSuchMethodException") r
+  thrown f r = of_thrown (failure_class f) r
 
-pub of_objects : HelpersAreOfObjects
-of_objects entries files l all ps accepted bodies reached objects p h i = good_helper entries files l all accepted bodies reached objects h (linked_good entries files l all accepted bodies reached objects ps p h i)
+  pub extended : Arrays → Reachable l.world entries (Made object) ⊎ Reachable l.world entries (Made (failure_class failures.Store))
+  extended (inl r) = inl (closed l.world entries (Made object) (array_made r))
+  extended (inr r) = inr (closed l.world entries (Made (failure_class failures.Store)) (throw_made (failure_class failures.Store) r))
 
 pub reached : ThrownClassesAreReached
-reached entries files l all ps accepted bodies known objects p f i = thrown entries files l all accepted bodies known objects f (linked_good entries files l all accepted bodies known objects ps p (helpers.Throws f) i)
+reached entries files l all ps accepted bodies known p f i = thrown entries files l all accepted bodies known f (linked_good entries files l all accepted bodies known ps p (helpers.Throws f) i)
+
+pub extending : ArraysExtendAMadeClass
+extending entries files l all ps accepted bodies known p i = extended entries files l all accepted bodies known (linked_good entries files l all accepted bodies known ps p helpers.ArrayClass i)

@@ -16,10 +16,10 @@ use Rattle.closed_pieces.proofs.Fields.{class_named}
 use Rattle.closed_pieces.proofs.Order.{pieces_are_declarations}
 use Rattle.closed_pieces.proofs.Worlds.{judged}
 use Rattle.closed_pieces.specs.Closed.{IsClosed, items_of}
+use Rattle.closed_pieces.specs.Entries.{IsLive}
 use Rattle.declared_files.specs.Declarations.{declare}
-use Rattle.declared_files.specs.FileDeclarationsDeclared.{is_covered}
 use Rattle.file_listings.specs.Listed.{AreBytes}
-use Rattle.helper_rules.specs.declared.kinds.Helper.{Helper}
+use Rattle.helper_rules.specs.declared.kinds.Helper.TheVariants.{ArrayClass}
 use Rattle.js_mean.specs.Files.{module_among, items_in, owner, running_order}
 use Rattle.js_mean.specs.Proper.{is_among, are_distinct}
 use Rattle.js_mean.specs.States.{Program}
@@ -55,6 +55,7 @@ use Rattle.sj_proper.specs.Emitted.{call_item_of}
 use Rattle.sj_split.proofs.Members.{at_first, cons_cases, into_map, from_map, into_filter, from_filter}
 use Rattle.sj_split.specs.Modules.{IsPlan, file}
 use Rattle.sj_split.specs.Orders.{Bytes, is_same}
+use Rattle.sj_names.specs.WellKnown.{object}
 use Rattle.sj_split.specs.declared.plans.PlannedModule.{PlannedModule}
 use Rattle.sj_split.specs.declared.plans.Style.{Style}
 use Rattle.sj_world.proofs.OnCycles.{among}
@@ -86,7 +87,7 @@ last_is_new (y ∷ ys) x d i =
     let k = and_parts (not (is_among (ys ++ x ∷ []) y)) (are_distinct (ys ++ x ∷ [])) d in
     elim (cons_cases y x ys i) [ inl e ↦ never_both (is_among (ys ++ x ∷ []) y) k.0 (among_is (ys ++ x ∷ []) y (subst (λ (z : Name). Contains (ys ++ x ∷ []) z) (sym e) (Contains-push ys x))) | inr later ↦ last_is_new ys x k.1 later ]
 
-module _ (digest_of : Key → Digest) (graph : Graph) (entries : List EntryPoint) (style : Style) (modules : List PlannedModule) (files : List SourceFile) (l : Linked) (all : List EmittedMethod) (ps : List Piece) (bytes : (file : SourceFile) → Contains files file → AreBytes file.bytes) (a : IsAccepted entries files l.world) (reached : (f : Fact) → Contains l.facts f → Reachable l.world entries f) (p : AreLinkedPieces l all ps) (covered : (h : Helper) → Contains p.helpers h → is_covered h ≡ true) (valid : AreEntries entries) (keep : KeepsNamesApart digest_of graph entries) (is_graph : IsGraph ps graph) (is : IsPlan digest_of graph entries style modules) (closed : AreClosed modules ps) where
+module _ (digest_of : Key → Digest) (graph : Graph) (entries : List EntryPoint) (style : Style) (modules : List PlannedModule) (files : List SourceFile) (l : Linked) (all : List EmittedMethod) (ps : List Piece) (bytes : (file : SourceFile) → Contains files file → AreBytes file.bytes) (a : IsAccepted entries files l.world) (reached : (f : Fact) → Contains l.facts f → Reachable l.world entries f) (p : AreLinkedPieces l all ps) (arrays : Contains p.helpers ArrayClass → IsLive l.world l.facts object) (valid : AreEntries entries) (keep : KeepsNamesApart digest_of graph entries) (is_graph : IsGraph ps graph) (is : IsPlan digest_of graph entries style modules) (closed : AreClosed modules ps) where
   abbrev program : Program
   program = program_of modules ps
 
@@ -128,7 +129,7 @@ module _ (digest_of : Key → Digest) (graph : Graph) (entries : List EntryPoint
       is_written b.owner t.its_file t.is
 
   in_order : declare [] (items_of written ps) ≡ true
-  in_order = pieces_are_declarations entries files l all written ps bytes a reached p is_closed covered
+  in_order = pieces_are_declarations entries files l all written ps bytes a reached p is_closed arrays
 
   items_at : (m : PlannedModule) → Contains modules m → items_in (module_among program (file m)) ≡ own_items (file m) ps ++ map call_item_of m.initializers
   items_at m h = modules_have_their_items digest_of graph entries style modules ps keep is m h
@@ -186,7 +187,7 @@ module _ (digest_of : Key → Digest) (graph : Graph) (entries : List EntryPoint
         let q : Piece = s.piece in
         let q_there : Contains ps q = subst (λ (qs : List Piece). Contains qs q) (sym s.is) (Contains-append_right s.before (q ∷ s.after) q (at_first q s.after)) in
         let q_written : is_owned written q ≡ true = (among written q.owner).1 (is_written q.owner g (this_is g (file_with modules q.owner) s.passes)) in
-        let right : UsesSuperclass q q.item = superclasses_used l all ps p covered q q_there in
+        let right : UsesSuperclass q q.item = superclasses_used l all ps p q q_there in
         let behind_classes : DeclaresWith (ClassAmong (is_owned written) s.before) q.item = declares_in_place (is_owned written) s.before q s.after (subst (λ (qs : List Piece). declare [] (items_of written qs) ≡ true) s.is in_order) q_written in
         subst (λ (is : List Item). DeclaresBehind program before g is i) s.in_front (subst (λ (j : Item). DeclaresBehind program before g (own_items g s.before) j) s.item (by_item s.before q s.after s.is s.passes q.item right behind_classes))
       where
@@ -245,10 +246,10 @@ module _ (digest_of : Key → Digest) (graph : Graph) (entries : List EntryPoint
           ]
 
 pub modules_declare_in_order : ModulesDeclareInOrder
-modules_declare_in_order digest_of graph entries style modules files l all ps bytes a reached p covered valid keep is_graph is closed planned there front order =
+modules_declare_in_order digest_of graph entries style modules files l all ps bytes a reached p arrays valid keep is_graph is closed planned there front order =
     files_declare_in_order (program_of modules ps) front (file planned) (map item_of (filter (is_owned_in (file_with modules) (file planned)) ps))
-    (in_front_declares digest_of graph entries style modules files l all ps bytes a reached p covered valid keep is_graph is closed planned there front order)
-    (file_declares digest_of graph entries style modules files l all ps bytes a reached p covered valid keep is_graph is closed planned there front [] (file planned) order)
+    (in_front_declares digest_of graph entries style modules files l all ps bytes a reached p arrays valid keep is_graph is closed planned there front order)
+    (file_declares digest_of graph entries style modules files l all ps bytes a reached p arrays valid keep is_graph is closed planned there front [] (file planned) order)
 
 pub modules_declare_constants : ModulesDeclareConstants
-modules_declare_constants digest_of graph entries style modules files l all ps bytes a reached p covered valid keep is_graph is closed planned there front order = constants_declared digest_of graph entries style modules files l all ps bytes a reached p covered valid keep is_graph is closed planned there front order
+modules_declare_constants digest_of graph entries style modules files l all ps bytes a reached p arrays valid keep is_graph is closed planned there front order = constants_declared digest_of graph entries style modules files l all ps bytes a reached p arrays valid keep is_graph is closed planned there front order

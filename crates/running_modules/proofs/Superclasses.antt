@@ -1,10 +1,9 @@
 -- A piece of a linked world whose class extends another uses the name of that one.
-use Rattle.std.proofs.Common.{◌≡◌, true, List, Option, Some, None, refl, sym, subst, Contains}
+use Rattle.std.proofs.Common.{◌≡◌, List, [], Option, Some, None, refl, sym, subst, Contains}
 use Rattle.closed_pieces.proofs.Places.{Stands, own, method, helps, tells, names, stands}
 use Rattle.closed_pieces.proofs.Parts.{uses_superclass}
-use Rattle.declared_files.specs.FileDeclarationsDeclared.{is_covered}
 use Rattle.helper_rules.specs.Helpers.{Above, helper_piece}
-use Rattle.helper_rules.specs.Words.{bound, class_name}
+use Rattle.helper_rules.specs.Words.{bound, class_name, object_class}
 use Rattle.helper_rules.specs.declared.kinds.Helper.{Helper}
 use Rattle.helper_rules.specs.declared.kinds.Helper.TheVariants as helpers
 use Rattle.js_tree.specs.Terms.{Name, Item, Piece, subclass_item}
@@ -12,7 +11,7 @@ use Rattle.js_tree.specs.declared.items.Binding.{Binding}
 use Rattle.sj_proper.specs.Emitted.{EmittedMethod}
 use Rattle.declared_files.specs.Pieces.{Parts, pieces, class_piece}
 use Rattle.module_files.specs.Pieces.{AreLinkedPieces}
-use Rattle.sj_names.proofs.Same.{impossible}
+use Rattle.sj_split.proofs.Members.{at_first}
 use Rattle.sj_world.specs.Linked.{Linked}
 use Rattle.running_modules.proofs.Each.{each_own}
 
@@ -37,16 +36,16 @@ class_right c (Some s) p = record { binding = bound s (class_name s); used = use
 own_right : (p : Parts) (q : Piece) → Contains (pieces p) q → Right q
 own_right p = each_own Right p (record { constants = tt; class = class_right p.class.name p.class.superclass p; variable = λ d. tt; setter = λ d. tt; cell = tt; load = tt; store = tt; test = tt; cast = tt })
 
-helper_right : (above : Above) (h : Helper) → is_covered h ≡ true → Right (helper_piece above h)
-helper_right above helpers.ArrayClass c = impossible c
-helper_right above _ c = tt
+helper_right : (above : Above) (h : Helper) → Right (helper_piece above h)
+helper_right above helpers.ArrayClass = record { binding = bound object_class (class_name object_class); used = at_first (bound object_class (class_name object_class)) []; named = refl }
+helper_right above _ = tt
 
-pub superclasses_used : (l : Linked) (all : List EmittedMethod) (ps : List Piece) (p : AreLinkedPieces l all ps) → ((h : Helper) → Contains p.helpers h → is_covered h ≡ true) → (q : Piece) → Contains ps q → UsesSuperclass q q.item
-superclasses_used l all ps p covered q i = go (stands l all ps p q i)
+pub superclasses_used : (l : Linked) (all : List EmittedMethod) (ps : List Piece) (p : AreLinkedPieces l all ps) → (q : Piece) → Contains ps q → UsesSuperclass q q.item
+superclasses_used l all ps p q i = go (stands l all ps p q i)
   where
     go : Stands l all ps p q → Right q
     go (own c parts are there j) = own_right parts q j
     go (method e j k same) = subst Right same tt
-    go (helps h j same) = subst Right same (helper_right p.above h (covered h j))
+    go (helps h j same) = subst Right same (helper_right p.above h)
     go (tells j o) = subst Right (sym o.is_piece.piece_is) tt
     go (names j o) = subst Right (sym o.is_piece.piece_is) tt

@@ -1,10 +1,10 @@
 -- Laws of the files of the public modules of a plan, as they run.
 use Rattle.std.specs.Prelude.{◌≡◌, true, List, [], ◌∷◌, ◌++◌, Contains, map, filter}
+use Rattle.closed_pieces.specs.Entries.{IsLive}
 use Rattle.declared_files.specs.Declared.{AreConstants}
 use Rattle.declared_files.specs.Placed.{placed, items_until, declare}
-use Rattle.declared_files.specs.FileDeclarationsDeclared.{is_covered}
 use Rattle.file_listings.specs.Listed.{AreBytes}
-use Rattle.helper_rules.specs.declared.kinds.Helper.{Helper}
+use Rattle.helper_rules.specs.declared.kinds.Helper.TheVariants.{ArrayClass}
 use Rattle.ir_mean.specs.Shows.{initializers}
 use Rattle.js_mean.specs.Files.{module_among, items_in, running_order}
 use Rattle.js_mean.specs.Shows.{file_of}
@@ -21,6 +21,7 @@ use Rattle.plan_laws.specs.Laws.{KeepsNamesApart}
 use Rattle.sj_graph.specs.References.{IsGraph}
 use Rattle.sj_graph.specs.declared.graphs.Graph.{Graph}
 use Rattle.sj_names.specs.EntryPoints.{AreEntries}
+use Rattle.sj_names.specs.WellKnown.{object}
 use Rattle.sj_names.specs.declared.entry_points.EntryPoint.{EntryPoint}
 use Rattle.sj_names.specs.declared.folders.SourceFile.{SourceFile}
 use Rattle.sj_proper.specs.Emitted.{call_item_of}
@@ -79,7 +80,7 @@ ModulesDeclareInOrder = (digest_of : Key → Digest) (graph : Graph) (entries : 
     → IsAccepted entries files l.world
     → ((f : Fact) → Contains l.facts f → Reachable l.world entries f)
     → (p : AreLinkedPieces l all ps)
-    → ((h : Helper) → Contains p.helpers h → is_covered h ≡ true)
+    → (Contains p.helpers ArrayClass → IsLive l.world l.facts object)
     → AreEntries entries
     → KeepsNamesApart digest_of graph entries
     → IsGraph ps graph
@@ -98,7 +99,7 @@ ModulesDeclareConstants = (digest_of : Key → Digest) (graph : Graph) (entries 
     → IsAccepted entries files l.world
     → ((f : Fact) → Contains l.facts f → Reachable l.world entries f)
     → (p : AreLinkedPieces l all ps)
-    → ((h : Helper) → Contains p.helpers h → is_covered h ≡ true)
+    → (Contains p.helpers ArrayClass → IsLive l.world l.facts object)
     → AreEntries entries
     → KeepsNamesApart digest_of graph entries
     → IsGraph ps graph

@@ -1,7 +1,7 @@
 -- Trees of arrays, by what is known of their operands: new arrays, lengths, items, and items that are set.
 use Rattle.std.specs.Prelude.{◌<◌, ◌^◌, codes}
-use Rattle.std.proofs.Common.{◌≡◌, ℕ, true, false, List, [], ◌∷◌, length, Some, refl, sym, ap, subst}
-use Rattle.outcomes.specs.Outcome.{Out, done, then_do}
+use Rattle.std.proofs.Common.{◌≡◌, ℕ, true, false, List, [], ◌∷◌, length, Some, refl, sym, subst}
+use Rattle.outcomes.specs.Outcome.{done, then_do}
 use Rattle.outcomes.specs.Agreement.{Sim}
 use Rattle.outcomes.proofs.Sequence.{then_do-right}
 use Rattle.outcomes.proofs.Simulation.{sim_done, sim_then}
@@ -27,29 +27,29 @@ use Rattle.sj_trees.specs.declared.types.IrType.{IrType}
 use Rattle.sj_trees.specs.declared.types.IrType.TheVariants.{Array, Int, NoType}
 use Rattle.sure_receivers.specs.Sure.{is_sure}
 use Rattle.sj_plain.specs.Settings.{Setting, shown, usable, SameState, Valued, Lawful, Inside}
-use Rattle.sj_plain.proofs.Arrays.{StandForEach, each_stood, items_coerced, new_array_alike, array_alike, length_alike, item_alike, item_setter, item_set_alike}
+use Rattle.sj_plain.proofs.Arrays.{StandForEach, items_coerced, new_array_alike, array_alike, length_alike, item_alike, item_setter, item_set_alike}
 use Rattle.sj_plain.proofs.Boxes.{StandsFor, stood, stood-fits, stood_alike, stood_told}
 use Rattle.sj_plain.proofs.Orders.{OperandsAlike, no_operands, more_operands}
 use Rattle.sj_plain.proofs.Worlds.{World, grows-trans}
 use Rattle.sj_bodies.specs.Fine.{FitsIn}
-use Rattle.sj_bodies.proofs.Contexts.{Context, Writes, Sound, Ahead, Ready, ready-lift, keeps-less, let_go, Came, gave}
+use Rattle.sj_bodies.proofs.Contexts.{Context, Writes, Sound, Ahead, ready-lift, keeps-less, let_go, Came, gave}
 use Rattle.sj_bodies.proofs.Forms.{of_operands}
 use Rattle.sj_bodies.proofs.ObjectTrees.{expression_does, receiver_piece, received-type, sure_run}
-use Rattle.sj_bodies.proofs.Spills.{Does, Final, Piece, OperandDoes, OperandsDo, runs, operands_in, types}
+use Rattle.sj_bodies.proofs.Spills.{Does, Final, OperandDoes, OperandsDo, runs, operands_in, types}
 use Rattle.sj_bodies.proofs.Statements.{valued_done, throws-on, ends-one, Ends}
 use Rattle.sj_bodies.proofs.Trees.{LowAlike, piece, list_of, operands-list, runs-list, types-list}
 
 module _ (z : Setting) (lawful : Lawful z) (low : LowAlike z) where
   -- a new array of a length
-  pub new_array_does : (p : Position) (c : Context) (k : Destination) (j : ℕ) (r : ArrayRef) (e : Term) → Sound z.is_mutable c → Ahead c j → Writes c.written k → FitsIn (usable z) k (Array r) → HasDimensions r → (usable z).helper (codes "$mk") ≡ true → has_base (usable z) r.base ≡ true → Fits Int (type_of_term e) → OperandDoes z lawful c j (piece z lawful low c.targets e) → Does z lawful c k j (new_array p r e)
-  new_array_does p c k j r e sound ahead wr fits d has named fit operand = expression_does z lawful low c k j (piece z lawful low c.targets e ∷ []) (Array r) p (ir_meaning.new_items z.place.classes z.low r) (λ es. core.new_array_of r (first_of es)) sound ahead wr fits (operand, tt) given
+  pub new_array_does : (p : Position) (c : Context) (k : Destination) (j : ℕ) (r : ArrayRef) (e : Term) → Sound z.is_mutable c → Ahead c j → Writes c.written k → FitsIn (usable z) k (Array r) → HasDimensions r → (usable z).arrays ≡ true → (usable z).helper (codes "$mk") ≡ true → has_base (usable z) r.base ≡ true → Fits Int (type_of_term e) → OperandDoes z lawful c j (piece z lawful low c.targets e) → Does z lawful c k j (new_array p r e)
+  new_array_does p c k j r e sound ahead wr fits d can has named fit operand = expression_does z lawful low c k j (piece z lawful low c.targets e ∷ []) (Array r) p (ir_meaning.new_items z.place.classes z.low r) (λ es. core.new_array_of r (first_of es)) sound ahead wr fits (operand, tt) given
     where
       given : (rs : List ir.Run) (es : List core.Expression) (w : World) (env : ir.Env) (s : ir.State) (sc : js.Scope) (u : js.State) → Inside z.place z.code sc → OperandsAlike z w env sc (type_of_term e ∷ []) rs es → SameState z.place w s u → Sim z.direction (Valued z.place w env (Array r)) (ir_meaning.in_order rs (ir_meaning.new_items z.place.classes z.low r) env s) (shown z (core.new_array_of r (first_of es)) sc u)
-      given _ _ w env s sc u inside (more_operands own q g _ _ _ told one no_operands) same = new_array_alike z lawful r d has named own fit q g w env s sc u inside (more_operands own q g [] [] [] told one no_operands) same
+      given _ _ w env s sc u inside (more_operands own q g _ _ _ told one no_operands) same = new_array_alike z lawful r d can has named own fit q g w env s sc u inside (more_operands own q g [] [] [] told one no_operands) same
 
   -- an array with these items
-  pub array_value_does : (p : Position) (c : Context) (k : Destination) (j : ℕ) (r : ArrayRef) (ts : Terms) → Sound z.is_mutable c → Ahead c j → Writes c.written k → FitsIn (usable z) k (Array r) → HasDimensions r → (usable z).helper (codes "$A") ≡ true → has_base (usable z) r.base ≡ true → length (types_of ts) < 2 ^ 31 → StandForEach z (element_type r) (types_of ts) → OperandsDo z lawful c j (list_of z lawful low c.targets ts) → Does z lawful c k j (array_value p r ts)
-  array_value_does p c k j r ts sound ahead wr fits d has named short fit ds w env s sc u ready same = subst (λ os. Ends z lawful c c.scope k w sc (ir_meaning.in_order (ir_meaning.operands z.place.classes z.low ts) act env s) (then_use (spill os j) (λ es. finish k p (Array r) false (text es))).statements sc u) (sym (operands-list z lawful low c.targets ts)) (subst (λ rs. Ends z lawful c c.scope k w sc (ir_meaning.in_order rs act env s) (then_use (spill (operands_in z lawful (list_of z lawful low c.targets ts)) j) (λ es. finish k p (Array r) false (text es))).statements sc u) (sym (runs-list z lawful low c.targets ts)) (expression_does z lawful low c k j (list_of z lawful low c.targets ts) (Array r) p act text sound ahead wr fits ds given w env s sc u ready same))
+  pub array_value_does : (p : Position) (c : Context) (k : Destination) (j : ℕ) (r : ArrayRef) (ts : Terms) → Sound z.is_mutable c → Ahead c j → Writes c.written k → FitsIn (usable z) k (Array r) → HasDimensions r → (usable z).arrays ≡ true → (usable z).helper (codes "$A") ≡ true → has_base (usable z) r.base ≡ true → length (types_of ts) < 2 ^ 31 → StandForEach z (element_type r) (types_of ts) → OperandsDo z lawful c j (list_of z lawful low c.targets ts) → Does z lawful c k j (array_value p r ts)
+  array_value_does p c k j r ts sound ahead wr fits d can has named short fit ds w env s sc u ready same = subst (λ os. Ends z lawful c c.scope k w sc (ir_meaning.in_order (ir_meaning.operands z.place.classes z.low ts) act env s) (then_use (spill os j) (λ es. finish k p (Array r) false (text es))).statements sc u) (sym (operands-list z lawful low c.targets ts)) (subst (λ rs. Ends z lawful c c.scope k w sc (ir_meaning.in_order rs act env s) (then_use (spill (operands_in z lawful (list_of z lawful low c.targets ts)) j) (λ es. finish k p (Array r) false (text es))).statements sc u) (sym (runs-list z lawful low c.targets ts)) (expression_does z lawful low c k j (list_of z lawful low c.targets ts) (Array r) p act text sound ahead wr fits ds given w env s sc u ready same))
     where
       act : List ir.Value → ir.Run
       act = ir_meaning.made_array r
@@ -58,7 +58,7 @@ module _ (z : Setting) (lawful : Lawful z) (low : LowAlike z) where
       text es = core.array_of r (expressions_of (coerced_items (element_type r) (types_of ts) es))
 
       given : (rs : List ir.Run) (es : List core.Expression) (w : World) (env : ir.Env) (s : ir.State) (sc : js.Scope) (u : js.State) → Inside z.place z.code sc → OperandsAlike z w env sc (types z lawful (list_of z lawful low c.targets ts)) rs es → SameState z.place w s u → Sim z.direction (Valued z.place w env (Array r)) (ir_meaning.in_order rs act env s) (shown z (text es) sc u)
-      given rs es w env s sc u inside alike same = array_alike z lawful r d has named (types_of ts) fit.0 short rs (coerced_items (element_type r) (types_of ts) es) (coerced_items (element_type r) (types_of ts) es) refl w env s sc u inside (items_coerced z lawful.base w env sc inside (element_type r) (types_of ts) rs es fit.0 fit.1 (subst (λ is. OperandsAlike z w env sc is rs es) (sym (types-list z lawful low c.targets ts)) alike)) same
+      given rs es w env s sc u inside alike same = array_alike z lawful r d can has named (types_of ts) fit.0 short rs (coerced_items (element_type r) (types_of ts) es) (coerced_items (element_type r) (types_of ts) es) refl w env s sc u inside (items_coerced z lawful.base w env sc inside (element_type r) (types_of ts) rs es fit.0 fit.1 (subst (λ is. OperandsAlike z w env sc is rs es) (sym (types-list z lawful low c.targets ts)) alike)) same
 
   -- the length of an array
   pub length_does : (p : Position) (c : Context) (k : Destination) (j : ℕ) (e : Term) → Sound z.is_mutable c → Ahead c j → Writes c.written k → FitsIn (usable z) k Int → OperandDoes z lawful c j (receiver_piece z lawful low c.targets e) → Does z lawful c k j (array_length p e)

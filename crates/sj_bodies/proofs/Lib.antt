@@ -17,12 +17,14 @@ pub mod Turns
 pub mod ObjectTrees
 pub mod ArrayTrees
 pub mod LookedTrees
+pub use Rattle.sj_proper.proofs.Arrays
 pub use Rattle.sj_proper.proofs.Equal
 pub use Rattle.sj_proper.proofs.Fitting
 pub use Rattle.sj_proper.proofs.InWorld
 pub use Rattle.sj_proper.proofs.Lists
 pub use Rattle.sj_proper.proofs.Mutable
 pub use Rattle.sj_proper.proofs.RulesGive
+pub use Rattle.sj_proper.proofs.Topped
 pub use Rattle.sj_proper.proofs.BuiltFormsStatics as Statics
 pub use Rattle.sj_plain.proofs.Boxes
 pub use Rattle.sj_plain.proofs.Classes

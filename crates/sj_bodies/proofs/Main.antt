@@ -31,7 +31,6 @@ use Rattle.sj_bodies.proofs.Blocks.{Outside, undeclared}
 use Rattle.sj_bodies.proofs.Contexts.{around, Context, Writes, Sound, Ahead, Ready, Keeps, keeps-refl, Came}
 use Rattle.sj_bodies.specs.Fine.{IsDiscard, is_discard, FitsIn, FineOperand, Amid, Asks}
 use Rattle.sj_plain.proofs.Boxes.{StandsFor, stood, stood-fits, operand_stood, stands-for, stand-for-all, StandForAll}
-use Rattle.sj_plain.proofs.Tests.{test_alike, cast_alike}
 use Rattle.sj_plain.proofs.Received.{may_be_checked, value_or_nothing, Received, received, Constructed, constructed}
 use Rattle.sj_proper.proofs.BuiltFormsStatics.{read_static, set_static}
 use Rattle.sj_proper.proofs.Targets.{target_goal}
@@ -46,19 +45,17 @@ use Rattle.sj_names.specs.declared.method_names.Namespace.{Namespace}
 use Rattle.sj_names.specs.declared.method_names.Namespace.TheVariants.{Public, Private, Constructor}
 use Rattle.sj_proper.specs.Typing.{Scene, AreDimensions, catching, in_label, Typed, TypedBlock, TypedAll, TypedCases, may_check}
 use Rattle.sj_proper.proofs.Arrays.{ItemsOf, items-of, element-value, array-below, items-below, below-is}
-use Rattle.sj_proper.proofs.Direct.{Direct, ByLookup, OnArray, ByName, Applied, directly, by_lookup, on_array, by_name, applied}
-use Rattle.sj_proper.proofs.BuiltFormsDirect.{array_valued, IsLookedUp}
+use Rattle.sj_proper.proofs.Direct.{Direct, ByName, Applied, directly, by_lookup, on_array, by_name, applied}
 use Rattle.sj_plain.proofs.HijackedCalls.{hijacked_call, takes_any}
-use Rattle.sj_plain.proofs.LookedUpCalls.{calls_instance, takes_instances}
 use Rattle.sj_plain.proofs.Received.{looked_stand}
 use Rattle.sj_bodies.proofs.ArrayTrees.{new_array_does, array_value_does, length_does, item_does, item_set_does}
-use Rattle.sj_plain.proofs.Arrays.{StandForEach, stand-for-each, any_test_alike, any_cast_alike}
+use Rattle.sj_plain.proofs.Arrays.{stand-for-each, any_test_alike, any_cast_alike}
 use Rattle.sj_bodies.proofs.LookedTrees.{looked_up}
 use Rattle.sj_plain.proofs.Instances.{OnInstances, by_class, by_array}
 use Rattle.sj_plain.proofs.Looked.{as_instances}
 use Rattle.sj_proper.proofs.Mutable.{of_first, of_second, of_definition, front, front_cases}
 use Rattle.sj_plain.specs.Conditions.{IsNoConstruction, Plain}
-use Rattle.sj_proper.specs.Plain.{is_no_type, is_plain, mutable_in, mutable_in_all, mutable_in_cases}
+use Rattle.sj_proper.specs.Plain.{is_plain, mutable_in, mutable_in_all, mutable_in_cases}
 use Rattle.sj_bodies.proofs.Parts.{plain_at, tree_in, operand_in, operand_by, amid-behind, amid-inside, one_mutable, other_mutable, given_up, fits, fits-value, yields, asks-left, asks-right}
 use Rattle.sj_proper.proofs.Fitting.{fits-lowest, fits-unary, fits-dividend, operates, unary-value, binary-value, cast-value, unary-operand-value, left-operand-value}
 use Rattle.sj_proper.proofs.Locals.{there, typed-there, local-value}
@@ -409,16 +406,22 @@ module _ (z : Setting) (lawful : Lawful z) (low : LowAlike z) where
 
   -- arrays
   new_array_by : (p : Position) (r : ArrayRef) (e : Term) → TreeDoes z lawful low e → TreeDoes z lawful low (new_array p r e)
-  new_array_by p r e does_e c k j sound ahead out wr fine = new_array_does z lawful low p c k j r e sound ahead wr (fits-value z.place.classes lawful.base.ordered (usable z) k (Array r) fine.asks refl (none_at k (Array r) refl)) fine.typed.0.finds its.0 its.1 (fits-lowest z.place.classes lawful.base.ordered Int (type_of_term e) refl fine.typed.0.meets) (operand_does z lawful low c j e does_e out (part_of c fine.scene fine.amid e fine.written Int fine.typed.0.meets refl fine.typed.1 fine.boxed fine.around fine.once))
+  new_array_by p r e does_e c k j sound ahead out wr fine = new_array_does z lawful low p c k j r e sound ahead wr (fits-value z.place.classes lawful.base.ordered (usable z) k (Array r) fine.asks refl (none_at k (Array r) refl)) fine.typed.0.finds whole.0 its.0 its.1 (fits-lowest z.place.classes lawful.base.ordered Int (type_of_term e) refl fine.typed.0.meets) (operand_does z lawful low c j e does_e out (part_of c fine.scene fine.amid e fine.written Int fine.typed.0.meets refl fine.typed.1 fine.boxed fine.around fine.once))
     where
+      whole : ((usable z).arrays ≡ true) × (((usable z).helper (codes "$mk") && has_base (usable z) r.base) ≡ true)
+      whole = and_parts (usable z).arrays ((usable z).helper (codes "$mk") && has_base (usable z) r.base) fine.typed.0.built
+
       its : ((usable z).helper (codes "$mk") ≡ true) × (has_base (usable z) r.base ≡ true)
-      its = and_parts ((usable z).helper (codes "$mk")) (has_base (usable z) r.base) fine.typed.0.built
+      its = and_parts ((usable z).helper (codes "$mk")) (has_base (usable z) r.base) whole.1
 
   array_by : (p : Position) (r : ArrayRef) (ts : Terms) → ItemsFine ts → TreeDoes z lawful low (array_value p r ts)
-  array_by p r ts do_all c k j sound ahead out wr fine = array_value_does z lawful low p c k j r ts sound ahead wr (fits-value z.place.classes lawful.base.ordered (usable z) k (Array r) fine.asks refl (none_at k (Array r) refl)) fine.typed.0.finds its.0 more.0 (below-is (length (types_of ts)) (2 ^ 31) more.1) (stand-for-each z lawful ts (element_type r) parts.0 fine.typed.0.meets) (do_all c j out fine.scene fine.amid fine.written (element_type r) (element-value r) fine.typed.0.meets fine.typed.1 parts.1 fine.around fine.once)
+  array_by p r ts do_all c k j sound ahead out wr fine = array_value_does z lawful low p c k j r ts sound ahead wr (fits-value z.place.classes lawful.base.ordered (usable z) k (Array r) fine.asks refl (none_at k (Array r) refl)) fine.typed.0.finds whole.0 its.0 more.0 (below-is (length (types_of ts)) (2 ^ 31) more.1) (stand-for-each z lawful ts (element_type r) parts.0 fine.typed.0.meets) (do_all c j out fine.scene fine.amid fine.written (element_type r) (element-value r) fine.typed.0.meets fine.typed.1 parts.1 fine.around fine.once)
     where
+      whole : ((usable z).arrays ≡ true) × (((usable z).helper (codes "$A") && (has_base (usable z) r.base && are_countable ts)) ≡ true)
+      whole = and_parts (usable z).arrays ((usable z).helper (codes "$A") && (has_base (usable z) r.base && are_countable ts)) fine.typed.0.built
+
       its : ((usable z).helper (codes "$A") ≡ true) × ((has_base (usable z) r.base && are_countable ts) ≡ true)
-      its = and_parts ((usable z).helper (codes "$A")) (has_base (usable z) r.base && are_countable ts) fine.typed.0.built
+      its = and_parts ((usable z).helper (codes "$A")) (has_base (usable z) r.base && are_countable ts) whole.1
 
       more : (has_base (usable z) r.base ≡ true) × (are_countable ts ≡ true)
       more = and_parts (has_base (usable z) r.base) (are_countable ts) its.1

@@ -24,7 +24,7 @@ module _ (p : Place) where
   abbrev pub boxes : List js.ClassLink
   boxes = box_link p ∷ []
 
-  and-false : (b : Bool) → (b && false) ≡ false
+  pub and-false : (b : Bool) → (b && false) ≡ false
   and-false true = refl
   and-false false = refl
 

@@ -35,7 +35,7 @@ use Rattle.sj_bodies.proofs.Worlds.{World, grows-refl, shaped-other, SameValue, 
 use Rattle.sj_trees.specs.declared.types.IrType.{IrType}
 use Rattle.sj_trees.specs.declared.types.IrType.TheVariants.{Any, Undefined, Boolean, Char, Byte, Short, Int, Long, String, Nothing}
 use Rattle.sj_calls.specs.Helpers.{HelperStands, Failed, failed_so, failing_code, helper_code, kind_of}
-use Rattle.sj_calls.specs.Made.{zero_value}
+use Rattle.sj_calls.specs.Made.{zero_shown}
 use Rattle.sj_calls.specs.Worlds.{CanCast, ThrowsCast}
 use Rattle.sj_calls.proofs.Boxed.{boxes, object_apart, unit_held}
 use Rattle.sj_calls.proofs.Helps.{FailsAs, FailsOn, throws_on, thrown_on}
@@ -52,8 +52,8 @@ cast_named = each_kind (λ t k. cast_name t ≡ helper_name (CastTo k)) refl ref
 kind-no-array : (t : IrType) (k : Kind) → kind_of t ≡ Some k → is_array_type t ≡ false
 kind-no-array = each_kind (λ t k. is_array_type t ≡ false) refl refl refl refl refl refl refl refl
 
-zero_named : (t : IrType) (k : Kind) → kind_of t ≡ Some k → zero_value t ≡ casts.zero_value k
-zero_named = each_kind (λ t k. zero_value t ≡ casts.zero_value k) refl refl refl refl refl refl refl refl
+zero_named : (t : IrType) (k : Kind) → kind_of t ≡ Some k → zero_shown t ≡ casts.zero_value k
+zero_named = each_kind (λ t k. zero_shown t ≡ casts.zero_value k) refl refl refl refl refl refl refl refl
 
 word_named : (t : IrType) (k : Kind) → kind_of t ≡ Some k → ir_world.type_text t ≡ kind_word k
 word_named = each_kind (λ t k. ir_world.type_text t ≡ kind_word k) refl refl refl refl refl refl refl refl
@@ -180,7 +180,7 @@ module _ (p : Place) (w : World) (s : ir.State) (u : js.State) (same : SameState
       Alike o n x = Sim d (Valued p w env t) o (js_meaning.code_call (js_meaning.below p.program n) file (Some (helper_code (CastTo can.kind))) (x ∷ []) u)
 
       null_cast : (n : ℕ) → Alike (ir.given (ir_world.cast_of_null t) env s) (suc n) js.null
-      null_cast n = subst (Sim d (Valued p w env t) (ir.given (ir_world.cast_of_null t) env s)) (sym (casts_tell.of_null p.program n file u can.kind ∙ ap (λ x. done (js.gives x u)) (sym (zero_named t can.kind can.its_kind)))) (sim_done d (Valued p w env t) (ir.ends (ir.gives (ir_world.zero_of t)) env s) (js.gives (zero_value t) u) (valued w (ir_world.zero_of t) (zero_value t) s u (grows-refl w) (zero_alike w t (has_values t can.kind can.its_kind)) same))
+      null_cast n = subst (Sim d (Valued p w env t) (ir.given (ir_world.cast_of_null t) env s)) (sym (casts_tell.of_null p.program n file u can.kind ∙ ap (λ x. done (js.gives x u)) (sym (zero_named t can.kind can.its_kind)))) (sim_done d (Valued p w env t) (ir.ends (ir.gives (ir_world.zero_of t)) env s) (js.gives (zero_shown t) u) (valued w (ir_world.zero_of t) (zero_shown t) s u (grows-refl w) (zero_alike w t (has_values t can.kind can.its_kind)) same))
 
       module _ (m : ℕ) (fails : FailsOn d p low (suc m) (Throws Cast) (js.text (kind_word can.kind) ∷ []) cast_exception (kind_word can.kind)) where
         given_cast : (v : ir.Value) (x : js.Value) → Stands w false v x → passes u (boxes p) can.kind x ≡ true → Alike (ir.given v env s) (suc (suc m)) x

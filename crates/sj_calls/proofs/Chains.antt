@@ -13,12 +13,12 @@ use Rattle.sj_bodies.specs.Settings.{Place, SameState, HoldsConstants, TellsClas
 use Rattle.sj_bodies.specs.Worlds.{World}
 use Rattle.sj_trees.specs.declared.classes.FieldDef.{FieldDef}
 use Rattle.sj_calls.specs.Chains.{ClassStands, ChainStands, extends_none, extends_one, MadeBy}
-use Rattle.sj_calls.specs.Made.{zero_value, with_fields, started, MakerStands, makes_top, makes_more}
+use Rattle.sj_calls.specs.Made.{zero_shown, with_fields, started, MakerStands, makes_top, makes_more}
 
 -- the fields leave the way to the constants alone
 constants_kept : (c : Name) (fs : List FieldDef) (own : Name → Option js.Value) → with_fields c fs own (codes "k") ≡ own (codes "k")
 constants_kept c [] own = refl
-constants_kept c (f ∷ fs) own = constants_kept c fs (with_property (field_binding Property c f.name) (zero_value f.tpe) own)
+constants_kept c (f ∷ fs) own = constants_kept c fs (with_property (field_binding Property c f.name) (zero_shown f.tpe) own)
 
 module _ (p : Place) (w : World) (s : ir.State) (u : js.State) (same : SameState p w s u) where
   pub holds_constants : (c : Name) (superclass : Option Name) (fields : List FieldDef) → ClassStands p c superclass fields → HoldsConstants w.owned c (u.tops (p.home (some_constants c)) (constants_name c))
@@ -40,7 +40,7 @@ module _ (p : Place) (w : World) (s : ir.State) (u : js.State) (same : SameState
     held = constants_kept c fields (with_property (codes "k") (js.object h.address) before);
     owned = h.owned_there;
     marked = h.marked;
-    known = h.known;
+    known = h.known st.no_char;
   }
 
   -- the constructors of a chain that stands in the program

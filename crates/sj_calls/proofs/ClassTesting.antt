@@ -64,7 +64,7 @@ no_small : (c : List ℕ) → is_hijacked c ≡ false → (z : ℤ) → is_small
 no_small c free z = λ i. (apart_named c (codes "java.lang.Byte") free refl i && int_le (negsuc 127) z && int_le z (pos 127)) || (apart_named c (codes "java.lang.Short") free refl i && int_le (negsuc 32767) z && int_le z (pos 32767))
 
 -- every value suits a class at whose type objects stand
-class_suits : (c : List ℕ) → is_bare (Class c) ≡ false → (v : ir.Value) → suits (Class c) v ≡ true
+pub class_suits : (c : List ℕ) → is_bare (Class c) ≡ false → (v : ir.Value) → suits (Class c) v ≡ true
 class_suits c wide (ir.char n) = ap not wide
 class_suits c wide (ir.reference i) = ap not wide
 class_suits c wide _ = refl
@@ -133,7 +133,7 @@ module _ (p : Place) (plain : IsPlain p.classes) (w : World) (s : ir.State) (u :
 
     -- on an object, by its constants
     marked_told : (d : List ℕ) (a : ℕ) (constants : Name → Option js.Value) → constants (codes "s") ≡ Some (js.text (class_binding Marker d)) → MarksAncestors p.classes constants → (is_ancestor p.classes d c || false) ≡ class_told u (boxes p) kinds_told (js.object a) (is_some (constants (class_binding Marker c)))
-    marked_told d a constants marked marks = ancestor_tells p.classes d c (is_some (constants (class_binding Marker c))) (marks d c marked) ∙ sym ((tests_tell_instances p.classes c kinds_told free are).object u (boxes p) a (is_some (constants (class_binding Marker c))))
+    marked_told d a constants marked marks = ancestor_tells p.classes d c (is_some (constants (class_binding Marker c))) (marks.above d c marked) ∙ sym ((tests_tell_instances p.classes c kinds_told free are).object u (boxes p) a (is_some (constants (class_binding Marker c))))
 
     -- an object of the IR, by what stands for it
     record ToldObject (a : ℕ) (o : Option ir.Stored) (q : Option js.Stored) : Type 0 where
@@ -237,7 +237,7 @@ module _ (p : Place) (plain : IsPlain p.classes) (w : World) (s : ir.State) (u :
   object_passes k _ _ _ _ free (same_object d fields properties told bare fs) = other_class k d free
   object_passes k _ _ _ _ free (same_array r items properties told bare array) = other_class k object_class free
 
-  hijacked_told : (k : Kind) (v : ir.Value) (x : js.Value) → Stands w false v x → ir_meaning.is_instance_value p.classes (Class (kind_class k)) s v ≡ ir.boolean (passes u (boxes p) k x)
+  pub hijacked_told : (k : Kind) (v : ir.Value) (x : js.Value) → Stands w false v x → ir_meaning.is_instance_value p.classes (Class (kind_class k)) s v ≡ ir.boolean (passes u (boxes p) k x)
   hijacked_told k _ _ same_undefined = ap ir.boolean (kind_passes kinds.Undefined k js.undefined refl refl refl)
   hijacked_told k _ _ same_null = ap ir.boolean (sym (null_fails u (boxes p) k))
   hijacked_told k _ _ (same_boolean b) = ap ir.boolean (kind_passes kinds.Boolean k (js.boolean b) refl refl refl)
@@ -249,7 +249,7 @@ module _ (p : Place) (plain : IsPlain p.classes) (w : World) (s : ir.State) (u :
   hijacked_told k _ _ (same_reference i a e) = let h = same.heaps.objects i a e in ap ir.boolean (object_passes k h.class (w.arrays i) (slice_get s.heap i) (slice_get u.heap a) (same.heaps.free i h.class h.told) h.alike ∙ sym (object_fails u (boxes p) k a (object_apart p w s u same i a e)))
 
   -- what passes the test of a kind suits its class: only a text suits that of texts
-  hijacked_suits : (k : Kind) (v : ir.Value) (x : js.Value) → Stands w false v x → passes u (boxes p) k x ≡ true → suits (Class (kind_class k)) v ≡ true
+  pub hijacked_suits : (k : Kind) (v : ir.Value) (x : js.Value) → Stands w false v x → passes u (boxes p) k x ≡ true → suits (Class (kind_class k)) v ≡ true
   hijacked_suits kinds.Text _ _ (same_char r n f) h = impossible r
   hijacked_suits kinds.Text _ _ (same_box r n a f b) h = impossible h
   hijacked_suits kinds.Text _ _ (same_reference i a e) h = impossible h

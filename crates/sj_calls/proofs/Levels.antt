@@ -77,7 +77,7 @@ module _ (p : Place) (ordered : IsSubtyping (IsSub p.classes)) (names : NamesDif
   }
 
   lawful : (d : Direction) (n k : ℕ) → Levels d n → Enough p.room p.room.each d n k → (f : Code) → Reaches p f.file → (is_mutable : List ℕ → Bool) → Lawful (within f d is_mutable n k)
-  lawful d n k levels h f reaches is_mutable = record { base = based d n k levels (fewer d p.room.each n k h) f reaches is_mutable; reflects = λ m i. impossible (sym (alone.reflected f.file m) ∙ i); looks = λ c m i. impossible (sym (alone.looked f.file c m) ∙ (and_parts ((p.has f.file).looked_up c m) ((p.has f.file).dispatched m || not ((p.has f.file).lookup.has_hijacked c)) i).0); loads = λ c i. impossible (sym (alone.modules f.file c) ∙ i); checks = λ i. impossible (sym (alone.helper f.file check_name) ∙ i); divisions = λ o i. no_division (p.has f.file) (alone.helper f.file) o i; boxes = λ i. impossible (sym (alone.helper f.file (codes "$C")) ∙ i); tests = λ t a i. impossible (sym (alone.tests f.file t) ∙ i); casts = λ t a i. impossible (sym (alone.casts f.file t) ∙ i); compares = λ i. impossible (sym (alone.helper f.file (codes "$eq")) ∙ i); array_tests = λ r i. impossible (sym (alone.tests f.file (Array r)) ∙ i); array_casts = λ r i. impossible (sym (alone.casts f.file (Array r)) ∙ i); makes_arrays = λ i. impossible (sym (alone.helper f.file (helper_name MakeArray)) ∙ i); gives_arrays = λ i. impossible (sym (alone.helper f.file (helper_name ArrayClass)) ∙ i); gets = λ i. impossible (sym (alone.helper f.file (helper_name Get)) ∙ i); puts = λ r _ i. impossible (sym (alone.helper f.file (helper_name (setting_helper (element_type r)))) ∙ i); array_calls = λ m i. impossible (sym (alone.on_arrays f.file m) ∙ i) }
+  lawful d n k levels h f reaches is_mutable = record { base = based d n k levels (fewer d p.room.each n k h) f reaches is_mutable; reflects = λ m i. impossible (sym (alone.reflected f.file m) ∙ i); looks = λ c m i. impossible (sym (alone.looked f.file c m) ∙ (and_parts ((p.has f.file).looked_up c m) ((p.has f.file).dispatched m || not ((p.has f.file).lookup.has_hijacked c)) i).0); loads = λ c i. impossible (sym (alone.modules f.file c) ∙ i); checks = λ i. impossible (sym (alone.helper f.file check_name) ∙ i); divisions = λ o i. no_division (p.has f.file) (alone.helper f.file) o i; boxes = λ i. impossible (sym (alone.helper f.file (codes "$C")) ∙ i); tests = λ t a i. impossible (sym (alone.tests f.file t) ∙ i); casts = λ t a i. impossible (sym (alone.casts f.file t) ∙ i); compares = λ i. impossible (sym (alone.helper f.file (codes "$eq")) ∙ i); array_tests = λ r i. impossible (sym (alone.tests f.file (Array r)) ∙ i); array_casts = λ r i. impossible (sym (alone.casts f.file (Array r)) ∙ i); makes_arrays = λ arrays i. impossible (sym (alone.helper f.file (helper_name MakeArray)) ∙ i); gives_arrays = λ arrays i. impossible (sym (alone.helper f.file (helper_name ArrayClass)) ∙ i); gets = λ i. impossible (sym (alone.helper f.file (helper_name Get)) ∙ i); puts = λ r _ i. impossible (sym (alone.helper f.file (helper_name (setting_helper (element_type r)))) ∙ i); array_calls = λ m i. impossible (sym (alone.on_arrays f.file m) ∙ i) }
 
   next : (d : Direction) (n k : ℕ) → Levels d n → Enough p.room p.room.each d n k → Level d (suc n) (suc k)
   next d n k levels h f reaches is_mutable c q j t sound ahead out wr fine w env s sc u ready same = does (within f d is_mutable n k) (lawful d n k levels h f reaches is_mutable) (levels k (fewer d p.room.each n k h) f reaches is_mutable) t c q j sound ahead out wr fine w env s sc u ready same

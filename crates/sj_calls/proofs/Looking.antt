@@ -27,7 +27,8 @@ use Rattle.js_mean.specs.Objects as js_objects
 use Rattle.js_mean.specs.States as js
 use Rattle.js_tree.specs.Terms.{Name}
 use Rattle.sj_bodies.specs.Desugar.{member}
-use Rattle.sj_bodies.specs.Settings.{Place, Setting, SameState, Valued, MadeSomewhere, IsReceiver, Finds, EntriesAlike, DispatchesAlike, a_dispatch, a_method, top_call, link_of}
+use Rattle.array_code.specs.Words.{object_class}
+use Rattle.sj_bodies.specs.Settings.{ArraysFind, Place, Setting, SameState, Valued, MadeSomewhere, IsReceiver, Finds, EntriesAlike, DispatchesAlike, a_dispatch, a_method, top_call, link_of}
 use Rattle.sj_bodies.specs.Standing.{types_referred, call_type}
 use Rattle.sj_bodies.proofs.Classes.{IsObject, class_there, class_free, class_made, object_there}
 use Rattle.sj_bodies.proofs.Lists.{nothing_in, in_front_or_behind, at_front, further_on}
@@ -169,25 +170,26 @@ module _ (z : Setting) (arrays : ArrayEntries z.place) (c : List ℕ) (m : Metho
     finds : FindsTarget p cls m
     property : js_objects.callee p.program u (js.object a) (method_binding Entry m) ≡ Some (js_objects.value_called (js.method (link_of p finds.at ∷ finds.above) (method_binding Entry m)))
 
-  an_object : ((e : List ℕ) → MadeSomewhere p e → is_ancestor p.classes e c ≡ true → FindsTarget p e m) → (w : World) (s : ir.State) (u : js.State) → SameState p w s u → (i a : ℕ) → w.place i ≡ Some a → (cls : List ℕ) → ir_world.class_of_value s (ir.reference i) ≡ Some cls → is_ancestor p.classes cls c ≡ true → AnObject w cls i a u
-  an_object objects w s u same i a h cls e below = record {
+  -- what stands at an address is one of the class that the world tells
+  class_told : (w : World) (s : ir.State) (u : js.State) → SameState p w s u → (i a : ℕ) → w.place i ≡ Some a → (cls : List ℕ) → ir_world.class_of_value s (ir.reference i) ≡ Some cls → w.classes i ≡ Some cls
+  class_told w s u same i a h cls e = k.1 ∙ ap Some (some_class k.0 cls (sym (object_there p w s u same i a h k.0 k.1).stored ∙ e))
+    where
+      k : (e : List ℕ) × (w.classes i ≡ Some e)
+      k = class_there p w s u same i a h
+
+  object_at : (w : World) (s : ir.State) (u : js.State) → SameState p w s u → (i a : ℕ) → w.place i ≡ Some a → (cls : List ℕ) → w.classes i ≡ Some cls → FindsTarget p cls m → AnObject w cls i a u
+  object_at w s u same i a h cls told f = record {
     free = class_free p w s u same i a h cls told;
     there = h;
     finds = f;
     property = ap (λ q. js_objects.stored_callee p.program a q (method_binding Entry m)) o.shown ∙ ap (λ q. js_objects.called (js_objects.value_on (js_objects.or_value q (js_objects.method_on p.program o.links (method_binding Entry m))) (method_binding Entry m))) (o.bare m) ∙ ap (λ q. js_objects.called (js_objects.value_on q (method_binding Entry m))) (entries_of p arrays cls o.links o.extended m ∙ f.lookup);
   }
     where
-      k : (e : List ℕ) × (w.classes i ≡ Some e)
-      k = class_there p w s u same i a h
-
-      told : w.classes i ≡ Some cls
-      told = k.1 ∙ ap Some (some_class k.0 cls (sym (object_there p w s u same i a h k.0 k.1).stored ∙ e))
-
-      f : FindsTarget p cls m
-      f = objects cls (class_made p w s u same i a h cls told) below
-
       o : IsObject p w cls (slice_get s.heap i) (slice_get u.heap a)
       o = object_there p w s u same i a h cls told
+
+  an_object : ((e : List ℕ) → MadeSomewhere p e → is_ancestor p.classes e c ≡ true → FindsTarget p e m) → (w : World) (s : ir.State) (u : js.State) → SameState p w s u → (i a : ℕ) → w.place i ≡ Some a → (cls : List ℕ) → ir_world.class_of_value s (ir.reference i) ≡ Some cls → is_ancestor p.classes cls c ≡ true → AnObject w cls i a u
+  an_object objects w s u same i a h cls e below = let told = class_told w s u same i a h cls e in object_at w s u same i a h cls told (objects cls (class_made p w s u same i a h cls told) below)
 
   object_receiver : (w y : World) (cls : List ℕ) (i a : ℕ) (u : js.State) → Grows w y → AnObject w cls i a u → IsReceiver y cls (ir.reference i) (js.object a)
   object_receiver w y cls i a u g o = record { stands = record { stands = same_reference i a (g.places i a o.there); suits = open-refers (class_type cls) i (type-open cls o.free); shaped = shaped-class y cls (ir.reference i) }; there = λ e. cc }
@@ -202,6 +204,20 @@ module _ (z : Setting) (arrays : ArrayEntries z.place) (c : List ℕ) (m : Metho
   pub calls_going : z.direction ≡ backward → z.js_low ≡ js_meaning.below p.program zero → EntryCalls
   calls_going back level cls f y i x vs xs env sc s u this values same = subst (λ d. Sim d (Valued p y env (call_type m.result)) (by_class p z.direction z.low m cls (ir.reference i) vs env s) (js_meaning.call_with_this p.program z.js_low x (js_objects.value_called (js.method (link_of p f.at ∷ f.above) (method_binding Entry m))) xs sc u)) (sym back) (subst (λ o. Sim backward (Valued p y env (call_type m.result)) (by_class p z.direction z.low m cls (ir.reference i) vs env s) o) (sym (ap (λ l. js_meaning.call_with_this p.program l x (js_objects.value_called (js.method (link_of p f.at ∷ f.above) (method_binding Entry m))) xs sc u) level ∙ ap (λ q. js_meaning.method_call (js_meaning.below p.program 0) (link_of p f.at) f.above q x xs u) f.code)) (sim_going (Valued p y env (call_type m.result)) (by_class p z.direction z.low m cls (ir.reference i) vs env s)))
 
+  -- the entry that an object has
+  object_finds : EntryCalls → (w : World) (u : js.State) (i a : ℕ) (cls : List ℕ) → AnObject w cls i a u → Finds z m w cls (ir.reference i) (js.object a) u
+  object_finds calls w u i a cls o = record {
+    found = js_objects.value_called (js.method (link_of p o.finds.at ∷ o.finds.above) (method_binding Entry m));
+    is = o.property;
+    calls = λ y g vs xs env sc t k values states. calls cls o.finds y i (js.object a) vs xs env sc t k (object_receiver w y cls i a u g o) values states;
+  }
+
+  -- an array has the entry of the class of all objects
+  pub arrays_find : EntryCalls → FindsTarget p object_class m → ArraysFind z m
+  arrays_find calls f w i a k there told s u same =
+      let is : ir_world.class_of_value s (ir.reference i) ≡ Some object_class = ap ir_world.stored_class (same.heaps.arrays i k told).stored in
+      object_finds calls w u i a object_class (object_at w s u same i a there object_class (class_told w s u same i a there object_class is) f)
+
   -- where no primitive value is an instance: the entry of the object
   module _ (calls : EntryCalls) (objects : (e : List ℕ) → MadeSomewhere p e → is_ancestor p.classes e c ≡ true → FindsTarget p e m) (none : (h : List ℕ) → is_hijacked h ≡ true → is_ancestor p.classes h c ≡ false) where
     no_kind : {A : Type 0} (h cls : List ℕ) → is_hijacked h ≡ true → Some h ≡ Some cls → is_ancestor p.classes cls c ≡ true → A
@@ -210,13 +226,6 @@ module _ (z : Setting) (arrays : ArrayEntries z.place) (c : List ℕ) (m : Metho
     pub entries_alike : EntriesAlike z c m
     entries_alike w v x one s u same = by v x one.stands.stands one.its.class (told_class p w s u same v one.its.class one.its.told) one.its.below
       where
-        object : (i a : ℕ) (cls : List ℕ) → AnObject w cls i a u → Finds z m w cls (ir.reference i) (js.object a) u
-        object i a cls o = record {
-          found = js_objects.value_called (js.method (link_of p o.finds.at ∷ o.finds.above) (method_binding Entry m));
-          is = o.property;
-          calls = λ y g vs xs env sc t k values states. calls cls o.finds y i (js.object a) vs xs env sc t k (object_receiver w y cls i a u g o) values states;
-        }
-
         by : (v : ir.Value) (x : js.Value) → Stands w (is_char (class_type c)) v x → (cls : List ℕ) → ir_world.class_of_value s v ≡ Some cls → is_ancestor p.classes cls c ≡ true → Finds z m w cls v x u
         by _ _ same_undefined cls e below = no_kind (codes "java.lang.Void") cls refl e below
         by _ _ same_null cls e below = impossible (cc)
@@ -226,7 +235,7 @@ module _ (z : Setting) (arrays : ArrayEntries z.place) (c : List ℕ) (m : Metho
         by _ _ (same_number q f) cls e below = no_kind (codes "java.lang.Integer") cls refl e below
         by _ _ (same_long q f) cls e below = no_kind (codes "java.lang.Long") cls refl e below
         by _ _ (same_text us) cls e below = no_kind (codes "java.lang.String") cls refl e below
-        by _ _ (same_reference i a h) cls e below = object i a cls (an_object objects w s u same i a h cls e below)
+        by _ _ (same_reference i a h) cls e below = object_finds calls w u i a cls (an_object objects w s u same i a h cls e below)
 
   -- where one may be: the function that tells them apart
   module _ (n : ℕ) (level : z.js_low ≡ js_meaning.below p.program (suc (suc n))) (one_less : TargetsAlike p z.direction z.low (js_meaning.below p.program (suc n))) (two_less : TargetsAlike p z.direction z.low (js_meaning.below p.program n)) (objects : (e : List ℕ) → MadeSomewhere p e → is_ancestor p.classes e c ≡ true → FindsTarget p e m) (st : DispatchStands p c m) where

@@ -17,7 +17,7 @@ use Rattle.js_mean.specs.Meaning.{Low, below, binding, bind_declared, class_bind
 use Rattle.array_code.specs.Pieces.{constructor_body, field_start, zero_of}
 use Rattle.array_code.specs.Words.{class_name, constants_name}
 use Rattle.sj_bodies.proofs.Heaps.{get-end, set-end}
-use Rattle.sj_calls.specs.Made.{zero_value, with_fields, started, MakerStands, Makers, makes_top, makes_more, ChainsMake, ShortBoundsGo}
+use Rattle.sj_calls.specs.Made.{zero_shown, with_fields, started, MakerStands, Makers, makes_top, makes_more, ChainsMake, ShortBoundsGo}
 
 longer : (a n : ℕ) → suc a + n ≡ suc (a + n)
 longer a n = omega arith
@@ -25,7 +25,7 @@ longer a n = omega arith
 one_more : (n : ℕ) → 1 + n ≡ suc n
 one_more n = omega arith
 
-zero_runs : (p : Program) (low : Low) (t : IrType) (sc : Scope) (s : State) → evaluate p low (zero_of t) sc s ≡ done (gives (zero_value t) s)
+zero_runs : (p : Program) (low : Low) (t : IrType) (sc : Scope) (s : State) → evaluate p low (zero_of t) sc s ≡ done (gives (zero_shown t) s)
 zero_runs p low Types.Boolean sc s = refl
 zero_runs p low Types.Char sc s = refl
 zero_runs p low Types.Byte sc s = refl
@@ -76,8 +76,8 @@ module _ (p : Program) (target : List ClassLink) (s : State) where
   fields_set : (low : Low) (sc : Scope) (m : Making) (c : Name) (fs : List FieldDef) (own : Name → Option Value) → sc.this_value ≡ making m (Some this_object) → execute_all p low (statements_of (map (field_start c) fs)) sc (at own) ≡ done (ends normally sc (at (with_fields c fs own)))
   fields_set low sc m c [] own this = refl
   fields_set low sc m c (f ∷ fs) own this =
-      ap (λ (o : Out StatementEnd). then_do o (next_statement (execute_all p low (statements_of (map (field_start c) fs))))) (sets low sc m (field_binding Property c f.name) (zero_of f.tpe) (zero_value f.tpe) own refl this (zero_runs p low f.tpe sc (at own)))
-      ∙ fields_set low sc m c fs (with_property (field_binding Property c f.name) (zero_value f.tpe) own) this
+      ap (λ (o : Out StatementEnd). then_do o (next_statement (execute_all p low (statements_of (map (field_start c) fs))))) (sets low sc m (field_binding Property c f.name) (zero_of f.tpe) (zero_shown f.tpe) own refl this (zero_runs p low f.tpe sc (at own)))
+      ∙ fields_set low sc m c fs (with_property (field_binding Property c f.name) (zero_shown f.tpe) own) this
 
   -- the constants, and then the fields
   starts : (low : Low) (sc : Scope) (m : Making) (c : Name) (fs : List FieldDef) (k : ℕ) (const : Bool) (own : Name → Option Value) → sc.this_value ≡ making m (Some this_object) → sc.bindings (constants_name c) ≡ absent → top_cell (owner p sc.file (constants_name c)) (constants_name c) s ≡ holds const (object k) →

@@ -18,13 +18,13 @@ use Rattle.sj_trees.specs.declared.classes.FieldDef.{FieldDef}
 use Rattle.sj_trees.specs.declared.types.IrType.{IrType}
 use Rattle.sj_trees.specs.declared.types.IrType.TheVariants as Types
 use Rattle.sj_calls.specs.Chains.{ChainStands, MadeBy, ChainFields, BeginsAtZero}
-use Rattle.sj_calls.specs.Made.{zero_value, with_fields, Makers, makes_top, makes_more}
+use Rattle.sj_calls.specs.Made.{zero_shown, with_fields, Makers, makes_top, makes_more}
 use Rattle.sj_calls.specs.Worlds.{Stands}
 use Rattle.sj_calls.proofs.Chains.{made_by}
 use Rattle.sj_calls.proofs.Zeros.{zeros}
 
 -- the zero of a type of which there are values
-pub zero_alike : (w : World) (t : IrType) → (t ≡ Types.Nothing → ⊥) → SameValue w t (ir_world.zero_of t) (zero_value t)
+pub zero_alike : (w : World) (t : IrType) → (t ≡ Types.Nothing → ⊥) → SameValue w t (ir_world.zero_of t) (zero_shown t)
 zero_alike w Types.Boolean h = record { stands = same_boolean false; suits = refl; shaped = tt }
 zero_alike w Types.Char h = record { stands = same_char refl 0 (omega arith); suits = refl; shaped = tt }
 zero_alike w Types.Byte h = record { stands = same_number (pos 0) (record { sfits = omega arith }); suits = refl; shaped = tt }
@@ -43,7 +43,7 @@ zero_alike w Types.NoType h = record { stands = same_null; suits = refl; shaped 
 -- what constructors make has no entry of a method
 with_fields_bare : (c : Name) (fs : List FieldDef) (own : Name → Option js.Value) → HasNoEntries own → HasNoEntries (with_fields c fs own)
 with_fields_bare c [] own bare = bare
-with_fields_bare c (f ∷ fs) own bare = with_fields_bare c fs (with_property (field_binding Property c f.name) (zero_value f.tpe) own) (no_entries_with c f.name (zero_value f.tpe) own bare)
+with_fields_bare c (f ∷ fs) own bare = with_fields_bare c fs (with_property (field_binding Property c f.name) (zero_shown f.tpe) own) (no_entries_with c f.name (zero_shown f.tpe) own bare)
 
 made_bare : (p : js.Program) (link : Name → js.ClassLink) (u : js.State) (cs : List Name) (own : Name → Option js.Value) → Makers p link u cs own → HasNoEntries own
 made_bare p link u _ _ (makes_top c fs k st) = with_fields_bare c fs (with_property (codes "k") (js.object k) no_properties) (λ m. refl)
@@ -62,4 +62,4 @@ stands_there p differ begins c cs st fields chain w s u same = record {
 
     go : (d g : Name) (t : IrType) → IsField p.classes d g t → (b : Bool) → list_any (is_same_text d) (chain_of p.classes c) ≡ b → SameField w t (if b then ir_world.zeros_in (ir_world.class_of p.classes d) g else None) (r.own (field_binding Property d g))
     go d g t i false e = no_field (r.own (field_binding Property d g))
-    go d g t i true e = subst (λ o. SameField w t o (r.own (field_binding Property d g))) (sym (begins d g t i).zero) (subst (λ q. SameField w t (Some (ir_world.zero_of t)) q) (sym (zeros p differ w s u same c cs st fields d g t i (ap (list_any (is_same_text d)) (sym chain) ∙ e))) (same_field (ir_world.zero_of t) (zero_value t) (zero_alike w t (begins d g t i).values)))
+    go d g t i true e = subst (λ o. SameField w t o (r.own (field_binding Property d g))) (sym (begins d g t i).zero) (subst (λ q. SameField w t (Some (ir_world.zero_of t)) q) (sym (zeros p differ w s u same c cs st fields d g t i (ap (list_any (is_same_text d)) (sym chain) ∙ e))) (same_field (ir_world.zero_of t) (zero_shown t) (zero_alike w t (begins d g t i).values)))

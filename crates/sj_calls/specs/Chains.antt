@@ -1,5 +1,5 @@
 -- The classes of a chain, as they stand in the program.
-use Rattle.std.specs.Prelude.{◌≡◌, true, List, [], ◌∷◌, Option, Some, None, ◌⊎◌}
+use Rattle.std.specs.Prelude.{◌≡◌, true, false, codes, List, [], ◌∷◌, Option, Some, None, ◌⊎◌}
 use Rattle.array_code.specs.Words.{constants_name}
 use Rattle.dispatch_laws.specs.World as ir_world
 use Rattle.js_mean.specs.Classes.{members_of}
@@ -10,18 +10,20 @@ use Rattle.js_tree.specs.Views.{statements_of}
 use Rattle.array_code.specs.Pieces.{constructor_body}
 use Rattle.sj_bodies.specs.Settings.{Place, IsField, TellsClass, link_of, some_constants, a_class}
 use Rattle.sj_bodies.specs.Worlds.{World}
+use Rattle.sj_names.specs.Same.{is_same_text}
 use Rattle.sj_trees.specs.declared.classes.FieldDef.{FieldDef}
 use Rattle.sj_trees.specs.declared.types.IrType.{IrType}
 use Rattle.sj_trees.specs.declared.types.IrType.TheVariants.{Nothing}
 use Rattle.sj_calls.specs.Made.{Makers}
 
--- the class stands in its file, with the constructor of its fields; its file reaches its constants; and the code of some file has the class
+-- the class stands in its file, with the constructor of its fields; its file reaches its constants; the code of some file has the class; and it isn't that of chars
 pub record ClassStands (p : Place) (c : Name) (superclass : Option Name) (fields : List FieldDef) : Type 0 where
   pub others : List Member
   pub members_are : members_of p.program (link_of p c) ≡ Some (constructor_of [] (statements_of (constructor_body c superclass fields)) ∷ others)
   pub reached : owner p.program (p.home (a_class c)) (constants_name c) ≡ Some (p.home (some_constants c))
   pub user : Name
   pub usable : (p.has user).live c ≡ true
+  pub no_char : is_same_text c (codes "java.lang.Character") ≡ false
 
 -- each class with the one that it extends
 pub data ChainStands (p : Place) : List Name → Type 0 where

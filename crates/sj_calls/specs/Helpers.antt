@@ -19,9 +19,12 @@ use Rattle.array_code.specs.HelperVariants.{BoxedChar, ConstantsOf, Equal, NotNu
 use Rattle.array_code.specs.Kind.{Kind}
 use Rattle.array_code.specs.KindVariants as kinds
 use Rattle.array_code.specs.PieceRulesClasses.{AreInstances}
+use Rattle.dispatch_laws.specs.Meaning.{with_message}
 use Rattle.dispatch_laws.specs.Tests.{test_name}
-use Rattle.sj_bodies.specs.Settings.{Place, a_test, a_helper, box_link, division_helper, SameState}
+use Rattle.sj_bodies.specs.Desugar.{member}
+use Rattle.sj_bodies.specs.Settings.{Place, Reaches, a_test, a_helper, box_link, division_helper, SameState}
 use Rattle.sj_bodies.specs.Worlds.{World, Grows, SameValue}
+use Rattle.sj_names.specs.declared.method_names.Namespace.TheVariants.{Constructor}
 use Rattle.sj_trees.specs.declared.operators.BinaryOp.{BinaryOp}
 use Rattle.sj_trees.specs.declared.types.IrType.{IrType}
 use Rattle.sj_trees.specs.declared.types.IrType.TheVariants.{Any, Undefined, Boolean, Char, Byte, Short, Int, Long, String, Class}
@@ -44,6 +47,23 @@ division_code o = helper_code (division_helper o)
 -- the function of a helper stands in its file
 abbrev pub HelperStands : Place → Helper → js_meaning.Code → Type 0
 HelperStands p h code = js_meaning.code_of p.program (p.home (a_helper h)) (helper_name h) ≡ Some code
+
+-- the helper stands in its file with its function; this file reaches it, and the code of some file can use it
+pub record ReachesHelper (p : Place) (f : Name) (h : Helper) : Type 0 where
+  pub stands : HelperStands p h (helper_code h)
+  pub owned : owner p.program f (helper_name h) ≡ Some (p.home (a_helper h))
+  pub user : Name
+  pub usable : (p.has user).helper (helper_name h) ≡ true
+
+-- and one that throws an exception of this class, which can be made in its file
+pub record ReachesThrower (p : Place) (f : Name) (h : Helper) (e : List ℕ) : Type 0 where
+  pub failure : HelperStands p h (helper_code h)
+  pub owned : owner p.program f (helper_name h) ≡ Some (p.home (a_helper h))
+  pub user : Name
+  pub usable : (p.has user).helper (helper_name h) ≡ true
+  pub reaches : Reaches p (p.home (a_helper h))
+  pub built : (p.has (p.home (a_helper h))).built (member e Constructor with_message) ≡ true
+  pub made : (p.has (p.home (a_helper h))).made e ≡ true
 
 -- the class of objects that hold chars stands in its file, with its constructor alone; its file reaches the constants of java.lang.Character; and the code
 -- of some file can use them
@@ -97,11 +117,6 @@ pub record ReachesTest (p : Place) (f : Name) (k : Kind) : Type 0 where
 pub data ClassTest (p : Place) : List ℕ → Type 0 where
   by_marker : (c : List ℕ) (kinds : List Kind) → is_hijacked c ≡ false → AreInstances p.classes c worded_kinds kinds → js_meaning.code_of p.program (p.home (a_test (Class c))) (test_name (Class c)) ≡ Some (class_test_code c kinds) → ((k : Kind) → Contains kinds k → ReachesTest p (p.home (a_test (Class c))) k) → ClassTest p c
   by_kind : (k : Kind) → js_meaning.code_of p.program (p.home (a_test (Class (kind_class k)))) (test_name (Class (kind_class k))) ≡ Some (hijacked_test_code k) → ReachesTest p (p.home (a_test (Class (kind_class k)))) k → ClassTest p (kind_class k)
-
--- a test that stands: of a primitive type, or of a class
-pub data Tested (p : Place) : IrType → Type 0 where
-  of_kind : (t : IrType) → CanTest p t → Tested p t
-  of_class : (c : List ℕ) → ClassTest p c → Tested p (Class c)
 
 -- the properties of an object that holds this value, with its constants at this address
 abbrev pub box_properties : ℕ → js.Value → Name → Option js.Value

@@ -1,3 +1,4 @@
+pub mod Arrays
 pub mod Chains
 pub mod Files
 pub mod Helpers

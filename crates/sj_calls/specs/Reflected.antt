@@ -3,14 +3,13 @@ use Rattle.std.specs.Prelude.{◌≡◌, ℕ, true, List, [], ◌∷◌, Contain
 use Rattle.array_code.specs.ClassTestsKinds.{is_told}
 use Rattle.array_code.specs.Dispatch.{Reflected}
 use Rattle.array_code.specs.FailureVariants.{Method}
-use Rattle.array_code.specs.Helpers.{helper_name}
 use Rattle.array_code.specs.HelperVariants.{Throws}
 use Rattle.array_code.specs.Kind.{Kind}
 use Rattle.array_code.specs.Pieces.{is_char}
 use Rattle.array_code.specs.Reflecting.{reflective_code, proxy_code}
 use Rattle.array_code.specs.Words.{kind_class, parameters_of, units_of}
 use Rattle.dispatch_laws.specs.Dispatch.{proxy_target}
-use Rattle.dispatch_laws.specs.Meaning.{with_message, no_such_method}
+use Rattle.dispatch_laws.specs.Meaning.{no_such_method}
 use Rattle.js_mean.specs.Classes.{method_code}
 use Rattle.js_mean.specs.Files.{owner}
 use Rattle.js_mean.specs.Meaning as js_meaning
@@ -18,15 +17,13 @@ use Rattle.js_mean.specs.Objects.{method_on}
 use Rattle.js_mean.specs.Proper.{are_distinct}
 use Rattle.js_mean.specs.States as js
 use Rattle.js_tree.specs.Terms.{Name}
-use Rattle.sj_bodies.specs.Desugar.{member}
-use Rattle.sj_bodies.specs.Settings.{Place, Reaches, MadeSomewhere, a_class, a_helper, a_reflection, box_link, link_of, links_of}
-use Rattle.sj_calls.specs.Helpers.{HelperStands, ReachesBoxes, ReachesTest, helper_code}
+use Rattle.sj_bodies.specs.Settings.{Place, MadeSomewhere, a_class, a_reflection, box_link, link_of, links_of}
+use Rattle.sj_calls.specs.Helpers.{ReachesThrower, ReachesBoxes, ReachesTest}
 use Rattle.sj_calls.specs.Looked.{RunsTarget, FindsTarget}
 use Rattle.sj_mangling.specs.Bindings.{method_binding}
 use Rattle.sj_mangling.specs.declared.bindings.MethodBinding.TheVariants.{Entry, Reflective}
 use Rattle.sj_names.specs.MethodNames.{spelled_method}
 use Rattle.sj_names.specs.declared.method_names.MethodName.{MethodName}
-use Rattle.sj_names.specs.declared.method_names.Namespace.TheVariants.{Constructor}
 use Rattle.sj_trees.specs.declared.classes.MethodDef.{MethodDef}
 
 -- an object of the class has, in a class of its chain, an entry of the name, which hands on to the entry of this method, and reaches the class of objects that hold chars where it has to
@@ -65,14 +62,8 @@ pub data KindAnswers (p : Place) (m : MethodName) (cases : List Reflected) (k : 
   has_case : HasReflected cases k → KindAnswers p m cases k
 
 -- the helper that throws where there is no method stands in its file; this file reaches it, the code of some file can use it, and the exception can be made there
-pub record ThrowsMethod (p : Place) (f : Name) : Type 0 where
-  pub failure : HelperStands p (Throws Method) (helper_code (Throws Method))
-  pub owned : owner p.program f (helper_name (Throws Method)) ≡ Some (p.home (a_helper (Throws Method)))
-  pub user : Name
-  pub usable : (p.has user).helper (helper_name (Throws Method)) ≡ true
-  pub reaches : Reaches p (p.home (a_helper (Throws Method)))
-  pub built : (p.has (p.home (a_helper (Throws Method)))).built (member no_such_method Constructor with_message) ≡ true
-  pub made : (p.has (p.home (a_helper (Throws Method)))).made no_such_method ≡ true
+abbrev pub ThrowsMethod : Place → Name → Type 0
+ThrowsMethod p f = ReachesThrower p f (Throws Method) no_such_method
 
 -- the function of the name stands in its file, with a case for each kind whose class has a method of the name; each object answers it; and objects that hold chars have no entry
 pub record ReflectionStands (p : Place) (m : MethodName) : Type 0 where

@@ -1,7 +1,7 @@
 -- What the code of a program has of objects: members that run on receivers, constructors, classes, fields, static fields, the one objects of classes, the null check, divisions, objects that hold chars, tests,
 -- casts and identity, each where code can use it.
-use Rattle.std.specs.Prelude.{◌≡◌, ℕ, ◌≤◌, true, false, List, length, codes, Option, Some, None}
-use Rattle.sj_bodies.specs.Built.{Usable, has_static, has_cell, can_box, can_look_up, divides, compares}
+use Rattle.std.specs.Prelude.{◌≡◌, ℕ, ◌≤◌, true, false, List, codes, Some}
+use Rattle.sj_bodies.specs.Built.{has_static, has_cell, can_box, can_look_up, divides, compares}
 use Rattle.array_code.specs.Classes.{class_cast_code}
 use Rattle.array_code.specs.Modules.{loader_code, storer_code}
 use Rattle.dispatch_laws.specs.Targets.{IsTargetOf}
@@ -10,7 +10,6 @@ use Rattle.array_code.specs.Words.{object_class, units_of}
 use Rattle.array_code.specs.FailureVariants.{NullReceiver, Division, Cast}
 use Rattle.array_code.specs.HelperVariants.{ArrayClass, Get, MakeArray, NotNull, CastTo, Put, Set, Throws}
 use Rattle.array_code.specs.Kind.{Kind}
-use Rattle.dispatch_laws.specs.Dispatch.{chain_of}
 use Rattle.dispatch_laws.specs.Meaning.{with_message, without_parameters}
 use Rattle.dispatch_laws.specs.States as ir
 use Rattle.dispatch_laws.specs.World as ir_world
@@ -27,7 +26,7 @@ use Rattle.sj_names.specs.declared.method_names.MethodName.{MethodName}
 use Rattle.sj_names.specs.declared.method_names.Namespace.TheVariants.{Constructor}
 use Rattle.sj_trees.specs.declared.operators.BinaryOp.{BinaryOp}
 use Rattle.sj_trees.specs.declared.types.IrType.{IrType}
-use Rattle.sj_bodies.specs.Settings.{Place, ArraysSomewhere, array_links, SameState, SameStored, HasField, HasStatic, IsClass, CellsDiffer, Reaches, a_static, a_setter, a_cell, a_loader, a_storer, cell_name, a_test, a_cast, a_helper, division_helper, top_function, link_of, links_of, zeroed}
+use Rattle.sj_bodies.specs.Settings.{Place, ArraysSomewhere, MadeSomewhere, array_links, SameState, HasField, HasStatic, IsClass, CellsDiffer, Reaches, a_static, a_setter, a_cell, a_loader, a_storer, cell_name, a_test, a_cast, a_helper, division_helper, top_function, links_of}
 use Rattle.sj_bodies.specs.Worlds.{World}
 use Rattle.sj_trees.specs.declared.types.IrType.TheVariants.{Class, Array}
 use Rattle.sj_names.specs.declared.references.ArrayRef.{ArrayRef}
@@ -35,23 +34,13 @@ use Rattle.sj_mangling.specs.Bindings.{method_binding}
 use Rattle.sj_mangling.specs.declared.bindings.MethodBinding.TheVariants.{Entry}
 use Rattle.js_mean.specs.Objects as js_objects
 use Rattle.dispatch_laws.specs.Known.{is_hijacked}
-use Rattle.sj_calls.specs.Helpers.{HelperStands, BoxStands, ReachesTest, ClassTest, Tested, CanCompare, kind_of, code_of_item, helper_code, checking_code, division_code}
-use Rattle.sj_calls.specs.Looked.{LooksUpThere}
-use Rattle.sj_calls.specs.Made.{Makers}
+use Rattle.sj_calls.specs.Arrays.{CanGiveArrays, CanMakeArrays, ChecksIndex, CanPut, CanTestArrays, CanCastArrays}
+use Rattle.sj_calls.specs.Helpers.{HelperStands, ReachesThrower, BoxStands, ReachesTest, CanTest, ClassTest, CanCompare, kind_of, code_of_item, helper_code, checking_code, division_code}
+use Rattle.sj_calls.specs.Looked.{FindsTarget, LooksUpThere}
+pub use Rattle.sj_calls.specs.Made.{Stands, IsMade}
 use Rattle.sj_calls.specs.Reflected.{ReflectionStands}
 use Rattle.sj_calls.specs.Methods.{Linked}
 use Rattle.sj_calls.specs.Objects.{RunsOn, Constructs}
-
--- the chain of a class stands in the program, and an object that it makes stands for the IR's
-pub record Stands (p : Place) (c : List ℕ) (w : World) (u : js.State) : Type 0 where
-  pub own : Name → Option js.Value
-  pub makers : Makers p.program (link_of p) u (chain_of p.classes c) own
-  pub shape : SameStored p w c None (Some (zeroed p c)) (Some (js.plain (links_of p c) own))
-
--- objects of the class can be made in each state, and the units beyond those of the IR are enough for its chain
-pub record IsMade (p : Place) (c : List ℕ) : Type 0 where
-  pub depth : length (chain_of p.classes c) ≤ p.room.beyond
-  pub stands : (w : World) (s : ir.State) (u : js.State) → SameState p w s u → Stands p c w u
 
 -- the null check stands in the program, and so does what it throws
 pub record CanCheck (p : Place) : Type 0 where
@@ -74,14 +63,8 @@ pub record CanDivide (p : Place) (o : BinaryOp) : Type 0 where
   pub made : (p.has (p.home (a_helper (Throws Division)))).made (codes "java.lang.ArithmeticException") ≡ true
 
 -- what a cast throws where it fails stands in its file; this file reaches it, the code of some file can use it, and the exception can be made there
-pub record ThrowsCast (p : Place) (f : Name) : Type 0 where
-  pub failure : HelperStands p (Throws Cast) (helper_code (Throws Cast))
-  pub owned : owner p.program f (helper_name (Throws Cast)) ≡ Some (p.home (a_helper (Throws Cast)))
-  pub user : Name
-  pub usable : (p.has user).helper (helper_name (Throws Cast)) ≡ true
-  pub reaches : Reaches p (p.home (a_helper (Throws Cast)))
-  pub built : (p.has (p.home (a_helper (Throws Cast)))).built (member (codes "java.lang.ClassCastException") Constructor with_message) ≡ true
-  pub made : (p.has (p.home (a_helper (Throws Cast)))).made (codes "java.lang.ClassCastException") ≡ true
+abbrev pub ThrowsCast : Place → Name → Type 0
+ThrowsCast p f = ReachesThrower p f (Throws Cast) (codes "java.lang.ClassCastException")
 
 -- the cast to a primitive type stands in its file, as the helper of its kind, and so does what it uses: the test of the kind, and what is thrown
 pub record CanCast (p : Place) (t : IrType) : Type 0 where
@@ -101,10 +84,17 @@ pub record CanCastClass (p : Place) (c : List ℕ) : Type 0 where
   pub throws : ThrowsCast p (p.home (a_cast (Class c)))
   pub named : units_of c ≡ ir_world.type_text (Class c)
 
--- a cast that stands: to a primitive type, or to a class
+-- a test that stands: of a primitive type, of a class, or of a type of arrays
+pub data Tested (p : Place) : IrType → Type 0 where
+  of_kind : (t : IrType) → CanTest p t → Tested p t
+  of_class : (c : List ℕ) → ClassTest p c → Tested p (Class c)
+  of_array : (r : ArrayRef) → CanTestArrays p r → Tested p (Array r)
+
+-- a cast that stands: to a primitive type, to a class, or to a type of arrays
 pub data Casted (p : Place) : IrType → Type 0 where
   to_kind : (t : IrType) → CanCast p t → Casted p t
   to_class : (c : List ℕ) → CanCastClass p c → Casted p (Class c)
+  to_array : (r : ArrayRef) → CanCastArrays p r → Casted p (Array r)
 
 -- the function that sets a variable, by its item
 abbrev pub setter_code : List ℕ → List ℕ → js_meaning.Code
@@ -140,17 +130,7 @@ pub record LoadStands (p : Place) (c : List ℕ) : Type 0 where
 abbrev pub ArrayEntries : Place → Type 0
 ArrayEntries p = ArraysSomewhere p → (m : MethodName) → js_objects.method_on p.program (array_links p) (method_binding Entry m) ≡ js_objects.method_on p.program (links_of p object_class) (method_binding Entry m)
 
--- code that can't make arrays, nor use what helpers do with them
-pub record NoArrays (has : Usable) : Type 0 where
-  pub made : has.helper (helper_name MakeArray) ≡ false
-  pub given : has.helper (helper_name ArrayClass) ≡ false
-  pub got : has.helper (helper_name Get) ≡ false
-  pub set : has.helper (helper_name Set) ≡ false
-  pub put : has.helper (helper_name Put) ≡ false
-  pub tested : (r : ArrayRef) → has.tests (Array r) ≡ false
-  pub cast : (r : ArrayRef) → has.casts (Array r) ≡ false
-
--- what the code of any file can use is there, what a call of a public member runs is its target, and what is looked up is found on each instance, and each value answers a reflective name; no object is made of a hijacked class; and around a call there are three units, and one beyond those of the IR: a call by a reflective name takes three, for the function, the entry of the name and that of the method
+-- what the code of any file can use is there, what a call of a public member runs is its target, and what is looked up is found on each instance, and each value answers a reflective name; no object is made of a hijacked class; arrays can be made and used; and around a call there are five units, and one beyond those of the IR: an item that is set may take five, for its helper, the one that tells whether it may be an item, the one that tells the class of a value, and a test
 pub record HasObjects (p : Place) : Type 0 where
   pub linked : (f : Name) (m : Member) → (p.has f).linked m ≡ true → Linked p m
   pub received : (f : Name) (m : Member) → (p.has f).received m ≡ true → RunsOn p m
@@ -172,6 +152,11 @@ pub record HasObjects (p : Place) : Type 0 where
   pub tested : (f : Name) (t : IrType) → (p.has f).tests t ≡ true → Tested p t
   pub cast : (f : Name) (t : IrType) → (p.has f).casts t ≡ true → Casted p t
   pub compared : (f : Name) → compares (p.has f) ≡ true → CanCompare p
-  pub no_arrays : (f : Name) → NoArrays (p.has f)
-  pub each : 3 ≤ p.room.each
+  pub gives : (f g : Name) → (p.has f).helper (helper_name ArrayClass) ≡ true → (p.has g).arrays ≡ true → CanGiveArrays p
+  pub makes : (f : Name) → (p.has f).helper (helper_name MakeArray) ≡ true → CanMakeArrays p
+  pub gets : (f : Name) → (p.has f).helper (helper_name Get) ≡ true → ChecksIndex p Get
+  pub sets : (f : Name) → (p.has f).helper (helper_name Set) ≡ true → ChecksIndex p Set
+  pub puts : (f : Name) → (p.has f).helper (helper_name Put) ≡ true → CanPut p
+  pub on_arrays : (f : Name) (m : MethodName) → (p.has f).on_arrays m ≡ true → MadeSomewhere p object_class → FindsTarget p object_class m
+  pub each : 5 ≤ p.room.each
   pub beyond : 1 ≤ p.room.beyond

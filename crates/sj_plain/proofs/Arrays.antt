@@ -1,5 +1,5 @@
 -- Arrays: what the acts of the IR come to, the expressions come to.
-use Rattle.std.proofs.Common.{◌≡◌, ℕ, zero, suc, arith, Bool, true, false, List, [], ◌∷◌, ◌++◌, ◌&&◌, ◌||◌, length, slice_get, Some, None, Option, refl, sym, ap, ◌∙◌, subst, if◌then◌else◌}
+use Rattle.std.proofs.Common.{◌≡◌, ℕ, suc, arith, Bool, true, false, List, [], ◌∷◌, ◌++◌, length, slice_get, Some, Option, refl, sym, ap, ◌∙◌, subst, if◌then◌else◌}
 use Rattle.std.specs.Prelude.{◌<◌, ◌≤◌, ◌^◌, pos, codes, FitsSigned}
 use Rattle.std.specs.Int.{w32}
 use Rattle.std.proofs.lemmas.Bool.{or_right}
@@ -14,19 +14,18 @@ use Rattle.js_mean.specs.States as js
 use Rattle.js_tree.specs.Terms as tree
 use Rattle.sj_core.specs.Terms as core
 use Rattle.sj_core.specs.Views.{expressions_of}
-use Rattle.body_rules.specs.Built.{Usable, has_base, is_based, can_cast, may_make}
+use Rattle.body_rules.specs.Built.{has_base, is_based, can_cast, may_make}
 use Rattle.body_rules.proofs.RulesGive.{each_made}
 use Rattle.body_rules.specs.Boxes.{is_boxed, any_item_boxed}
 use Rattle.body_rules.specs.Coercions.{is_char, coerced, coerced_items}
 use Rattle.body_rules.specs.Desugar.{types_of}
 use Rattle.body_rules.specs.Rules.{AllFit}
-use Rattle.body_rules.specs.Standing.{Fits, FitAll}
+use Rattle.body_rules.specs.Standing.{Fits}
 use Rattle.body_rules.specs.Templates.{zero_template, element_setter, expression_template, expression_templates}
 use Rattle.body_rules.specs.Tests.{base_template, array_text}
 use Rattle.body_rules.specs.Typing.{HasDimensions, AreDimensions}
 use Rattle.helper_rules.specs.Helpers.{helper_name}
 use Rattle.helper_rules.specs.declared.kinds.Helper.TheVariants.{ArrayClass, MakeArray, Get}
-use Rattle.sj_names.proofs.Same.{impossible}
 use Rattle.sj_names.specs.Bases.{spelled_base}
 use Rattle.sj_names.specs.declared.references.ArrayRef.{ArrayRef}
 use Rattle.sj_names.specs.declared.references.BaseRef.{BaseRef}
@@ -35,7 +34,7 @@ use Rattle.sj_trees.specs.TypeOf.{type_of_term}
 use Rattle.sj_trees.specs.Types.{element_type}
 use Rattle.sj_trees.specs.declared.types.IrType.{IrType}
 use Rattle.sj_trees.specs.declared.types.IrType.TheVariants.{Any, Undefined, Null, Nothing, Boolean, Char, Byte, Short, Int, Long, String, Class, Array, NoType}
-use Rattle.sj_plain.specs.Settings.{Place, TopHolds, Setting, shown, usable, Inside, SameStored, same_object, same_array, SameArray, SameItems, no_items, more_items, StandsForBase, SameState, Valued, valued, Based, Lawful, a_helper, a_test, a_cast, some_constants, array_links, top_function, HoldsConstants, depth_of, zero_shown, setting_helper, MayBox}
+use Rattle.sj_plain.specs.Settings.{Place, TopHolds, Setting, shown, usable, Inside, SameStored, same_object, same_array, SameArray, SameItems, no_items, more_items, StandsForBase, SameState, Valued, valued, Based, Lawful, a_helper, a_test, a_cast, some_constants, array_links, top_function, depth_of, zero_shown, setting_helper, MayBox}
 use Rattle.sj_plain.specs.Standing.{suits, Takes}
 use Rattle.sj_plain.specs.Worlds.{ArrayAt}
 use Rattle.sj_plain.proofs.Boxes.{stands-for, stood, stood-fits, stood_told, stood_alike}
@@ -186,8 +185,8 @@ module _ (z : Setting) (lawful : Lawful z) where
   argument = js_meaning.evaluate z.place.program z.js_low
 
   -- a new array of this length
-  pub new_array_alike : (r : ArrayRef) → HasDimensions r → (usable z).helper (helper_name MakeArray) ≡ true → has_base (usable z) r.base ≡ true → (own : IrType) → Fits Int own → (q : ir.Run) (e : core.Expression) (w : World) (env : ir.Env) (s : ir.State) (sc : js.Scope) (u : js.State) → Inside z.place z.code sc → OperandsAlike z w env sc (own ∷ []) (q ∷ []) (e ∷ []) → SameState z.place w s u → Sim z.direction (Valued z.place w env (Array r)) (ir_meaning.in_order (q ∷ []) (ir_meaning.new_items z.place.classes z.low r) env s) (shown z (core.new_array_of r e) sc u)
-  new_array_alike r d has named own f q e w env s sc u inside operand same = subst (λ o. Sim z.direction (Valued z.place w env (Array r)) (ir_meaning.in_order (q ∷ []) (ir_meaning.new_items z.place.classes z.low r) env s) o) (sym js_is) (in_order_alike z w w env sc w (own ∷ []) (Array r) (q ∷ []) (e ∷ []) (ir_meaning.new_items z.place.classes z.low r) act operand acts w s u (grows-refl w) (grows-refl w) (grows-refl w) same)
+  pub new_array_alike : (r : ArrayRef) → HasDimensions r → (usable z).arrays ≡ true → (usable z).helper (helper_name MakeArray) ≡ true → has_base (usable z) r.base ≡ true → (own : IrType) → Fits Int own → (q : ir.Run) (e : core.Expression) (w : World) (env : ir.Env) (s : ir.State) (sc : js.Scope) (u : js.State) → Inside z.place z.code sc → OperandsAlike z w env sc (own ∷ []) (q ∷ []) (e ∷ []) → SameState z.place w s u → Sim z.direction (Valued z.place w env (Array r)) (ir_meaning.in_order (q ∷ []) (ir_meaning.new_items z.place.classes z.low r) env s) (shown z (core.new_array_of r e) sc u)
+  new_array_alike r d can has named own f q e w env s sc u inside operand same = subst (λ o. Sim z.direction (Valued z.place w env (Array r)) (ir_meaning.in_order (q ∷ []) (ir_meaning.new_items z.place.classes z.low r) env s) o) (sym js_is) (in_order_alike z w w env sc w (own ∷ []) (Array r) (q ∷ []) (e ∷ []) (ir_meaning.new_items z.place.classes z.low r) act operand acts w s u (grows-refl w) (grows-refl w) (grows-refl w) same)
     where
       fun : js.Value
       fun = top_function z.place (a_helper MakeArray)
@@ -205,11 +204,11 @@ module _ (z : Setting) (lawful : Lawful z) where
       js_is = ap (λ o. then_do o (js.with_value (λ g. js_meaning.in_order (argument (tree.number_literal (pos r.dimensions)) ∷ argument (base_template r.base) ∷ shown z e ∷ argument (zero_template (element_type r)) ∷ []) (js_meaning.call z.place.program z.js_low g) sc))) (top_seen z law (a_helper MakeArray) fun sc u has inside (same.tops z.code.file (a_helper MakeArray) has)) ∙ told_first z law r d (shown z e ∷ argument (zero_template (element_type r)) ∷ []) (js_meaning.call z.place.program z.js_low fun) w sc u base
 
       acts : ActsAlike z w w env (own ∷ []) (Array r) (ir_meaning.new_items z.place.classes z.low r) act sc
-      acts y _ _ s u g (one_more _ v x _ _ _ a no_values) same = subst (λ o. Sim z.direction (Valued z.place w env (Array r)) (ir_meaning.new_items z.place.classes z.low r (v ∷ []) env s) o) (sym (in_order-given (argument (zero_template (element_type r))) [] (behind (x ∷ [])) (zero_shown (element_type r)) sc u (zero_seen z (element_type r) sc u))) (sim_weaken z.direction (Valued z.place y env (Array r)) (Valued z.place w env (Array r)) _ _ (λ a b. valued-weaken z w y env (Array r) a b g) (lawful.makes_arrays has r d y v x base.value env s u (value-fits y Int own v x f a) (base_later z law w y r.base base.value g base.stands) same))
+      acts y _ _ s u g (one_more _ v x _ _ _ a no_values) same = subst (λ o. Sim z.direction (Valued z.place w env (Array r)) (ir_meaning.new_items z.place.classes z.low r (v ∷ []) env s) o) (sym (in_order-given (argument (zero_template (element_type r))) [] (behind (x ∷ [])) (zero_shown (element_type r)) sc u (zero_seen z (element_type r) sc u))) (sim_weaken z.direction (Valued z.place y env (Array r)) (Valued z.place w env (Array r)) _ _ (λ a b. valued-weaken z w y env (Array r) a b g) (lawful.makes_arrays can has r d y v x base.value env s u (value-fits y Int own v x f a) (base_later z law w y r.base base.value g base.stands) same))
 
   -- an array with these items
-  pub array_alike : (r : ArrayRef) → HasDimensions r → (usable z).helper (helper_name ArrayClass) ≡ true → has_base (usable z) r.base ≡ true → (owns : List IrType) (fit : TakeEach (element_type r) owns) → length owns < 2 ^ 31 → (qs : List ir.Run) (es es' : List core.Expression) → es ≡ es' → (w : World) (env : ir.Env) (s : ir.State) (sc : js.Scope) (u : js.State) → Inside z.place z.code sc → OperandsAlike z w env sc (each_stood (element_type r) owns fit) qs es' → SameState z.place w s u → Sim z.direction (Valued z.place w env (Array r)) (ir_meaning.in_order qs (ir_meaning.made_array r) env s) (shown z (core.array_of r (expressions_of es)) sc u)
-  array_alike r d has named owns fit short qs es es' are w env s sc u inside operands same = subst (λ o. Sim z.direction (Valued z.place w env (Array r)) (ir_meaning.in_order qs (ir_meaning.made_array r) env s) o) (sym js_is) (in_order_alike z w w env sc w (each_stood (element_type r) owns fit) (Array r) qs es' (ir_meaning.made_array r) act operands acts w s u (grows-refl w) (grows-refl w) (grows-refl w) same)
+  pub array_alike : (r : ArrayRef) → HasDimensions r → (usable z).arrays ≡ true → (usable z).helper (helper_name ArrayClass) ≡ true → has_base (usable z) r.base ≡ true → (owns : List IrType) (fit : TakeEach (element_type r) owns) → length owns < 2 ^ 31 → (qs : List ir.Run) (es es' : List core.Expression) → es ≡ es' → (w : World) (env : ir.Env) (s : ir.State) (sc : js.Scope) (u : js.State) → Inside z.place z.code sc → OperandsAlike z w env sc (each_stood (element_type r) owns fit) qs es' → SameState z.place w s u → Sim z.direction (Valued z.place w env (Array r)) (ir_meaning.in_order qs (ir_meaning.made_array r) env s) (shown z (core.array_of r (expressions_of es)) sc u)
+  array_alike r d can has named owns fit short qs es es' are w env s sc u inside operands same = subst (λ o. Sim z.direction (Valued z.place w env (Array r)) (ir_meaning.in_order qs (ir_meaning.made_array r) env s) o) (sym js_is) (in_order_alike z w w env sc w (each_stood (element_type r) owns fit) (Array r) qs es' (ir_meaning.made_array r) act operands acts w s u (grows-refl w) (grows-refl w) (grows-refl w) same)
     where
       base : BaseSeen z law w r.base sc u
       base = base_seen z law w r.base named s sc u inside same
@@ -227,7 +226,7 @@ module _ (z : Setting) (lawful : Lawful z) where
       js_is = ap (λ o. then_do o (js.with_value (λ g. js_meaning.in_order (argument (tree.number_literal (pos r.dimensions)) ∷ argument (base_template r.base) ∷ argument (tree.list_of (expression_templates z.place.name z.place.label (usable z).lookup (expressions_of es))) ∷ []) (js_meaning.construct_value z.place.program z.js_low g) sc))) (top_seen z law (a_helper ArrayClass) (js.class (array_links z.place)) sc u has inside (same.tops z.code.file (a_helper ArrayClass) has)) ∙ told_first z law r d (argument (tree.list_of (expression_templates z.place.name z.place.label (usable z).lookup (expressions_of es))) ∷ []) (js_meaning.construct_value z.place.program z.js_low (js.class (array_links z.place))) w sc u base ∙ ap (λ args. then_do (js_meaning.in_order args js_meaning.list_made sc u) (js.with_value (λ x. made x sc))) (row_shown z es ∙ ap (all_shown z) are) ∙ in_order-then (all_shown z es') js_meaning.list_made (λ x. made x sc) sc u
 
       acts : ActsAlike z w w env (each_stood (element_type r) owns fit) (Array r) (ir_meaning.made_array r) act sc
-      acts y vs xs s u g alike same = sim_weaken z.direction (Valued z.place y env (Array r)) (Valued z.place w env (Array r)) _ _ (λ a b. valued-weaken z w y env (Array r) a b g) (lawful.gives_arrays has r d y vs xs base.value env s u (items_given y (element_type r) owns fit vs xs alike) (subst (λ n. n < 2 ^ 31) (sym (items_counted y (element_type r) owns fit vs xs alike)) short) (base_later z law w y r.base base.value g base.stands) same)
+      acts y vs xs s u g alike same = sim_weaken z.direction (Valued z.place y env (Array r)) (Valued z.place w env (Array r)) _ _ (λ a b. valued-weaken z w y env (Array r) a b g) (lawful.gives_arrays can has r d y vs xs base.value env s u (items_given y (element_type r) owns fit vs xs alike) (subst (λ n. n < 2 ^ 31) (sym (items_counted y (element_type r) owns fit vs xs alike)) short) (base_later z law w y r.base base.value g base.stands) same)
 
   -- the length of an array
   abbrev length_read : js.Scope → js.Value → js.State → Out js.ExpressionEnd

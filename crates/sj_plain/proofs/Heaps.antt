@@ -1,5 +1,5 @@
 -- Heaps that stand for each other: the emitted code makes an object, the IR makes its own for it, and a field of both is written.
-use Rattle.std.proofs.Common.{◌≡◌, ℕ, zero, suc, Bool, true, false, List, [], ◌∷◌, ◌++◌, length, map, set, slice_get, arith, Option, Some, None, refl, sym, ap, ◌∙◌, subst, if◌then◌else◌}
+use Rattle.std.proofs.Common.{◌≡◌, ◌≤◌, ℕ, zero, suc, Bool, true, false, List, [], ◌∷◌, ◌++◌, length, map, set, slice_get, arith, Option, Some, None, refl, sym, ap, ◌∙◌, subst, if◌then◌else◌}
 use Rattle.std.specs.Prelude.{◌==◌, ◌<◌, ◌^◌}
 use Rattle.ir_mean.specs.Dispatch.{chain_of}
 use Rattle.ir_mean.specs.Known.{is_hijacked}
@@ -88,7 +88,7 @@ items-carry w y g t _ _ no_items = no_items
 items-carry w y g t _ _ (more_items v x vs xs a others) = more_items v x vs xs (value-carry w y t v x g a) (items-carry w y g t vs xs others)
 
 pub array-carry : (p : Place) (w y : World) → Keeps w y → (k : ArrayAt) (o : Option ir.Stored) (q : Option js.Stored) → SameArray p w k o q → SameArray p y k o q
-array-carry p w y g k o q f = record { values = f.values; stored = f.stored; items = f.items; shown = f.shown; alike = items-carry w y g (element_type k.kind) f.values f.items f.alike; short = f.short; made = f.made }
+array-carry p w y g k o q f = record { values = f.values; stored = f.stored; items = f.items; shown = f.shown; alike = items-carry w y g (element_type k.kind) f.values f.items f.alike; short = f.short; few = f.few; made = f.made }
 
 pub record There {A : Type 0} (o : Option A) : Type 0 where
   pub what : A
@@ -158,7 +158,7 @@ module _ (p : Place) (w : World) (s : List ir.Stored) (u : List js.Stored) (h : 
 
   -- what stands for an array when the emitted code has made more
   array-front : (o : js.Stored) (y : World) → Keeps w y → (i : ℕ) (k : ArrayAt) → w.arrays i ≡ Some k → SameArray p y k (slice_get s i) (slice_get (u ++ o ∷ []) k.items)
-  array-front o y g i k e = let f = h.arrays i k e in let r = array-carry p w y g k (slice_get s i) (slice_get u k.items) f in record { values = r.values; stored = r.stored; items = r.items; shown = get-front u (o ∷ []) k.items (js.array r.items) r.shown; alike = r.alike; short = r.short; made = r.made }
+  array-front o y g i k e = let f = h.arrays i k e in let r = array-carry p w y g k (slice_get s i) (slice_get u k.items) f in record { values = r.values; stored = r.stored; items = r.items; shown = get-front u (o ∷ []) k.items (js.array r.items) r.shown; alike = r.alike; short = r.short; few = r.few; made = r.made }
 
   -- an object of the emitted code that the IR hasn't made yet
   pub pends : (o : js.Stored) → SameHeap p (with_pending (length u) o w) s (u ++ o ∷ [])
@@ -287,7 +287,7 @@ module _ (p : Place) (w : World) (s : List ir.Stored) (u : List js.Stored) (h : 
       some-same c d e = cc
 
       array : (i : ℕ) (k : ArrayAt) → w.arrays i ≡ Some k → SameArray p y k (slice_get (s ++ q ∷ []) i) (slice_get u k.items)
-      array i k e = let f = array-carry p w y kept k (slice_get s i) (slice_get u k.items) (h.arrays i k e) in record { values = f.values; stored = get-front s (q ∷ []) i (ir.array k.kind f.values) f.stored; items = f.items; shown = f.shown; alike = f.alike; short = f.short; made = f.made }
+      array i k e = let f = array-carry p w y kept k (slice_get s i) (slice_get u k.items) (h.arrays i k e) in record { values = f.values; stored = get-front s (q ∷ []) i (ir.array k.kind f.values) f.stored; items = f.items; shown = f.shown; alike = f.alike; short = f.short; few = f.few; made = f.made }
 
       waits : (i : ℕ) (k : ArrayAt) (d : js.Stored) → w.arrays i ≡ Some k → (t : Bool) → (k.items == a) ≡ t → (if t then None else w.pending k.items) ≡ Some d → ⊥
       waits i k d e true l f = cc
@@ -355,7 +355,7 @@ module _ (p : Place) (w : World) (s : List ir.Stored) (u : List js.Stored) (h : 
       some-same c d e = cc
 
       array : (j : ℕ) (k : ArrayAt) → w.arrays j ≡ Some k → SameArray p w k (slice_get (set s i q) j) (slice_get (set u a o) k.items)
-      array j k e = let f = h.arrays j k e in record { values = f.values; stored = get-set_other s j i q (λ l. no_array j k e l) ∙ f.stored; items = f.items; shown = get-set_other u k.items a o (λ l. items-placed j i k e (there ∙ ap Some (sym l))) ∙ f.shown; alike = f.alike; short = f.short; made = f.made }
+      array j k e = let f = h.arrays j k e in record { values = f.values; stored = get-set_other s j i q (λ l. no_array j k e l) ∙ f.stored; items = f.items; shown = get-set_other u k.items a o (λ l. items-placed j i k e (there ∙ ap Some (sym l))) ∙ f.shown; alike = f.alike; short = f.short; few = f.few; made = f.made }
         where
           no_array : (j : ℕ) (k : ArrayAt) → w.arrays j ≡ Some k → j ≡ i → ⊥
           no_array j k e l = absurd (one k (sym e ∙ ap w.arrays l ∙ none))
@@ -388,8 +388,8 @@ module _ (p : Place) (w : World) (s : List ir.Stored) (u : List js.Stored) (h : 
   }
 
   -- both make an array, for which the emitted code has its items already, as no others
-  pub array-births : (k : ArrayAt) (vs : List ir.Value) (xs : List js.Value) (properties : Name → Option js.Value) → slice_get u k.items ≡ Some (js.array xs) → ((j : ℕ) (l : ArrayAt) → w.arrays j ≡ Some l → l.items ≡ k.items → ⊥) → ((o : js.Stored) → w.owned k.items ≡ Some o → ⊥) → ((o : js.Stored) → w.pending k.items ≡ Some o → ⊥) → SameItems w (element_type k.kind) vs xs → length vs < 2 ^ 31 → ArraysSomewhere p → MadeSomewhere p object_class → TellsClass w object_class properties → HasNoEntries properties → TellsArray w k properties → SameHeap p (with_array (length s) (length u) k w) (s ++ ir.array k.kind vs ∷ []) (u ++ js.plain (array_links p) properties ∷ [])
-  array-births k vs xs properties there alone unowned unborn items short somewhere made tells bare its = record {
+  pub array-births : (k : ArrayAt) (vs : List ir.Value) (xs : List js.Value) (properties : Name → Option js.Value) → slice_get u k.items ≡ Some (js.array xs) → ((j : ℕ) (l : ArrayAt) → w.arrays j ≡ Some l → l.items ≡ k.items → ⊥) → ((o : js.Stored) → w.owned k.items ≡ Some o → ⊥) → ((o : js.Stored) → w.pending k.items ≡ Some o → ⊥) → SameItems w (element_type k.kind) vs xs → length vs < 2 ^ 31 → k.kind.dimensions ≤ 255 → ArraysSomewhere p → MadeSomewhere p object_class → TellsClass w object_class properties → HasNoEntries properties → TellsArray w k properties → SameHeap p (with_array (length s) (length u) k w) (s ++ ir.array k.kind vs ∷ []) (u ++ js.plain (array_links p) properties ∷ [])
+  array-births k vs xs properties there alone unowned unborn items short few somewhere made tells bare its = record {
     objects = λ j b e. object j b (j == length s) refl e;
     free = λ j d e. frees j d (j == length s) e;
     made = λ j d e. makes j d (j == length s) e;
@@ -461,8 +461,8 @@ module _ (p : Place) (w : World) (s : List ir.Stored) (u : List js.Stored) (h : 
       two i j b false false f g e l = h.differ i j b e l
 
       array : (j : ℕ) (l : ArrayAt) (t : Bool) → (j == length s) ≡ t → (if t then Some k else w.arrays j) ≡ Some l → SameArray p y l (slice_get (s ++ q ∷ []) j) (slice_get (u ++ o ∷ []) l.items)
-      array j l true f e = subst (λ m. SameArray p y m (slice_get (s ++ q ∷ []) j) (slice_get (u ++ o ∷ []) m.items)) (one-array k l e) (record { values = vs; stored = ap (slice_get (s ++ q ∷ [])) (numbers-same j (length s) f) ∙ get-end s q; items = xs; shown = get-front u (o ∷ []) k.items (js.array xs) there; alike = items-carry w y kept (element_type k.kind) vs xs items; short = short; made = somewhere })
-      array j l false f e = let r = array-front o y kept j l e in record { values = r.values; stored = get-front s (q ∷ []) j (ir.array l.kind r.values) r.stored; items = r.items; shown = r.shown; alike = r.alike; short = r.short; made = r.made }
+      array j l true f e = subst (λ m. SameArray p y m (slice_get (s ++ q ∷ []) j) (slice_get (u ++ o ∷ []) m.items)) (one-array k l e) (record { values = vs; stored = ap (slice_get (s ++ q ∷ [])) (numbers-same j (length s) f) ∙ get-end s q; items = xs; shown = get-front u (o ∷ []) k.items (js.array xs) there; alike = items-carry w y kept (element_type k.kind) vs xs items; short = short; few = few; made = somewhere })
+      array j l false f e = let r = array-front o y kept j l e in record { values = r.values; stored = get-front s (q ∷ []) j (ir.array l.kind r.values) r.stored; items = r.items; shown = r.shown; alike = r.alike; short = r.short; few = r.few; made = r.made }
 
       each : (i j : ℕ) (l m : ArrayAt) (t v : Bool) → (i == length s) ≡ t → (j == length s) ≡ v → (if t then Some k else w.arrays i) ≡ Some l → (if v then Some k else w.arrays j) ≡ Some m → l.items ≡ m.items → i ≡ j
       each i j l m true true f g e r same = numbers-same i (length s) f ∙ sym (numbers-same j (length s) g)
@@ -527,5 +527,5 @@ module _ (p : Place) (w : World) (s : List ir.Stored) (u : List js.Stored) (h : 
       object j b false g there = subst (λ z. ObjectAt p w j z (slice_get (set u k.items o) b)) (sym (get-set_other s j i q (numbers-apart j i g))) (subst (λ z. ObjectAt p w j (slice_get s j) z) (sym (as_it_was j b there)) (h.objects j b there))
 
       array : (j : ℕ) (l : ArrayAt) (t : Bool) → (j == i) ≡ t → w.arrays j ≡ Some l → SameArray p w l (slice_get (set s i q) j) (slice_get (set u k.items o) l.items)
-      array j l true g known = let same : j ≡ i = numbers-same j i g in subst (λ m. SameArray p w m (slice_get (set s i q) j) (slice_get (set u k.items o) m.items)) (one-array k l (sym e ∙ sym (ap w.arrays same) ∙ known)) (record { values = set f.values n v; stored = ap (slice_get (set s i q)) same ∙ get-set s i (ir.array k.kind f.values) q f.stored; items = set f.items n x; shown = get-set u k.items (js.array f.items) o f.shown; alike = items-set w (element_type k.kind) f.values f.items n v x f.alike alike; short = subst (λ m. m < 2 ^ 31) (sym (set-length f.values n v)) f.short; made = f.made })
-      array j l false g known = let r = h.arrays j l known in record { values = r.values; stored = get-set_other s j i q (numbers-apart j i g) ∙ r.stored; items = r.items; shown = get-set_other u l.items k.items o (λ m. numbers-apart j i g (h.items_differ j i l k known e m)) ∙ r.shown; alike = r.alike; short = r.short; made = r.made }
+      array j l true g known = let same : j ≡ i = numbers-same j i g in subst (λ m. SameArray p w m (slice_get (set s i q) j) (slice_get (set u k.items o) m.items)) (one-array k l (sym e ∙ sym (ap w.arrays same) ∙ known)) (record { values = set f.values n v; stored = ap (slice_get (set s i q)) same ∙ get-set s i (ir.array k.kind f.values) q f.stored; items = set f.items n x; shown = get-set u k.items (js.array f.items) o f.shown; alike = items-set w (element_type k.kind) f.values f.items n v x f.alike alike; short = subst (λ m. m < 2 ^ 31) (sym (set-length f.values n v)) f.short; few = f.few; made = f.made })
+      array j l false g known = let r = h.arrays j l known in record { values = r.values; stored = get-set_other s j i q (numbers-apart j i g) ∙ r.stored; items = r.items; shown = get-set_other u l.items k.items o (λ m. numbers-apart j i g (h.items_differ j i l k known e m)) ∙ r.shown; alike = r.alike; short = r.short; few = r.few; made = r.made }

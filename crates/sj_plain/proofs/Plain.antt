@@ -2,10 +2,9 @@
 use Rattle.std.proofs.Common.{◌≡◌, zero, suc, Bool, true, false, List, [], ◌∷◌, None, Option, refl, sym, ap, ◌∙◌, subst, inl, inr, if◌then◌else◌, ⊎_elim}
 use Rattle.std.specs.Prelude.{ℤ, ◌^◌, codes, length, pos, negsuc, FitsSigned, ℕ, ◌&&◌, ◌||◌, ◌⊎◌, not}
 use Rattle.std.proofs.lemmas.Bool.{and_parts}
-use Rattle.body_rules.proofs.Direct.{Direct, ByLookup, OnArray, ByName, Applied, directly, by_lookup, on_array, by_name, applied}
+use Rattle.body_rules.proofs.Direct.{Direct, ByName, Applied, directly, by_lookup, on_array, by_name, applied}
 use Rattle.ir_mean.proofs.HijackedCalls.{hijacked_call, takes_any}
-use Rattle.ir_mean.proofs.LookedUpCalls.{calls_instance, takes_instances}
-use Rattle.body_rules.proofs.BuiltFormsDirect.{array_valued, IsLookedUp}
+use Rattle.body_rules.proofs.BuiltFormsDirect.{array_valued}
 use Rattle.body_rules.proofs.Fitting.{fits-lowest, fits-unary, fits-dividend, operates, not_no_type, unary-operand-value, left-operand-value, right-operand-value}
 use Rattle.body_rules.proofs.Locals.{there}
 use Rattle.body_rules.proofs.RulesGive.{when_not, ArgumentsFit, Takes, its_types, texts, of_division, of_identity, each_made, arguments_there, operation}
@@ -37,7 +36,7 @@ use Rattle.body_rules.specs.Coercions.{is_char, coerced, coerced_arguments, coer
 use Rattle.sj_names.specs.declared.references.TypeRef.{TypeRef}
 use Rattle.body_rules.specs.Desugar.{member, types_of, received_text, expression_of, all_expressions}
 use Rattle.body_rules.specs.Texts.{operand_of}
-use Rattle.body_rules.specs.Templates.{check_name, member_name, looked_up_template, expression_template, expression_templates, binary_template, unary_template, is_nonzero_literal}
+use Rattle.body_rules.specs.Templates.{check_name, member_name, expression_template, expression_templates, binary_template, unary_template, is_nonzero_literal}
 use Rattle.sj_names.proofs.Same.{impossible}
 use Rattle.sj_names.specs.declared.method_names.Member.{Member}
 use Rattle.sj_trees.specs.Term.{Term, Terms, no_terms, more_terms, var_def, skip, block_of, labeled, assign, return_to, if_then, while_loop, do_while, throw, try_catch, try_finally, match_on, new_object, new_array, array_value, array_length, array_select, select, select_static, apply, apply_statically, this_ref, apply_static, unary_op, binary_op, is_instance_of, as_instance_of, log_line, undefined_literal, null_literal, boolean_literal, char_literal, byte_literal, short_literal, int_literal, long_literal, string_literal, var_ref, load_module, store_module}
@@ -49,7 +48,7 @@ use Rattle.sj_trees.specs.declared.operators.UnaryOp.TheVariants.{CharToInt, Byt
 use Rattle.sj_trees.specs.declared.positions.Position.{Position}
 use Rattle.sj_trees.specs.declared.types.IrType.{IrType}
 use Rattle.sj_trees.specs.Types.{class_type, element_type, reference_type}
-use Rattle.sj_trees.specs.declared.types.IrType.TheVariants.{Any, Array, Undefined, Null, Boolean, Char, Byte, Short, Int, Long, String}
+use Rattle.sj_trees.specs.declared.types.IrType.TheVariants.{Any, Undefined, Null, Boolean, Char, Byte, Short, Int, Long, String}
 use Rattle.body_rules.specs.Operators.{is_simple, Operates, of_its_types, joins, divided, compared, a_quotient, a_remainder, a_long_quotient, a_long_remainder, DividesBy, by_int, by_long}
 use Rattle.body_rules.specs.Rules.{AllFit, left_operand, right_operand, unary_operand, Yields, nothing_wanted, fitting}
 use Rattle.sj_plain.specs.Conditions.{InScope, IsNoConstruction, Plain}
@@ -434,21 +433,27 @@ module _ (z : Setting) (lawful : Lawful z) (scope : Scope) where
     -- arrays
     new_array_tree : (p : Position) (r : ArrayRef) (e : Term) → Kept (new_array p r e) → TreeAlike e → TreeAlike (new_array p r e)
     new_array_tree p r e h one = record {
-      alike = λ w env s sc u sees same. new_array_alike z lawful r h.0.finds its.0 its.1 (type_of_term e) (fits-lowest z.place.classes law Int (type_of_term e) refl h.0.meets) (ir_meaning.step z.place.classes z.low e) (expression_of z.code.sure e) w env s sc u sees.inside (with_tree e one w env sc sees [] [] [] no_operands) same;
+      alike = λ w env s sc u sees same. new_array_alike z lawful r h.0.finds whole.0 its.0 its.1 (type_of_term e) (fits-lowest z.place.classes law Int (type_of_term e) refl h.0.meets) (ir_meaning.step z.place.classes z.low e) (expression_of z.code.sure e) w env s sc u sees.inside (with_tree e one w env sc sees [] [] [] no_operands) same;
       told = refl;
     }
       where
+        whole : ((usable z).arrays ≡ true) × (((usable z).helper (codes "$mk") && has_base (usable z) r.base) ≡ true)
+        whole = and_parts (usable z).arrays ((usable z).helper (codes "$mk") && has_base (usable z) r.base) h.0.built
+
         its : ((usable z).helper (codes "$mk") ≡ true) × (has_base (usable z) r.base ≡ true)
-        its = and_parts ((usable z).helper (codes "$mk")) (has_base (usable z) r.base) h.0.built
+        its = and_parts ((usable z).helper (codes "$mk")) (has_base (usable z) r.base) whole.1
 
     array_tree_of : (p : Position) (r : ArrayRef) (ts : Terms) → Kept (array_value p r ts) → Makes (any_item_boxed (element_type r) ts) → RowAlike ts → TreeAlike (array_value p r ts)
     array_tree_of p r ts h may operands = record {
-      alike = λ w env s sc u sees same. array_alike z lawful r h.0.finds its.0 more.0 (types_of ts) fit.0 (below-is (length (types_of ts)) (2 ^ 31) more.1) (ir_meaning.operands z.place.classes z.low ts) (coerced_items (element_type r) (types_of ts) (all_expressions z.code.sure ts)) (coerced_items (element_type r) (types_of ts) (all_expressions z.code.sure ts)) refl w env s sc u sees.inside (items_coerced z lawful.base w env sc sees.inside (element_type r) (types_of ts) (ir_meaning.operands z.place.classes z.low ts) (all_expressions z.code.sure ts) fit.0 fit.1 (operands w env sc sees)) same;
+      alike = λ w env s sc u sees same. array_alike z lawful r h.0.finds whole.0 its.0 more.0 (types_of ts) fit.0 (below-is (length (types_of ts)) (2 ^ 31) more.1) (ir_meaning.operands z.place.classes z.low ts) (coerced_items (element_type r) (types_of ts) (all_expressions z.code.sure ts)) (coerced_items (element_type r) (types_of ts) (all_expressions z.code.sure ts)) refl w env s sc u sees.inside (items_coerced z lawful.base w env sc sees.inside (element_type r) (types_of ts) (ir_meaning.operands z.place.classes z.low ts) (all_expressions z.code.sure ts) fit.0 fit.1 (operands w env sc sees)) same;
       told = refl;
     }
       where
+        whole : ((usable z).arrays ≡ true) × (((usable z).helper (codes "$A") && (has_base (usable z) r.base && are_countable ts)) ≡ true)
+        whole = and_parts (usable z).arrays ((usable z).helper (codes "$A") && (has_base (usable z) r.base && are_countable ts)) h.0.built
+
         its : ((usable z).helper (codes "$A") ≡ true) × ((has_base (usable z) r.base && are_countable ts) ≡ true)
-        its = and_parts ((usable z).helper (codes "$A")) (has_base (usable z) r.base && are_countable ts) h.0.built
+        its = and_parts ((usable z).helper (codes "$A")) (has_base (usable z) r.base && are_countable ts) whole.1
 
         more : (has_base (usable z) r.base ≡ true) × (are_countable ts ≡ true)
         more = and_parts (has_base (usable z) r.base) (are_countable ts) its.1

@@ -1,5 +1,5 @@
 -- What a body is compared in: the two programs, how things are named, and what the levels below give.
-use Rattle.std.specs.Prelude.{◌≡◌, ◌↔◌, ℕ, ◌^◌, ◌<◌, Bool, true, false, ◌&&◌, ◌||◌, not, List, [], ◌∷◌, map, slice_get, length, codes, nat_eq, pos, Option, Some, None, is_some}
+use Rattle.std.specs.Prelude.{◌≡◌, ◌≤◌, ◌↔◌, ℕ, ◌^◌, ◌<◌, Bool, true, false, ◌&&◌, ◌||◌, not, List, [], ◌∷◌, map, slice_get, length, codes, nat_eq, pos, Option, Some, None, is_some}
 use Rattle.std.specs.Cmp.Lexicographic.{pointwise}
 use Rattle.std.specs.List.{Contains}
 use Rattle.js_tree.specs.Terms.{Name}
@@ -264,12 +264,14 @@ pub data SameItems (w : World) (t : IrType) : List ir.Value → List js.Value �
   no_items : SameItems w t [] []
   more_items : (v : ir.Value) (x : js.Value) (vs : List ir.Value) (xs : List js.Value) → SameValue w t v x → SameItems w t vs xs → SameItems w t (v ∷ vs) (x ∷ xs)
 
--- the code of some file can make arrays
+-- the code of some file can make arrays, and that of some file can use their class
 pub record ArraysSomewhere (p : Place) : Type 0 where
+  pub maker : Name
+  pub can : (p.has maker).arrays ≡ true
   pub file : Name
   pub made : (p.has file).helper (helper_name ArrayClass) ≡ true
 
--- an array of the IR, with as many items as an int can tell, and the items that stand for them
+-- an array of the IR, with as many items as an int can tell and no more than 255 dimensions, and the items that stand for them
 pub record SameArray (p : Place) (w : World) (k : ArrayAt) (o : Option ir.Stored) (q : Option js.Stored) : Type 0 where
   pub values : List ir.Value
   pub stored : o ≡ Some (ir.array k.kind values)
@@ -277,11 +279,13 @@ pub record SameArray (p : Place) (w : World) (k : ArrayAt) (o : Option ir.Stored
   pub shown : q ≡ Some (js.array items)
   pub alike : SameItems w (element_type k.kind) values items
   pub short : length values < 2 ^ 31
+  pub few : k.kind.dimensions ≤ 255
   pub made : ArraysSomewhere p
 
--- constants with the marker of a class under `s` have the markers of the classes that stand above it, and of no other
-abbrev pub MarksAncestors : ir_world.World → (Name → Option js.Value) → Type 0
-MarksAncestors classes constants = (c b : List ℕ) → constants (codes "s") ≡ Some (js.text (class_binding Marker c)) → (is_some (constants (class_binding Marker b)) ≡ true) ↔ IsAncestor classes c b
+-- constants with the marker of a class under `s` are those of a class that there is, and have the markers of the classes that stand above it, and of no other
+pub record MarksAncestors (classes : ir_world.World) (constants : Name → Option js.Value) : Type 0 where
+  pub known : (c : List ℕ) → constants (codes "s") ≡ Some (js.text (class_binding Marker c)) → IsAncestor classes c c
+  pub above : (c b : List ℕ) → constants (codes "s") ≡ Some (js.text (class_binding Marker c)) → (is_some (constants (class_binding Marker b)) ≡ true) ↔ IsAncestor classes c b
 
 -- the class that the world tells of an address of the IR, and what stands there on both sides
 pub record ObjectAt (p : Place) (w : World) (i : ℕ) (o : Option ir.Stored) (q : Option js.Stored) : Type 0 where
@@ -315,14 +319,14 @@ pub record SameHeap (p : Place) (w : World) (s : List ir.Stored) (u : List js.St
   pub separate : (a : ℕ) (o b : js.Stored) → w.owned a ≡ Some o → w.pending a ≡ Some b → ⊥
   pub boxes : w.boxes ≡ box_link p ∷ []
 
--- the constants of a class, which the emitted code has for itself at an address, and which tell its marker
+-- the constants of a class, which the emitted code has for itself at an address, and which tell its marker; by those of any but java.lang.Character an object is shown as one of the class
 pub record HoldsConstants (owned : ℕ → Option js.Stored) (c : List ℕ) (cell : js.Cell) : Type 0 where
   pub address : ℕ
   pub constants : Name → Option js.Value
   pub held : cell ≡ js.holds true (js.object address)
   pub owned_there : owned address ≡ Some (js.plain [] constants)
   pub marked : constants (codes "s") ≡ Some (js.text (class_binding Marker c))
-  pub known : (v : Option js.Value) → object_shown (class_marked (class_binding Marker c)) v ≡ Some (shown_ends.object_of c)
+  pub known : is_same_text c (codes "java.lang.Character") ≡ false → (v : Option js.Value) → object_shown (class_marked (class_binding Marker c)) v ≡ Some (shown_ends.object_of c)
 
 -- the constants of the class of a kind of primitive values; by those of java.lang.Character an object is shown as the char that it holds, and as an object of no class
 pub record HoldsKindConstants (owned : ℕ → Option js.Stored) (k : Kind) (cell : js.Cell) : Type 0 where
@@ -626,8 +630,8 @@ pub record Lawful (z : Setting) : Type 0 where
   pub casts : (t : IrType) → is_array_type t ≡ false → (usable z).casts t ≡ true → HasFunction t × CastsAlike z t
   pub array_tests : (r : ArrayRef) → (usable z).tests (Array r) ≡ true → TestsArraysAlike z r
   pub array_casts : (r : ArrayRef) → (usable z).casts (Array r) ≡ true → CastsArraysAlike z r
-  pub makes_arrays : (usable z).helper (helper_name helpers.MakeArray) ≡ true → MakesArraysAlike z
-  pub gives_arrays : (usable z).helper (helper_name ArrayClass) ≡ true → GivesArraysAlike z
+  pub makes_arrays : (usable z).arrays ≡ true → (usable z).helper (helper_name helpers.MakeArray) ≡ true → MakesArraysAlike z
+  pub gives_arrays : (usable z).arrays ≡ true → (usable z).helper (helper_name ArrayClass) ≡ true → GivesArraysAlike z
   pub gets : (usable z).helper (helper_name helpers.Get) ≡ true → GetsAlike z
   pub puts : PutsAlike z
   pub array_calls : (m : MethodName) → (usable z).on_arrays m ≡ true → ArraysFind z m
