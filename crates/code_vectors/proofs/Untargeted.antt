@@ -1,5 +1,5 @@
 -- In a world without classes no call has a target.
-use Rattle.std.proofs.Common.{◌≡◌, ◌∙◌, List, [], ◌∷◌, Option, Some, None, Result, Ok, Err, IfOk, length, refl, sym, ap, subst}
+use Rattle.std.proofs.Common.{◌≡◌, ◌∙◌, List, [], ◌∷◌, None, Result, Ok, Err, IfOk, length, refl, sym, ap, subst}
 use Rattle.std.proofs.lemmas.List.{nil_from_length}
 use Rattle.std.proofs.lemmas.List.Sorted.{length_permutation}
 use Rattle.std.specs.List.Sorted.{IsPermutation}
@@ -7,7 +7,7 @@ use Rattle.dispatch_laws.proofs.Emission.{emission_finds_targets}
 use Rattle.dispatch_laws.specs.Targets.{at_owner, target_from, target_in, lookup_in}
 use Rattle.emit_questions.specs.Laws.{AsEmitted}
 use Rattle.emit_questions.specs.Task.{emitted, emitted_view}
-use Rattle.ir_mean.specs.Dispatch.{Found, nearest, or_default, chain_of, resolved}
+use Rattle.ir_mean.specs.Dispatch.{nearest, or_default, chain_of, resolved}
 use Rattle.js_tree.specs.declared.items.JsMember.{JsMember}
 use Rattle.sj_ask.specs.Answers.{IsAnswer}
 use Rattle.sj_ask.specs.Stands.{Stand}

@@ -10,7 +10,7 @@ ghost use Rattle.sj_desugarer.specs.Methods.{method_desugared};
 ghost use Rattle.sj_emit_expr.specs.Members as members;
 ghost use Rattle.sj_pieces.specs.Owners.{BodyOnObjects};
 
-use crate::forms::is_built;
+use crate::forms::is_without_objects;
 use crate::texts::{add, add_digits, class_of};
 use js_print::print_piece;
 use js_tree::{JsMember, JsPiece};
@@ -25,8 +25,8 @@ use sj_trees::{ClassDef, MethodDef};
 use sj_world::LinkedWorld;
 use std::alloc::Global;
 
-/// Adds for each method of the class of a file `piece`, the name of its function, and the bytes of the printed function in hexadecimal digits, in which a call
-/// on a receiver runs the member that it names. In place of the bytes it has `not built` where the method has no body or a form of its body isn't built.
+/// Adds for each method of the class of a file `piece`, the name of its function, and the bytes of the printed function in hexadecimal digits. In place of
+/// the bytes it has `of objects` where the method has no body, or one that has to do with objects: a world tells what such a one calls.
 pub(crate) fn add_answer(alloc: Global, file: &str, text: &mut String) -> Result<(), NameError> {
     match class_of(alloc, file) {
         Some(class) => add_methods(alloc, &class, text),
@@ -72,11 +72,11 @@ fn add_piece(
     method: &MethodDef,
     text: &mut String,
 ) -> Result<(), NameError> {
-    if is_built(method) {
+    if is_without_objects(method) {
         let piece = emitted(alloc, member, method)?;
         add_printed(alloc, &piece, text)
     } else {
-        add(&["not built\n"], text)
+        add(&["of objects\n"], text)
     }
 }
 

@@ -49,7 +49,7 @@ impl Block {
         } = self;
         match made_lines(alloc, classes, &entries)? {
             Some(made) => compared(alloc, number, &recorded, &made),
-            None => Ok(format!(in alloc; "{number}: not built\n")?),
+            None => Ok(format!(in alloc; "{number}: not compared\n")?),
         }
     }
 }

@@ -8,7 +8,6 @@ ghost use Rattle.sj_pieces.specs.Ranges.{AreBytes};
 ghost use Rattle.world_vectors.specs.Emitted.{IsEmitted};
 
 use crate::objects::is_on_objects;
-use built_forms::not_built;
 use class_printing::name_fits;
 use js_tree::{JsMember, JsPiece};
 use sj_ask::WorldOracle;
@@ -21,7 +20,7 @@ use sj_trees::{ClassDef, MethodDef};
 use sj_world::{Fact, LinkedWorld, World, method_in};
 use std::alloc::Global;
 
-/// The functions of the bodies that are needed, in the order of the facts; `None` where one isn't built.
+/// The functions of the bodies that are needed, in the order of the facts; `None` where a field isn't by its form one of an object.
 pub(crate) fn functions_of(
     alloc: Global,
     linked: &LinkedWorld,
@@ -48,7 +47,7 @@ fn function_of(
     ensures { IfOk result (λ found. IfSome found (λ function. IsPiece (piece_view function))) }
 {
     match definition_of(linked.world(), member) {
-        Some(definition) if is_built(definition) => Ok(Some(emitted(
+        Some(definition) if has_fields_of_objects(definition) => Ok(Some(emitted(
             alloc, linked, member, definition,
         )?)),
         _ => Ok(None),
@@ -62,12 +61,12 @@ fn definition_of<'w>(world: &'w World, member: &Member) -> Option<&'w MethodDef>
     }
 }
 
-// Whether the linker builds the method. Each field in its body is then one of an object, since its class is accepted.
-fn is_built(method: &MethodDef) -> bool
+// Whether the method has a body, in which each field is by its form one of an object.
+fn has_fields_of_objects(method: &MethodDef) -> bool
     ensures { result ≡ true → BodyOnObjects method.now.body }
 {
     match &method.body {
-        Some(body) => !not_built(method) && is_on_objects(body.tree()),
+        Some(body) => is_on_objects(body.tree()),
         None => false,
     }
 }

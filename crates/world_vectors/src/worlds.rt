@@ -15,7 +15,8 @@ use sj_world::{LinkedWorld, World};
 use std::alloc::Global;
 use world_pieces::world_pieces;
 
-/// The lines of the pieces of the world that is linked for these entries, in the order of a module; `None` where a needed body isn't built.
+/// The lines of the pieces of the world that is linked for these entries, in the order of a module; `None` where a field of
+/// a needed body isn't by its form one of an object.
 pub(crate) fn made_lines(
     alloc: Global,
     classes: Vec<ClassDef>,
