@@ -23,7 +23,7 @@ use Rattle.sj_judged.specs.Linked.{has_function, have_functions, functions_of}
 use Rattle.sj_trees.specs.Term.{Term, Terms, no_terms, more_terms, Cases, no_cases, more_cases, var_def, skip, block_of, labeled, assign, return_to, if_then, while_loop, do_while, try_finally, match_on, apply_statically, apply_static, unary_op, binary_op, as_instance_of, undefined_literal, null_literal, boolean_literal, char_literal, byte_literal, short_literal, int_literal, long_literal, string_literal, var_ref, log_line, apply}
 use Rattle.sj_trees.specs.TypeOf.{type_of_term}
 use Rattle.sj_trees.specs.declared.types.IrType.{IrType}
-use Rattle.sj_trees.specs.declared.types.IrType.TheVariants.{Any}
+use Rattle.sj_trees.specs.declared.types.IrType.TheVariants.{Any, NoType}
 use Rattle.sj_judged.specs.Built.{can_call, is_operation, is_based, can_cast, is_built, are_built, are_built_cases, anything, body_boxes, is_built_body}
 use Rattle.sj_judged.proofs.RulesGive.{operation_kept}
 use Rattle.sj_judged.specs.Typing.{may_check, is_built_with}
@@ -69,7 +69,8 @@ module _ (has : Usable) (checked : Term → Bool) where
   no_call : {A : Type 0} (p : Position) (e : Term) (c : List ℕ) (n : Namespace) (m : MethodName) (ts : Terms) (t : IrType) → is_built anything (λ e. false) (apply_statically p e c n m ts t) ≡ true → A
   no_call p e c Public m ts t k = impossible k
   no_call p e c Private m ts t k = impossible k
-  no_call p e c Constructor m ts t k = impossible k
+  no_call p e c Constructor m ts NoType k = impossible k
+  no_call p e c Constructor m ts _ k = impossible k
   no_call p e c n m ts t k = impossible k
 
   no_callee : {A : Type 0} (k : Callee) (a b : Bool) → ((can_call anything k && false) && (b && a)) ≡ true → A

@@ -1,7 +1,10 @@
 -- What an accepted folder has, and its classes as they are judged.
-use Rattle.std.proofs.Common.{◌≡◌, ℕ, List, Some, refl, sym, ap, ◌∙◌, Contains, slice_get}
+use Rattle.std.proofs.Common.{◌≡◌, ℕ, ◌≤◌, Bool, true, false, List, Some, length, refl, sym, ap, ◌∙◌, inl, Contains, slice_get}
 use Rattle.std.proofs.lemmas.List.Sorted.{Contains-permutation, IsPermutation-sym}
-use Rattle.std.proofs.lemmas.Option.{slice_get-get_or}
+use Rattle.std.proofs.Math.Dec.{ltb}
+use Rattle.std.proofs.lemmas.Bool.{ltb-true, ltb-false}
+use Rattle.std.proofs.lemmas.Option.{slice_get-get_or, slice_get-map}
+use Rattle.std.specs.Prelude.{option_map}
 use Rattle.sj_judged.specs.Listed.{AreBytes}
 use Rattle.sj_names.specs.declared.entry_points.EntryPoint.{EntryPoint}
 use Rattle.sj_names.specs.declared.folders.SourceFile.{SourceFile}
@@ -14,7 +17,10 @@ use Rattle.folder_verdicts.specs.Reachable.{Unresolved}
 use Rattle.folder_verdicts.specs.Refusals.{Refusal}
 use Rattle.folder_verdicts.specs.Stages.{AreTyped}
 use Rattle.folder_verdicts.specs.Verdicts as verdicts
-use Rattle.folder_verdicts.specs.Verdicts.{Verdict, accepted, refused, ByTypes, ByReferences, ByCycles, ByLocalRules, ByNames, ByFiles, IsVerdict}
+use Rattle.folder_verdicts.specs.Verdicts.{Verdict, accepted, refused, ByTypes, ByReferences, ByCycles, IsVerdict}
+use Rattle.folder_sizes.specs.Files.{size_of}
+use Rattle.folder_sizes.specs.Sizes.{largest_file}
+use Rattle.sj_format.specs.Files.{FileIs}
 use Rattle.folder_verdicts.proofs.Firsts.{standing}
 use Rattle.accepted_folders.specs.Accepted.{IsAccepted}
 use Rattle.accepted_folders.specs.Laws.{AcceptedFoldersHaveAWorld}
@@ -61,3 +67,20 @@ judged entries files w bytes a c h =
     let at : slice_get a.classes among.0 ≡ Some c = slice_get-get_or a.classes among.0 c among.1 ∙ ap Some among.2 in
     let s = standing files a.classes among.0 c (sym a.read.whole) at in
     record { bytes = s.item.bytes; are_bytes = bytes s.item (contains_at files among.0 s.item s.at); read = a.read.each among.0 s.item c s.at at; unbroken = a.kept c among }
+
+-- and its file has at most 16 MiB
+pub record IsSmall (c : ClassDef) : Type 0 where
+  pub bytes : List ℕ
+  pub read : FileIs bytes c
+  pub small : length bytes ≤ largest_file
+
+pub read_small : (entries : List EntryPoint) (files : List SourceFile) (w : Classes) → IsAccepted entries files w → (c : ClassDef) → Contains w c → IsSmall c
+read_small entries files w a c h =
+    let among : Contains a.classes c = Contains-permutation w a.classes c (IsPermutation-sym a.classes w a.world.sorted.same) h in
+    let at : slice_get a.classes among.0 ≡ Some c = slice_get-get_or a.classes among.0 c among.1 ∙ ap Some among.2 in
+    let s = standing files a.classes among.0 c (sym a.read.whole) at in
+    record { bytes = s.item.bytes; read = a.read.each among.0 s.item c s.at at; small = small among.0 s.item s.at (ltb largest_file (size_of s.item)) refl }
+  where
+    small : (place : ℕ) (file : SourceFile) → slice_get files place ≡ Some file → (b : Bool) → ltb largest_file (size_of file) ≡ b → size_of file ≤ largest_file
+    small place file at false within = ltb-false largest_file (size_of file) within
+    small place file at true over = absurd (a.small place (record { size = size_of file; at = slice_get-map size_of files place ∙ ap (option_map size_of) at; over = inl (ltb-true largest_file (size_of file) over) }))

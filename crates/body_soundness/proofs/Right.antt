@@ -537,9 +537,6 @@ module _ (w : World) (law : IsSubtyping (IsSub w)) (has : Usable) where
   received_parts : (e : Term) (c : List ℕ) (n : Namespace) (m : MethodName) (s : Scene) → (has.received (called_member has.lookup n (member c n m)) && may_check has s.sure e) ≡ true → (has.received (called_member has.lookup n (member c n m)) ≡ true) × (may_check has s.sure e ≡ true)
   received_parts e c n m s h = and_parts (has.received (called_member has.lookup n (member c n m))) (may_check has s.sure e) h
 
-  constructor_there : (c : List ℕ) (m : MethodName) (t : IrType) → (has.built (member c Constructor m) && is_no_type t) ≡ true → has.built (member c Constructor m) ≡ true
-  constructor_there c m t h = (and_parts (has.built (member c Constructor m)) (is_no_type t) h).0
-
   check_there : (e : Term) (s : Scene) → may_check has s.sure e ≡ true → is_sure s.sure e ≡ false → has.helper check_name ≡ true
   check_there e s h k = go (is_sure s.sure e) h k
     where
@@ -743,6 +740,14 @@ module _ (w : World) (law : IsSubtyping (IsSub w)) (has : Usable) where
   only_right P Q e = comes_weaken (λ a. P a × Only Q a) P e (λ a p. p.0)
 
   module _ (laws : ObjectLaws w has) (members : (m : Member) → has.linked m ≡ true → RightMember w has m) (low : ir_meaning.Low) (right : LowRight low) where
+    -- the constructor that is called is right, whether it has a value or not
+    constructor_right : (c : List ℕ) (m : MethodName) (t : IrType) (checked : Bool) → (if is_no_type t then has.built (member c Constructor m) else (has.received (member c Constructor m) && checked)) ≡ true → RightMember w has (member c Constructor m)
+    constructor_right c m t checked h = by (is_no_type t) h
+      where
+        by : (o : Bool) → (if o then has.built (member c Constructor m) else (has.received (member c Constructor m) && checked)) ≡ true → RightMember w has (member c Constructor m)
+        by true q = laws.built (member c Constructor m) q
+        by false q = laws.received (member c Constructor m) (and_parts (has.received (member c Constructor m)) checked q).0
+
     abbrev step : Term → ir.Run
     step = ir_meaning.step w low
 
@@ -1365,7 +1370,7 @@ module _ (w : World) (law : IsSubtyping (IsSub w)) (has : Usable) where
       tree_right (apply_statically p e c Namespace.Private m ts t) = λ s v h fresh u at env st i. let its = received_parts e c Namespace.Private m s h.0.built in let parts = sures-parts s (definitions e) (definitions_in ts) u in go_on_both at s s.locals (type_of_term e) s.locals t Full (ir_meaning.receiving w (is_sure env.sure e) low (step e) env st) (λ a. ir_meaning.in_order (ir_meaning.operands w low ts) (λ vs. ir_meaning.call_on w low (ir_meaning.static_target w c Namespace.Private m) (a ∷ vs))) (receiver_right e s h.1 (check_there e s its.1) at env st i (tree_right e s v h.1 (λ x o. fresh x (inl o)) parts.0 at env st i)) (λ y b a env st g n i. arguments_right ts m.params s t v h.0.meets.3 h.0.finds h.2 (λ x o. fresh x (inr o)) parts.1 y (λ vs. ir_meaning.call_on w low (ir_meaning.static_target w c Namespace.Private m) (a ∷ vs)) env st i (λ z d vs env st k i. received_right c Namespace.Private m (member c Namespace.Private m) (laws.received (member c Namespace.Private m) its.0) (own_target w (member c Namespace.Private m)) s t (type_of_term e) h.0.meets.1 h.0.meets.2 y a g n z d vs env st k i))
       tree_right (apply p e m ts t) = λ s v h fresh u at env st i. let parts = sures-parts s (definitions e) (definitions_in ts) u in applied_right p e m ts t s h at env st i (tree_right e s v h.1 (λ x o. fresh x (inl o)) parts.0 at env st i) (λ y act env st i on. arguments_right ts m.params s t v h.0.meets.2 h.0.finds h.2 (λ x o. fresh x (inr o)) parts.1 y act env st i on)
       tree_right (apply_statically p e c Namespace.Public m ts t) = λ s v h fresh u at env st i. let its = received_parts e c Namespace.Public m s h.0.built in let parts = sures-parts s (definitions e) (definitions_in ts) u in go_on_both at s s.locals (type_of_term e) s.locals t Full (ir_meaning.receiving w (is_sure env.sure e) low (step e) env st) (λ a. ir_meaning.in_order (ir_meaning.operands w low ts) (λ vs. ir_meaning.call_on w low (ir_meaning.static_target w c Namespace.Public m) (a ∷ vs))) (receiver_right e s h.1 (check_there e s its.1) at env st i (tree_right e s v h.1 (λ x o. fresh x (inl o)) parts.0 at env st i)) (λ y b a env st g n i. arguments_right ts m.params s t v h.0.meets.3 h.0.finds h.2 (λ x o. fresh x (inr o)) parts.1 y (λ vs. ir_meaning.call_on w low (ir_meaning.static_target w c Namespace.Public m) (a ∷ vs)) env st i (λ z d vs env st k i. received_right c Namespace.Public m (has.lookup.target (member c Namespace.Public m)) (laws.received (has.lookup.target (member c Namespace.Public m)) its.0) (laws.targets (member c Namespace.Public m) its.0) s t (type_of_term e) h.0.meets.1 h.0.meets.2 y a g n z d vs env st k i))
-      tree_right (apply_statically p e c Constructor m ts t) = λ s v h fresh u at env st i. let parts = sures-parts s (definitions e) (definitions_in ts) u in go_on_both at s s.locals (type_of_term e) s.locals t Full (ir_meaning.receiving w (is_sure env.sure e) low (step e) env st) (λ a. ir_meaning.in_order (ir_meaning.operands w low ts) (λ vs. ir_meaning.call_on w low (member_of w c Constructor m) (a ∷ vs))) (own_right e s h.0.meets.0 h.1 at env st i) (λ y b a env st g n i. arguments_right ts m.params s t v h.0.meets.3 h.0.finds h.2 (λ x o. fresh x (inr o)) parts.1 y (λ vs. ir_meaning.call_on w low (member_of w c Constructor m) (a ∷ vs)) env st i (λ z d vs env st k i. received_right c Constructor m (member c Constructor m) (laws.built (member c Constructor m) (constructor_there c m t h.0.built)) (own_target w (member c Constructor m)) s t (type_of_term e) h.0.meets.1 h.0.meets.2 y a g n z d vs env st k i))
+      tree_right (apply_statically p e c Constructor m ts t) = λ s v h fresh u at env st i. let parts = sures-parts s (definitions e) (definitions_in ts) u in go_on_both at s s.locals (type_of_term e) s.locals t Full (ir_meaning.receiving w (is_sure env.sure e) low (step e) env st) (λ a. ir_meaning.in_order (ir_meaning.operands w low ts) (λ vs. ir_meaning.call_on w low (member_of w c Constructor m) (a ∷ vs))) (own_right e s h.0.meets.0 h.1 at env st i) (λ y b a env st g n i. arguments_right ts m.params s t v h.0.meets.3 h.0.finds h.2 (λ x o. fresh x (inr o)) parts.1 y (λ vs. ir_meaning.call_on w low (member_of w c Constructor m) (a ∷ vs)) env st i (λ z d vs env st k i. received_right c Constructor m (member c Constructor m) (constructor_right c m t (may_check has s.sure e) h.0.built) (own_target w (member c Constructor m)) s t (type_of_term e) h.0.meets.1 h.0.meets.2 y a g n z d vs env st k i))
       tree_right (apply_statically p e c n m ts t) = λ s v h fresh u at env st i. impossible h.0.built
       tree_right (select_static p c f t) = λ s v h fresh u at env st i. there_right at s t (st.statics c f) env st (i.heap.statics c f t (read_static has c f t h.built)) i
       tree_right (load_module p c) = λ s v h fresh u at env st i. only_right (CameRight at s s.locals (class_type c)) Full (step (load_module p c) env st).end (module_right p c s h at env st i)

@@ -76,8 +76,8 @@ module _ (has : Usable) (used : List Binding) where
   abbrev U : Binding → Type 0
   U = Contains used
 
-  call_given : (p : Position) (e : Term) (c : List ℕ) (n : Namespace) (m : MethodName) (ts : Terms) (t : IrType) → Given has used (apply_statically p e c n m ts t) → GivesReceived U has.lookup any_object has n c m
-  call_given p e c Constructor m ts t g = λ h u. g h u
+  call_given : (p : Position) (e : Term) (c : List ℕ) (n : Namespace) (m : MethodName) (ts : Terms) (t : IrType) → Given has used (apply_statically p e c n m ts t) → GivesReceived U has.lookup any_object has n c m t
+  call_given p e c Constructor m ts t g = (λ h u. g.0 h u, λ value h u. g.1 value u)
   call_given p e c Private m ts t g = λ h u. g u
   call_given p e c Public m ts t g = λ h u. g u
   call_given p e c n m ts t g = tt

@@ -1,6 +1,8 @@
 pub mod Boxes
+pub mod Forms
 pub mod Given
 pub mod Hijacked
+pub mod Sizes
 pub mod Standing
 pub mod Statics
 pub mod Tested

@@ -31,11 +31,11 @@ module _ (U : Binding → Type 0) (runs : Lookup) (linked_from linked_here : Mem
   abbrev has : Usable
   has = members_alone linked_here
 
-  no_receiver : (c : List ℕ) (n : Namespace) (m : MethodName) → GivesReceived U runs from has n c m
-  no_receiver c Constructor m = λ h u. impossible h
-  no_receiver c Public m = λ h u. impossible h
-  no_receiver c Private m = λ h u. impossible h
-  no_receiver c n m = tt
+  no_receiver : (c : List ℕ) (n : Namespace) (m : MethodName) (t : IrType) → GivesReceived U runs from has n c m t
+  no_receiver c Constructor m t = (λ h u. impossible h, λ value h u. impossible h)
+  no_receiver c Public m t = λ h u. impossible h
+  no_receiver c Private m t = λ h u. impossible h
+  no_receiver c n m t = tt
 
   base_kept : (b : BaseRef) → has_base from b ≡ true → has_base has b ≡ true
   base_kept (BaseRef.Class c) h = impossible h
@@ -48,7 +48,7 @@ module _ (U : Binding → Type 0) (runs : Lookup) (linked_from linked_here : Mem
   gives : (t : Term) → Gives U runs from has t
   gives (apply_static p c n m ts t) = known (member c n m)
   gives (apply p e m ts t) = (λ c same h u. impossible h, (λ c same h u. impossible h, (λ same h. impossible h, λ n h u. impossible h)))
-  gives (apply_statically p e c n m ts t) = no_receiver c n m
+  gives (apply_statically p e c n m ts t) = no_receiver c n m t
   gives (new_object p c m ts) = λ h k f u. impossible h
   gives (select p e c f t) = λ h. impossible h
   gives (select_static p c f t) = (λ h u. impossible h, λ h u. impossible h)

@@ -302,12 +302,12 @@ module _ (U : Binding → Type 0) (runs : Lookup) where
 
   -- where what code that can use the one uses is there for the other
   module _ (from has : Usable) where
-    -- a member that runs on an object is there where its function is used
-    abbrev pub GivesReceived : Namespace → List ℕ → MethodName → Type 0
-    GivesReceived Constructor c m = from.built (member c Constructor m) ≡ true → U (function_binding (member c Constructor m)) → has.built (member c Constructor m) ≡ true
-    GivesReceived Public c m = from.received (from.lookup.target (member c Public m)) ≡ true → U (function_binding (runs.target (member c Public m))) → has.received (has.lookup.target (member c Public m)) ≡ true
-    GivesReceived Private c m = from.received (member c Private m) ≡ true → U (function_binding (member c Private m)) → has.received (member c Private m) ≡ true
-    GivesReceived _ c m = Unit {0}
+    -- a member that runs on an object is there where its function is used, for what it gives where the call of a constructor has this type
+    abbrev pub GivesReceived : Namespace → List ℕ → MethodName → IrType → Type 0
+    GivesReceived Constructor c m t = (from.built (member c Constructor m) ≡ true → U (function_binding (member c Constructor m)) → has.built (member c Constructor m) ≡ true) × (is_no_type t ≡ false → from.received (member c Constructor m) ≡ true → U (function_binding (member c Constructor m)) → has.received (member c Constructor m) ≡ true)
+    GivesReceived Public c m t = from.received (from.lookup.target (member c Public m)) ≡ true → U (function_binding (runs.target (member c Public m))) → has.received (has.lookup.target (member c Public m)) ≡ true
+    GivesReceived Private c m t = from.received (member c Private m) ≡ true → U (function_binding (member c Private m)) → has.received (member c Private m) ≡ true
+    GivesReceived _ c m t = Unit {0}
 
     -- what a tree uses that its code names is there
     -- arrays can be made where the helper that makes them is used, and their base can be named
@@ -316,8 +316,8 @@ module _ (U : Binding → Type 0) (runs : Lookup) where
 
     abbrev pub Gives : Term → Type 0
     Gives (apply_static p c n m ts t) = from.linked (member c n m) ≡ true → U (function_binding (member c n m)) → has.linked (member c n m) ≡ true
-    Gives (apply p e m ts t) = ((c : List ℕ) → callee_of (type_of_term e) m ≡ callees.Member (member c Public m) → GivesReceived Public c m) × (((c : List ℕ) → callee_of (type_of_term e) m ≡ callees.LookedUp c m → can_look_up from c m ≡ true → All U (call_uses runs (callees.LookedUp c m)) → can_look_up has c m ≡ true) × ((callee_of (type_of_term e) m ≡ callees.OfArray m → from.on_arrays m ≡ true → has.on_arrays m ≡ true) × (m.result ≡ None → from.reflected m ≡ true → All U (call_uses runs (callees.Reflective m)) → has.reflected m ≡ true)))
-    Gives (apply_statically p e c n m ts t) = GivesReceived n c m
+    Gives (apply p e m ts t) = ((c : List ℕ) → callee_of (type_of_term e) m ≡ callees.Member (member c Public m) → GivesReceived Public c m t) × (((c : List ℕ) → callee_of (type_of_term e) m ≡ callees.LookedUp c m → can_look_up from c m ≡ true → All U (call_uses runs (callees.LookedUp c m)) → can_look_up has c m ≡ true) × ((callee_of (type_of_term e) m ≡ callees.OfArray m → from.on_arrays m ≡ true → has.on_arrays m ≡ true) × (m.result ≡ None → from.reflected m ≡ true → All U (call_uses runs (callees.Reflective m)) → has.reflected m ≡ true)))
+    Gives (apply_statically p e c n m ts t) = GivesReceived n c m t
     Gives (new_object p c m ts) = from.made c ≡ true → from.built (member c Constructor m) ≡ true → U (function_binding (member c Constructor m)) → U (class_use c) → (has.built (member c Constructor m) ≡ true) × (has.made c ≡ true)
     Gives (select p e c f t) = from.field c f t ≡ true → has.field c f t ≡ true
     Gives (select_static p c f t) = (from.static_field c f t ≡ true → U (static_use c f) → has.static_field c f t ≡ true) × (from.static_setter c f t ≡ true → U (setter_use c f) → has.static_setter c f t ≡ true)
@@ -488,10 +488,17 @@ module _ (U : Binding → Type 0) (runs : Lookup) where
     method_there : (was is : Bool) (k : Member) (e : Term) → (was ≡ true → U (function_binding k) → is ≡ true) → IsChecked e → U (function_binding k) → (was && checked e) ≡ true → (is && checks e) ≡ true
     method_there was is k e g u f h = let q = and_parts was (checked e) h in and_from is (checks e) (g q.0 f) (check_there e q.1 u)
 
-    call_there : (p : Position) (e : Term) (c : List ℕ) (n : Namespace) (m : MethodName) (ts : Terms) (t : IrType) → GivesReceived from has n c m → IsChecked e → U (function_binding (called_member runs n (member c n m))) → stands from checked (apply_statically p e c n m ts t) ≡ true → stands has checks (apply_statically p e c n m ts t) ≡ true
+    call_there : (p : Position) (e : Term) (c : List ℕ) (n : Namespace) (m : MethodName) (ts : Terms) (t : IrType) → GivesReceived from has n c m t → IsChecked e → U (function_binding (called_member runs n (member c n m))) → stands from checked (apply_statically p e c n m ts t) ≡ true → stands has checks (apply_statically p e c n m ts t) ≡ true
     call_there p e c Public m ts t g u f h = method_there (from.received (from.lookup.target (member c Public m))) (has.received (has.lookup.target (member c Public m))) (runs.target (member c Public m)) e g u f h
     call_there p e c Private m ts t g u f h = method_there (from.received (member c Private m)) (has.received (member c Private m)) (member c Private m) e g u f h
-    call_there p e c Constructor m ts t g u f h = let q = and_parts (from.built (member c Constructor m)) (is_no_type t) h in and_from (has.built (member c Constructor m)) (is_no_type t) (g q.0 f) q.1
+    call_there p e c Constructor m ts t g u f h = by (is_no_type t) refl h
+      where
+        k : Member
+        k = member c Constructor m
+
+        by : (b : Bool) → is_no_type t ≡ b → (if b then from.built k else (from.received k && checked e)) ≡ true → (if is_no_type t then has.built k else (has.received k && checks e)) ≡ true
+        by true none q = subst (λ (o : Bool). (if o then has.built k else (has.received k && checks e)) ≡ true) (sym none) (g.0 q f)
+        by false value q = subst (λ (o : Bool). (if o then has.built k else (has.received k && checks e)) ≡ true) (sym value) (method_there (from.received k) (has.received k) k e (g.1 value) u f q)
     call_there p e c n m ts t g u f h = impossible h
 
     applied_there : (p : Position) (e : Term) (m : MethodName) (ts : Terms) (t : IrType) → Gives from has (apply p e m ts t) → IsChecked e → All U (call_uses runs (callee_of (type_of_term e) m)) → stands from checked (apply p e m ts t) ≡ true → stands has checks (apply p e m ts t) ≡ true

@@ -33,6 +33,7 @@ use Rattle.object_folders.proofs.Derivations.{closed}
 use Rattle.object_folders.specs.Reachable.{Reachable}
 use Rattle.object_folders.specs.Rules.{Reads, of_call, of_new, asked_body, new_made, field_needed, resolved_class, resolved_body, call, call_class, call_hijacked, array_made}
 use Rattle.sj_desugar.specs.Desugar.{member}
+use Rattle.sj_desugar.specs.Plain.{is_no_type}
 use Rattle.sj_emit_expr.specs.Tests.{test_name, cast_name}
 use Rattle.sj_emit_expr.specs.Uses.{object_binding, function_binding, class_use, static_use, setter_use, load_use, store_use, test_uses, cast_uses, base_uses, type_uses, looked_up_uses, is_same_binding}
 use Rattle.sj_infos.specs.Infos.{asks, asked_by_body, asked_in, of_receiver, of_base, of_array as asked_array, negative_size}
@@ -54,6 +55,7 @@ use Rattle.sj_names.specs.declared.method_names.MethodName.{MethodName}
 use Rattle.sj_names.specs.declared.references.ArrayRef.{ArrayRef}
 use Rattle.sj_names.specs.declared.references.BaseRef.{BaseRef}
 use Rattle.sj_names.specs.declared.references.TypeRef.{TypeRef}
+use Rattle.sj_names.specs.declared.references.TypeRef.TheVariants.{Void}
 use Rattle.sj_names.specs.declared.method_names.Namespace.{Namespace}
 use Rattle.sj_names.specs.declared.method_names.Namespace.TheVariants.{Public, PublicStatic, Private, PrivateStatic, Constructor}
 use Rattle.object_folders.specs.Emitted.{EmittedMethod}
@@ -72,7 +74,7 @@ use Rattle.sj_world.proofs.Searches.{contains_at}
 use Rattle.sj_world.specs.Subtypes.{equal, from_nothing, to_any, null_to_class, null_to_array, class_to_class, primitive_to_class, arrays_alike, arrays_of_arrays}
 use Rattle.sj_world.specs.declared.facts.Fact.{Fact}
 use Rattle.sj_world.specs.declared.facts.Fact.TheVariants.{Body, Made, Needed, NeededField, Called as CalledOn}
-use Rattle.object_folders.specs.TypingRulesRules.{Fits, HasFieldType, IsStatic, OperandsFit}
+use Rattle.object_folders.specs.TypingRulesRules.{Fits, HasFieldType, IsStatic, OperandsFit, call_type}
 use Rattle.object_folders.specs.Typed.{MeetsThere}
 use Rattle.object_folders.specs.Accepted.{IsAccepted}
 use Rattle.object_folders.specs.Bodies.{AreBodies}
@@ -80,7 +82,7 @@ use Rattle.object_folders.proofs.Calls.{needed}
 use Rattle.object_folders.proofs.Members.{has_function-from, defined}
 use Rattle.object_folders.specs.Used.{used_of, makes, calls_on, calls, uses_dispatch, tells_apart, is_among, is_its_field, has_field_in, is_its_static, has_static_in, needs_static, uses_static, uses_helper, is_reflective, is_called_by, uses_reflective, is_test_for, is_cast_to, is_load_of, is_store_of, is_base_of, is_based_on, is_tested, is_cast, is_loaded, is_stored}
 use Rattle.body_uses.specs.Given.{Given, HelpersGiven, FitsDivision, HasType}
-use Rattle.body_uses.specs.Laws.{used_by, AcceptedBodiesUseWhatIsWritten}
+use Rattle.body_uses.specs.Laws.{used_by}
 use Rattle.body_uses.specs.Written.{AreWrittenWith}
 use Rattle.body_uses.proofs.Given.{given}
 use Rattle.body_uses.proofs.Standing.{Stands, each_stands}
@@ -148,6 +150,11 @@ module _ (w : Classes) where
       let same_type : is_same_type t h.field.tpe ≡ true = subst (λ (x : IrType). is_same_type t x ≡ true) (sym h.type_is) (type-refl t) in
       subst (λ (o : Option ClassDef). has_static_in o f t ≡ true) (sym own.is_class) (any_of (is_its_static f t) own.class.fields h.field (contains_at own.class.fields own.first.place h.field own.first.stands) (and_from h.field.is_static (is_same_text f h.field.name && is_same_type t h.field.tpe) own.first.has.mark_is (and_from (is_same_text f h.field.name) (is_same_type t h.field.tpe) same_name same_type)))
 
+-- what gives a value names it
+names_value : (r : Option TypeRef) → is_no_type (call_type r) ≡ false → not (has_no_value r) ≡ true
+names_value (Some Void) h = impossible (sym h)
+names_value _ h = refl
+
 static_there : (n : Namespace) → IsStatic n → is_static n ≡ true
 static_there PublicStatic h = refl
 static_there PrivateStatic h = refl
@@ -157,7 +164,7 @@ static_there Constructor h = absurd h
 
 module _ (entries : List EntryPoint) (files : List SourceFile) (w : Classes) (all : List EmittedMethod) (accepted : IsAccepted entries files w) (bodies : AreBodies w entries all) (e : EmittedMethod) (i : Contains all e) where
   -- each tree of a body that is needed meets what it has to
-  tree_stands : (t : Term) → Contains (trees e.its_body) t → Stands (MeetsThere w e.definition.namespace) t
+  pub tree_stands : (t : Term) → Contains (trees e.its_body) t → Stands (MeetsThere w e.definition.namespace) t
   tree_stands t among =
       let typed = accepted.typed e.member e.definition (needed w entries all bodies e i) (defined w e.member e.definition (bodies.found e i).found) in
       let same : typed.body ≡ e.its_body = some_same typed.body e.its_body (sym typed.has_body ∙ (bodies.found e i).has_body) in
@@ -375,7 +382,7 @@ module _ (entries : List EntryPoint) (files : List SourceFile) (w : Classes) (fa
   tree_given (apply_static p c n m ts t) among s = λ u. in_used (member c n m) (is_static n) (static_there n s.asked.0) (asked (apply_static p c n m ts t) among (Static (member c n m)) (here (Static (member c n m)) [])) u
   tree_given (apply p d m ts t) among s = (λ c same u. let of = of_hijacked d m c same in hijacked_there c m of.hijacked (asked (apply p d m ts t) among (Called c m) (of.asked (sure_among [] (trees e.its_body)))) u, (λ c same h u. let of = of_looked_up d m c same in looked_there c m of.free (asked (apply p d m ts t) among (Called c m) (of.asked (sure_among [] (trees e.its_body)))) u, (λ same. on_arrays_there m (asked (apply p d m ts t) among (Called object m) (of_array d m s.asked.0 same (sure_among [] (trees e.its_body)))), λ n u. named_there (apply p d m ts t) m among (form_named m n) u)))
   tree_given (apply_statically p d c Private m ts t) among s = λ u. in_used (member c Private m) true refl (asked (apply_statically p d c Private m ts t) among (Static (member c Private m)) (here (Static (member c Private m)) (of_receiver (sure_among [] (trees e.its_body)) d))) u
-  tree_given (apply_statically p d c Constructor m ts t) among s = λ v u. in_used (member c Constructor m) (has_no_value m.result) v (asked (apply_statically p d c Constructor m ts t) among (Static (member c Constructor m)) (here (Static (member c Constructor m)) (of_receiver (sure_among [] (trees e.its_body)) d))) u
+  tree_given (apply_statically p d c Constructor m ts t) among s = let r = asked (apply_statically p d c Constructor m ts t) among (Static (member c Constructor m)) (here (Static (member c Constructor m)) (of_receiver (sure_among [] (trees e.its_body)) d)) in (λ v u. in_used (member c Constructor m) (has_no_value m.result) v r u, λ value u. in_used (member c Constructor m) (not (has_no_value m.result)) (names_value m.result (sym (ap is_no_type s.asked.1) ∙ value)) r u)
   tree_given (apply_statically p d c Public m ts t) among s = λ u. target_there c m (asked (apply_statically p d c Public m ts t) among (Resolved c m) (here (Resolved c m) (of_receiver (sure_among [] (trees e.its_body)) d))) u
   tree_given (apply_statically p d c PublicStatic m ts t) among s = tt
   tree_given (apply_statically p d c PrivateStatic m ts t) among s = tt
@@ -407,8 +414,5 @@ module _ (entries : List EntryPoint) (files : List SourceFile) (w : Classes) (fa
   helpers_given : HelpersGiven has used
   helpers_given x among u = let its = named_in (NotNull ∷ IntQuotient ∷ IntRest ∷ LongQuotient ∷ LongRest ∷ BoxedChar ∷ Equal ∷ MakeArray ∷ ArrayClass ∷ Get ∷ Set ∷ Put ∷ []) x among in is_helper its.0 x its.1 u
 
-  body_built : is_object_body e.definition e.its_body ≡ true → is_built_with has e.definition e.its_body ≡ true
+  pub body_built : is_object_body e.definition e.its_body ≡ true → is_built_with has e.definition e.its_body ≡ true
   body_built k = given has e.definition e.its_body refl k helpers_given (λ t among. tree_given t among (tree_stands entries files w all accepted bodies e i t among))
-
-pub accepted_bodies : AcceptedBodiesUseWhatIsWritten
-accepted_bodies entries files w facts all live helpers written accepted bodies uses e i here_written k = body_built entries files w facts all live helpers written accepted bodies uses e i here_written k

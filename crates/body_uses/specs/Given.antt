@@ -1,10 +1,11 @@
 -- What a body is given: what its emitted code names is there.
-use Rattle.std.specs.Prelude.{◌≡◌, ◌⊎◌, ℕ, true, List, [], ◌∷◌, Contains, codes, None}
+use Rattle.std.specs.Prelude.{◌≡◌, ◌⊎◌, ℕ, true, List, [], ◌∷◌, Contains, codes, None, false}
 use Rattle.std.specs.List.{All}
 use Rattle.object_folders.specs.Built.{Usable, is_testable, has_base, is_based, has_no_value, any_object, can_look_up}
 use Rattle.js_tree.specs.declared.items.Binding.{Binding}
 use Rattle.sj_core.specs.declared.callees.Callee.TheVariants as callees
 use Rattle.sj_desugar.specs.Desugar.{member, callee_of}
+use Rattle.sj_desugar.specs.Plain.{is_no_type}
 use Rattle.sj_emit_expr.specs.Templates.{check_name}
 use Rattle.sj_emit_expr.specs.Tests.{same_name}
 use Rattle.sj_emit_expr.specs.Uses.{object_binding, function_binding, class_use, static_use, setter_use, load_use, store_use, test_uses, cast_uses, base_uses, type_uses, call_uses}
@@ -46,7 +47,7 @@ module _ (has : Usable) (used : List Binding) where
   Given (apply p e m ts t) = ((c : List ℕ) → callee_of (type_of_term e) m ≡ callees.Member (member c Public m) → Contains used (function_binding (has.lookup.target (member c Public m))) → has.received (has.lookup.target (member c Public m)) ≡ true) × (((c : List ℕ) → callee_of (type_of_term e) m ≡ callees.LookedUp c m → can_look_up any_object c m ≡ true → All (Contains used) (call_uses has.lookup (callees.LookedUp c m)) → can_look_up has c m ≡ true) × ((callee_of (type_of_term e) m ≡ callees.OfArray m → has.on_arrays m ≡ true) × (m.result ≡ None → All (Contains used) (call_uses has.lookup (callees.Reflective m)) → has.reflected m ≡ true)))
   Given (apply_statically p e c Private m ts t) = Contains used (function_binding (member c Private m)) → has.received (member c Private m) ≡ true
   Given (apply_statically p e c Public m ts t) = Contains used (function_binding (has.lookup.target (member c Public m))) → has.received (has.lookup.target (member c Public m)) ≡ true
-  Given (apply_statically p e c Constructor m ts t) = has_no_value m.result ≡ true → Contains used (function_binding (member c Constructor m)) → has.built (member c Constructor m) ≡ true
+  Given (apply_statically p e c Constructor m ts t) = (has_no_value m.result ≡ true → Contains used (function_binding (member c Constructor m)) → has.built (member c Constructor m) ≡ true) × (is_no_type t ≡ false → Contains used (function_binding (member c Constructor m)) → has.received (member c Constructor m) ≡ true)
   Given (new_object p c m ts) = has_no_value m.result ≡ true → Contains used (function_binding (member c Constructor m)) → Contains used (class_use c) → (has.built (member c Constructor m) ≡ true) × (has.made c ≡ true)
   Given (select p e c f t) = has.field c f t ≡ true
   Given (select_static p c f t) = (Contains used (static_use c f) → has.static_field c f t ≡ true) × (Contains used (setter_use c f) → has.static_setter c f t ≡ true)

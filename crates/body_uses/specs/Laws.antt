@@ -1,6 +1,7 @@
 -- Laws of what bodies use.
 use Rattle.sj_core.specs.Lookup.{Lookup}
 use Rattle.std.specs.Prelude.{◌≡◌, true, List, Contains}
+use Rattle.file_listings.specs.Listed.{AreBytes}
 use Rattle.object_folders.specs.Accepted.{IsAccepted}
 use Rattle.object_folders.specs.Bodies.{AreBodies}
 use Rattle.object_folders.specs.Typing.{is_built_with}
@@ -34,14 +35,24 @@ BodiesUseWhatIsGiven = (has : Usable) (d : MethodDef) (e : Term)
     → ((t : Term) → Contains (trees e) t → Given has (used_by has.lookup d e) t)
     → is_built_with has d e ≡ true
 
--- a body of the forms with objects that is needed in an accepted folder, of a class whose pieces are written, is built with what is written
+-- a body that is needed in an accepted folder of bytes, of a class whose pieces are written, is built with what is written
 abbrev pub AcceptedBodiesUseWhatIsWritten : Type 0
 AcceptedBodiesUseWhatIsWritten = (entries : List EntryPoint) (files : List SourceFile) (w : Classes) (facts : List Fact) (all : List EmittedMethod) (live : List Name) (helpers : List Helper) (written : List Name)
+    → ((file : SourceFile) → Contains files file → AreBytes file.bytes)
     → IsAccepted entries files w
     → AreBodies w entries all
     → AreWrittenWith w entries facts all live helpers written
     → (e : EmittedMethod)
     → Contains all e
     → Contains written e.member.class
-    → is_object_body e.definition e.its_body ≡ true
     → is_built_with (used_of w facts all live helpers written) e.definition e.its_body ≡ true
+
+-- each body that is needed in an accepted folder of bytes is of the forms that are built
+abbrev pub NeededBodiesAreBuilt : Type 0
+NeededBodiesAreBuilt = (entries : List EntryPoint) (files : List SourceFile) (w : Classes) (all : List EmittedMethod)
+    → ((file : SourceFile) → Contains files file → AreBytes file.bytes)
+    → IsAccepted entries files w
+    → AreBodies w entries all
+    → (e : EmittedMethod)
+    → Contains all e
+    → is_object_body e.definition e.its_body ≡ true

@@ -1,5 +1,4 @@
 pub mod Around
-pub mod Cases
 pub mod Direct
 pub mod Rows
 pub mod Statics

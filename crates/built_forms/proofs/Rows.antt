@@ -4,12 +4,7 @@ use Rattle.built_forms.specs.Rows.{WorkedForms}
 
 pub worked : WorkedForms
 worked = record {
-  empty_method = refl;
-  private_method = refl;
-  method_without_a_body = refl;
-  constructor = refl;
-  method_on_objects = refl;
-  abstract_method = refl;
+  nothing_at_all = refl;
   makes_an_object = refl;
   makes_an_object_of_a_char = refl;
   sets_a_field = refl;

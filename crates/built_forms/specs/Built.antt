@@ -1,5 +1,5 @@
 -- The forms of bodies that are built: what is asked of a method beside its typing, so that the theorem on bodies covers it, one Boolean.
-use Rattle.std.specs.Prelude.{ℕ, ◌^◌, nat_lt, length, pos, Bool, true, false, ◌&&◌, ◌||◌, not, List, [], ◌∷◌, Option, Some, None, codes}
+use Rattle.std.specs.Prelude.{ℕ, ◌^◌, nat_lt, length, pos, Bool, true, false, ◌&&◌, ◌||◌, not, if◌then◌else◌, List, [], ◌∷◌, Option, Some, codes}
 use Rattle.std.specs.Ordering.{int_eq}
 use Rattle.sj_desugar.specs.Lookup.{Lookup, own_targets}
 use Rattle.sj_desugar.specs.Callee.{Callee}
@@ -138,7 +138,7 @@ can_call has (callees.Reflective m) = has.reflected m
 -- what a body can use, and the receivers that are never null or whose null check can be used
 module _ (has : Usable) (checked : Term → Bool) where
   -- the tree is of the forms that are built, whatever the trees in it are: what it calls, makes and reads is there, so is the helper of its division or its divisor is a literal, its
-  -- receiver is checked where it has to be, the call of a constructor has no value, and an array is given with no more items than an int can tell
+  -- receiver is checked where it has to be, and an array is given with no more items than an int can tell; the call of a constructor is one of its class without a value, or of a member on a receiver
   abbrev pub stands : Term → Bool
   stands (var_def p x t b e) = true
   stands (skip p) = true
@@ -163,7 +163,7 @@ module _ (has : Usable) (checked : Term → Bool) where
   stands (select_static p c f t) = has.static_field c f t
   stands (apply_statically p e c Private m ts t) = has.received (member c Private m) && checked e
   stands (apply_statically p e c Public m ts t) = has.received (has.lookup.target (member c Public m)) && checked e
-  stands (apply_statically p e c Constructor m ts t) = has.built (member c Constructor m) && is_no_type t
+  stands (apply_statically p e c Constructor m ts t) = if is_no_type t then has.built (member c Constructor m) else (has.received (member c Constructor m) && checked e)
   stands (apply p e m ts t) = can_call has (callee_of (type_of_term e) m) && checked e
   stands (apply_static p c n m ts t) = has.linked (member c n m)
   stands (unary_op p o e) = true
@@ -260,7 +260,7 @@ is_testable (Class c) = true
 is_testable (Array r) = true
 is_testable t = has_kind t
 
--- whatever is made, called and used of objects and of arrays, but for constructors with a value
+-- whatever is made, called and used of objects and of arrays, where an object is made by a constructor without a value
 abbrev pub any_object : Usable
 any_object = record { linked = λ m. true; lookup = own_targets; received = λ m. true; looked_up = λ c m. true; dispatched = λ m. true; reflected = λ m. true; built = λ m. has_no_value m.method.result; made = λ c. true; live = λ c. true; field = λ c f t. true; static_field = λ c f t. true; static_setter = λ c f t. true; modules = λ c. true; stored = λ c. true; tests = is_testable; casts = is_testable; bases = λ c. true; arrays = true; on_arrays = λ m. true; helper = λ x. true; objects = true }
 
@@ -276,12 +276,3 @@ abbrev pub is_static : Namespace → Bool
 is_static PublicStatic = true
 is_static PrivateStatic = true
 is_static _ = false
-
--- there is no body, or it is of the forms that are built
-abbrev pub has_built_body : MethodDef → Option Term → Bool
-has_built_body d None = true
-has_built_body d (Some e) = is_object_body d e
-
--- the linker doesn't build the method yet: its body isn't of the forms that are built
-abbrev pub not_built : MethodDef → Bool
-not_built d = not (has_built_body d d.body)

@@ -1,8 +1,8 @@
--- Small methods: which are built.
-use Rattle.std.specs.Prelude.{◌≡◌, ℕ, pos, Bool, true, false, List, [], ◌∷◌, Option, Some, None, codes}
+-- Small bodies: which are of the forms that are built.
+use Rattle.std.specs.Prelude.{◌≡◌, ℕ, pos, Bool, true, false, List, [], ◌∷◌, Some, None, codes}
 use Rattle.sj_names.specs.declared.method_names.MethodName.{MethodName}
 use Rattle.sj_names.specs.declared.method_names.Namespace.{Namespace}
-use Rattle.sj_names.specs.declared.method_names.Namespace.TheVariants.{Public, PublicStatic, Private, PrivateStatic, Constructor}
+use Rattle.sj_names.specs.declared.method_names.Namespace.TheVariants.{Public, PublicStatic, Private, Constructor}
 use Rattle.sj_names.specs.declared.references.BaseRef.{BaseRef}
 use Rattle.sj_names.specs.declared.references.TypeRef.{TypeRef}
 use Rattle.sj_trees.specs.Erase.{nowhere}
@@ -13,20 +13,21 @@ use Rattle.sj_trees.specs.declared.operators.BinaryOp.TheVariants.{StrictEqual, 
 use Rattle.sj_trees.specs.declared.types.IrType.{IrType}
 use Rattle.sj_trees.specs.declared.types.IrType.TheVariants.{Any, Boolean, Char, Int, Long, String, Null, Class, Array, NoType}
 use Rattle.sj_desugar.specs.Lookup.{own_targets}
-use Rattle.built_forms.specs.Built.{Usable, anything, is_built, is_built_method, not_built, body_boxes}
+use Rattle.built_forms.specs.Built.{Usable, anything, is_built, is_built_method, is_object_body, body_boxes}
 
 abbrev pub method_name : TypeRef → MethodName
 method_name param = record { simple = codes "m"; params = param ∷ []; result = Some TypeRef.Void }
 
-abbrev pub method : Namespace → IrType → Option Term → MethodDef
-method namespace result body = record { pos = nowhere; namespace = namespace; name = method_name TypeRef.Int; params = []; result = result; body = body; hash = None }
-
--- a static method with this body, whose value is given up
-abbrev pub static : Term → MethodDef
-static body = method PublicStatic NoType (Some body)
-
+-- a static method with this body that gives a value of this type, and one whose value is given up
 abbrev pub giving : IrType → Term → MethodDef
-giving result body = method PublicStatic result (Some body)
+giving result body = record { pos = nowhere; namespace = PublicStatic; name = method_name TypeRef.Int; params = []; result = result; body = Some body; hash = None }
+
+abbrev pub static : Term → MethodDef
+static body = giving NoType body
+
+-- the body is of the forms that are built, where its value is given up
+abbrev pub builds : Term → Bool
+builds body = is_object_body (static body) body
 
 abbrev pub nothing : Term
 nothing = skip nowhere
@@ -157,108 +158,103 @@ abbrev pub setting : IrType → Term → Term
 setting t value = assign nowhere (select nowhere (var_ref nowhere (codes "x") Any) (codes "A") (codes "f") t) value
 
 pub record WorkedForms : Type 0 where
-  pub empty_method : not_built (static nothing) ≡ false
-  pub private_method : not_built (method PrivateStatic NoType (Some nothing)) ≡ false
-  pub method_without_a_body : not_built (method PublicStatic NoType None) ≡ false
-  pub constructor : not_built (method Constructor NoType (Some nothing)) ≡ false
-  pub method_on_objects : not_built (method Public NoType (Some nothing)) ≡ false
-  pub abstract_method : not_built (method Public NoType None) ≡ false
-  pub makes_an_object : not_built (static object) ≡ false
-  pub makes_an_object_of_a_char : not_built (static (new_object nowhere (codes "A") (method_name TypeRef.Int) (more_terms letter no_terms))) ≡ false
-  pub sets_a_field : not_built (static (assign nowhere (select nowhere object (codes "A") (codes "f") Int) (number 1))) ≡ false
-  pub sets_a_field_to_a_char : not_built (static (assign nowhere (select nowhere object (codes "A") (codes "f") Any) letter)) ≡ false
-  pub sets_a_static_field : not_built (static (assign nowhere (select_static nowhere (codes "A") (codes "f") Int) (number 1))) ≡ false
-  pub sets_a_static_field_to_a_char : not_built (static (assign nowhere (select_static nowhere (codes "A") (codes "f") Any) letter)) ≡ false
-  pub sets_a_static_field_to_what_is_not_built : not_built (static (assign nowhere (select_static nowhere (codes "A") (codes "f") Any) unbuilt)) ≡ true
-  pub reads_a_static_field : not_built (static (select_static nowhere (codes "A") (codes "f") Int)) ≡ false
+  pub nothing_at_all : builds nothing ≡ true
+  pub makes_an_object : builds object ≡ true
+  pub makes_an_object_of_a_char : builds (new_object nowhere (codes "A") (method_name TypeRef.Int) (more_terms letter no_terms)) ≡ true
+  pub sets_a_field : builds (assign nowhere (select nowhere object (codes "A") (codes "f") Int) (number 1)) ≡ true
+  pub sets_a_field_to_a_char : builds (assign nowhere (select nowhere object (codes "A") (codes "f") Any) letter) ≡ true
+  pub sets_a_static_field : builds (assign nowhere (select_static nowhere (codes "A") (codes "f") Int) (number 1)) ≡ true
+  pub sets_a_static_field_to_a_char : builds (assign nowhere (select_static nowhere (codes "A") (codes "f") Any) letter) ≡ true
+  pub sets_a_static_field_to_what_is_not_built : builds (assign nowhere (select_static nowhere (codes "A") (codes "f") Any) unbuilt) ≡ false
+  pub reads_a_static_field : builds (select_static nowhere (codes "A") (codes "f") Int) ≡ true
   pub reads_a_static_field_it_can_not_use : is_built with_fields (λ e. true) (select_static nowhere (codes "A") (codes "f") Int) ≡ false
-  pub loads_a_module : not_built (static (load_module nowhere (codes "A"))) ≡ false
+  pub loads_a_module : builds (load_module nowhere (codes "A")) ≡ true
   pub loads_a_module_it_can_not_use : is_built with_fields (λ e. true) (load_module nowhere (codes "A")) ≡ false
   pub loads_a_module_it_can_use : is_built with_modules (λ e. true) (load_module nowhere (codes "A")) ≡ true
-  pub stores_a_module : not_built (static (storing object)) ≡ false
-  pub stores_a_module_of_what_is_not_built : not_built (static (storing unbuilt)) ≡ true
+  pub stores_a_module : builds (storing object) ≡ true
+  pub stores_a_module_of_what_is_not_built : builds (storing unbuilt) ≡ false
   pub stores_a_module_it_can_not_use : is_built with_modules (λ e. true) (storing (number 1)) ≡ false
   pub stores_a_module_it_can_use : is_built with_stores (λ e. true) (storing (number 1)) ≡ true
-  pub reads_a_field : not_built (static (select nowhere object (codes "A") (codes "f") Int)) ≡ false
-  pub reads_a_field_of_what_is_not_built : not_built (static (select nowhere unbuilt (codes "A") (codes "f") Int)) ≡ true
-  pub throws : not_built (static (throw nowhere object)) ≡ false
-  pub catches : not_built (static (catching (throw nowhere object) nothing)) ≡ false
-  pub catches_in_what_is_not_built : not_built (static (catching unbuilt nothing)) ≡ true
-  pub catches_for_what_is_not_built : not_built (static (catching nothing unbuilt)) ≡ true
+  pub reads_a_field : builds (select nowhere object (codes "A") (codes "f") Int) ≡ true
+  pub reads_a_field_of_what_is_not_built : builds (select nowhere unbuilt (codes "A") (codes "f") Int) ≡ false
+  pub throws : builds (throw nowhere object) ≡ true
+  pub catches : builds (catching (throw nowhere object) nothing) ≡ true
+  pub catches_in_what_is_not_built : builds (catching unbuilt nothing) ≡ false
+  pub catches_for_what_is_not_built : builds (catching nothing unbuilt) ≡ false
   pub catches_without_objects : is_built anything (λ e. true) (catching nothing nothing) ≡ false
-  pub finalizes : not_built (static (finalizing nothing nothing)) ≡ false
-  pub finalizes_what_is_not_built : not_built (static (finalizing unbuilt nothing)) ≡ true
-  pub finalizes_by_what_is_not_built : not_built (static (finalizing nothing unbuilt)) ≡ true
-  pub throws_a_char : not_built (static (throw nowhere letter)) ≡ false
-  pub calls_a_private_method : not_built (static (direct Private object NoType)) ≡ false
-  pub calls_a_private_method_on_a_char : not_built (static (direct Private letter NoType)) ≡ false
-  pub calls_a_private_method_on_what_is_not_built : not_built (static (direct Private unbuilt NoType)) ≡ true
-  pub calls_a_public_method : not_built (static (direct Public object NoType)) ≡ false
-  pub calls_a_constructor : not_built (static (direct Constructor object NoType)) ≡ false
-  pub calls_a_constructor_for_a_value : not_built (static (direct Constructor object Int)) ≡ true
-  pub calls_a_constructor_that_has_a_value : not_built (static (apply_statically nowhere object (codes "A") Constructor (record { simple = codes "m"; params = []; result = Some TypeRef.Int }) no_terms NoType)) ≡ true
-  pub makes_an_object_by_a_constructor_that_has_a_value : not_built (static (new_object nowhere (codes "A") (record { simple = codes "m"; params = []; result = Some TypeRef.Int }) no_terms)) ≡ true
-  pub names_its_receiver : not_built (method Public NoType (Some (this_ref nowhere Any))) ≡ false
-  pub calls_a_method_that_is_looked_up : not_built (static (called object (method_name TypeRef.Int))) ≡ false
-  pub calls_a_method_of_a_number : not_built (static (called (number 1) (method_name TypeRef.Int))) ≡ false
-  pub calls_a_method_of_a_char : not_built (static (called letter (method_name TypeRef.Int))) ≡ false
-  pub calls_a_method_of_a_hijacked_class : not_built (static (called (local_of (Class (codes "java.lang.Byte"))) (method_name TypeRef.Int))) ≡ false
-  pub calls_a_method_of_any_value : not_built (static (called (local_of Any) (method_name TypeRef.Int))) ≡ false
-  pub calls_a_method_of_an_array : not_built (static (called (local_of (Array (record { base = BaseRef.Int; dimensions = 1 }))) (method_name TypeRef.Int))) ≡ false
-  pub calls_a_number_by_a_reflective_name : not_built (static (called (number 1) (record { simple = codes "m"; params = TypeRef.Int ∷ []; result = None }))) ≡ false
-  pub calls_a_method_of_a_number_with_what_is_not_built : not_built (static (apply nowhere (number 1) (method_name TypeRef.Int) (more_terms unbuilt no_terms) NoType)) ≡ true
+  pub finalizes : builds (finalizing nothing nothing) ≡ true
+  pub finalizes_what_is_not_built : builds (finalizing unbuilt nothing) ≡ false
+  pub finalizes_by_what_is_not_built : builds (finalizing nothing unbuilt) ≡ false
+  pub throws_a_char : builds (throw nowhere letter) ≡ true
+  pub calls_a_private_method : builds (direct Private object NoType) ≡ true
+  pub calls_a_private_method_on_a_char : builds (direct Private letter NoType) ≡ true
+  pub calls_a_private_method_on_what_is_not_built : builds (direct Private unbuilt NoType) ≡ false
+  pub calls_a_public_method : builds (direct Public object NoType) ≡ true
+  pub calls_a_constructor : builds (direct Constructor object NoType) ≡ true
+  pub calls_a_constructor_for_a_value : builds (direct Constructor object Int) ≡ true
+  pub calls_a_constructor_that_has_a_value : builds (apply_statically nowhere object (codes "A") Constructor (record { simple = codes "m"; params = []; result = Some TypeRef.Int }) no_terms Int) ≡ true
+  pub makes_an_object_by_a_constructor_that_has_a_value : builds (new_object nowhere (codes "A") (record { simple = codes "m"; params = []; result = Some TypeRef.Int }) no_terms) ≡ false
+  pub names_its_receiver : builds (this_ref nowhere Any) ≡ true
+  pub calls_a_method_that_is_looked_up : builds (called object (method_name TypeRef.Int)) ≡ true
+  pub calls_a_method_of_a_number : builds (called (number 1) (method_name TypeRef.Int)) ≡ true
+  pub calls_a_method_of_a_char : builds (called letter (method_name TypeRef.Int)) ≡ true
+  pub calls_a_method_of_a_hijacked_class : builds (called (local_of (Class (codes "java.lang.Byte"))) (method_name TypeRef.Int)) ≡ true
+  pub calls_a_method_of_any_value : builds (called (local_of Any) (method_name TypeRef.Int)) ≡ true
+  pub calls_a_method_of_an_array : builds (called (local_of (Array (record { base = BaseRef.Int; dimensions = 1 }))) (method_name TypeRef.Int)) ≡ true
+  pub calls_a_number_by_a_reflective_name : builds (called (number 1) (record { simple = codes "m"; params = TypeRef.Int ∷ []; result = None })) ≡ true
+  pub calls_a_method_of_a_number_with_what_is_not_built : builds (apply nowhere (number 1) (method_name TypeRef.Int) (more_terms unbuilt no_terms) NoType) ≡ false
   pub sets_a_field_it_can_use : is_built with_fields (λ e. true) (setting Int (number 1)) ≡ true
   pub field_set_by_a_call : is_built with_fields (λ e. true) (setting Int (apply_static nowhere (codes "A") PublicStatic (method_name TypeRef.Int) (more_terms (number 1) no_terms) Int)) ≡ true
   pub field_of_an_unchecked_object : is_built with_fields (λ e. false) (setting Int (number 1)) ≡ false
-  pub identity : not_built (static (operation StrictEqual Any (number 1))) ≡ false
-  pub no_identity : not_built (static (operation StrictNotEqual Any (number 1))) ≡ false
-  pub identity_with_a_char : not_built (static (operation StrictEqual Any letter)) ≡ false
-  pub identity_with_what_is_not_built : not_built (static (operation StrictEqual Any unbuilt)) ≡ true
+  pub identity : builds (operation StrictEqual Any (number 1)) ≡ true
+  pub no_identity : builds (operation StrictNotEqual Any (number 1)) ≡ true
+  pub identity_with_a_char : builds (operation StrictEqual Any letter) ≡ true
+  pub identity_with_what_is_not_built : builds (operation StrictEqual Any unbuilt) ≡ false
   pub identity_without_a_helper : is_built with_fields (λ e. true) (operation StrictEqual Any (number 1)) ≡ false
   pub identity_it_can_use : is_built with_boxes (λ e. true) (operation StrictEqual Any (number 1)) ≡ true
-  pub test_of_an_int : not_built (static (tested Int object)) ≡ false
-  pub test_of_a_text : not_built (static (tested String object)) ≡ false
-  pub test_of_a_char : not_built (static (tested Char letter)) ≡ false
-  pub test_of_null : not_built (static (tested Null object)) ≡ true
-  pub test_of_a_class : not_built (static (tested (Class (codes "A")) object)) ≡ false
-  pub test_of_a_class_of_what_is_not_built : not_built (static (tested (Class (codes "A")) unbuilt)) ≡ true
-  pub test_of_an_array : not_built (static (tested (Array (record { base = BaseRef.Int; dimensions = 1 })) object)) ≡ false
-  pub test_of_an_array_of_a_class : not_built (static (tested (Array (record { base = BaseRef.Class (codes "A"); dimensions = 2 })) object)) ≡ false
-  pub test_of_an_array_of_what_is_not_built : not_built (static (tested (Array (record { base = BaseRef.Int; dimensions = 1 })) unbuilt)) ≡ true
-  pub test_of_an_int_of_what_is_not_built : not_built (static (tested Int unbuilt)) ≡ true
+  pub test_of_an_int : builds (tested Int object) ≡ true
+  pub test_of_a_text : builds (tested String object) ≡ true
+  pub test_of_a_char : builds (tested Char letter) ≡ true
+  pub test_of_null : builds (tested Null object) ≡ false
+  pub test_of_a_class : builds (tested (Class (codes "A")) object) ≡ true
+  pub test_of_a_class_of_what_is_not_built : builds (tested (Class (codes "A")) unbuilt) ≡ false
+  pub test_of_an_array : builds (tested (Array (record { base = BaseRef.Int; dimensions = 1 })) object) ≡ true
+  pub test_of_an_array_of_a_class : builds (tested (Array (record { base = BaseRef.Class (codes "A"); dimensions = 2 })) object) ≡ true
+  pub test_of_an_array_of_what_is_not_built : builds (tested (Array (record { base = BaseRef.Int; dimensions = 1 })) unbuilt) ≡ false
+  pub test_of_an_int_of_what_is_not_built : builds (tested Int unbuilt) ≡ false
   pub test_it_can_use : is_built with_tests (λ e. true) (tested String (number 1)) ≡ true
   pub test_of_what_is_not_built : is_built with_tests (λ e. true) (tested String unbuilt) ≡ false
-  pub cast_to_an_int : not_built (static (casted Int object)) ≡ false
-  pub cast_to_a_text : not_built (static (casted String object)) ≡ false
-  pub cast_of_a_char : not_built (static (casted Char letter)) ≡ false
-  pub cast_to_null : not_built (static (casted Null object)) ≡ true
-  pub cast_to_a_class : not_built (static (casted (Class (codes "A")) object)) ≡ false
-  pub cast_to_a_class_of_what_is_not_built : not_built (static (casted (Class (codes "A")) unbuilt)) ≡ true
-  pub cast_to_an_array : not_built (static (casted (Array (record { base = BaseRef.Int; dimensions = 1 })) object)) ≡ false
-  pub cast_to_an_array_of_a_class : not_built (static (casted (Array (record { base = BaseRef.Class (codes "A"); dimensions = 2 })) object)) ≡ false
-  pub cast_to_an_array_of_what_is_not_built : not_built (static (casted (Array (record { base = BaseRef.Int; dimensions = 1 })) unbuilt)) ≡ true
-  pub cast_to_an_int_of_what_is_not_built : not_built (static (casted Int unbuilt)) ≡ true
-  pub cast_to_any : not_built (static (casted Any object)) ≡ false
-  pub cast_of_a_char_to_any : not_built (static (casted Any letter)) ≡ false
-  pub cast_to_any_of_what_is_not_built : not_built (static (casted Any unbuilt)) ≡ true
+  pub cast_to_an_int : builds (casted Int object) ≡ true
+  pub cast_to_a_text : builds (casted String object) ≡ true
+  pub cast_of_a_char : builds (casted Char letter) ≡ true
+  pub cast_to_null : builds (casted Null object) ≡ false
+  pub cast_to_a_class : builds (casted (Class (codes "A")) object) ≡ true
+  pub cast_to_a_class_of_what_is_not_built : builds (casted (Class (codes "A")) unbuilt) ≡ false
+  pub cast_to_an_array : builds (casted (Array (record { base = BaseRef.Int; dimensions = 1 })) object) ≡ true
+  pub cast_to_an_array_of_a_class : builds (casted (Array (record { base = BaseRef.Class (codes "A"); dimensions = 2 })) object) ≡ true
+  pub cast_to_an_array_of_what_is_not_built : builds (casted (Array (record { base = BaseRef.Int; dimensions = 1 })) unbuilt) ≡ false
+  pub cast_to_an_int_of_what_is_not_built : builds (casted Int unbuilt) ≡ false
+  pub cast_to_any : builds (casted Any object) ≡ true
+  pub cast_of_a_char_to_any : builds (casted Any letter) ≡ true
+  pub cast_to_any_of_what_is_not_built : builds (casted Any unbuilt) ≡ false
   pub cast_it_can_use : is_built with_casts (λ e. true) (casted String (number 1)) ≡ true
   pub cast_with_tests_alone : is_built with_tests (λ e. true) (casted String (number 1)) ≡ false
   pub test_with_casts_alone : is_built with_casts (λ e. true) (tested String (number 1)) ≡ false
-  pub length_of_an_array : not_built (static (array_length nowhere (local_of (Array (record { base = BaseRef.Int; dimensions = 1 }))))) ≡ false
+  pub length_of_an_array : builds (array_length nowhere (local_of (Array (record { base = BaseRef.Int; dimensions = 1 })))) ≡ true
   pub length_of_an_unchecked_array : is_built with_boxes (λ e. false) (array_length nowhere (local_of Null)) ≡ false
-  pub length_of_what_is_not_built : not_built (static (array_length nowhere unbuilt)) ≡ true
-  pub makes_an_array : not_built (static array) ≡ false
-  pub makes_an_array_of_a_class : not_built (static of_class) ≡ false
-  pub makes_an_array_of_a_length_that_is_not_built : not_built (static (new_array nowhere (record { base = BaseRef.Int; dimensions = 1 }) unbuilt)) ≡ true
-  pub items : not_built (static (items_of no_terms)) ≡ false
-  pub items_that_are_not_built : not_built (static (items_of (more_terms (number 1) (more_terms unbuilt no_terms)))) ≡ true
-  pub item : not_built (static (item_of (local_of Null))) ≡ false
-  pub item_of_what_is_not_built : not_built (static (item_of unbuilt)) ≡ true
-  pub item_at_what_is_not_built : not_built (static (array_select nowhere array unbuilt Int)) ≡ true
-  pub sets_an_item : not_built (static (setting_item (local_of Null) (number 1))) ≡ false
-  pub sets_an_item_of_what_is_not_built : not_built (static (setting_item unbuilt (number 1))) ≡ true
-  pub sets_an_item_at_what_is_not_built : not_built (static (assign nowhere (array_select nowhere array unbuilt Int) (number 1))) ≡ true
-  pub sets_an_item_to_what_is_not_built : not_built (static (setting_item array unbuilt)) ≡ true
+  pub length_of_what_is_not_built : builds (array_length nowhere unbuilt) ≡ false
+  pub makes_an_array : builds array ≡ true
+  pub makes_an_array_of_a_class : builds of_class ≡ true
+  pub makes_an_array_of_a_length_that_is_not_built : builds (new_array nowhere (record { base = BaseRef.Int; dimensions = 1 }) unbuilt) ≡ false
+  pub items : builds (items_of no_terms) ≡ true
+  pub items_that_are_not_built : builds (items_of (more_terms (number 1) (more_terms unbuilt no_terms))) ≡ false
+  pub item : builds (item_of (local_of Null)) ≡ true
+  pub item_of_what_is_not_built : builds (item_of unbuilt) ≡ false
+  pub item_at_what_is_not_built : builds (array_select nowhere array unbuilt Int) ≡ false
+  pub sets_an_item : builds (setting_item (local_of Null) (number 1)) ≡ true
+  pub sets_an_item_of_what_is_not_built : builds (setting_item unbuilt (number 1)) ≡ false
+  pub sets_an_item_at_what_is_not_built : builds (assign nowhere (array_select nowhere array unbuilt Int) (number 1)) ≡ false
+  pub sets_an_item_to_what_is_not_built : builds (setting_item array unbuilt) ≡ false
   pub array_it_can_use : is_built with_boxes (λ e. true) array ≡ true
   pub array_without_a_helper : is_built (record with_fields { arrays = true }) (λ e. true) array ≡ false
   pub array_where_none_can_be_made : is_built (record with_boxes { arrays = false }) (λ e. true) array ≡ false
@@ -270,17 +266,17 @@ pub record WorkedForms : Type 0 where
   pub item_without_a_helper : is_built with_fields (λ e. true) (item_of (local_of Null)) ≡ false
   pub sets_an_item_it_can_use : is_built with_boxes (λ e. true) (setting_item array (number 1)) ≡ true
   pub sets_an_item_without_a_helper : is_built with_fields (λ e. true) (setting_item (local_of Null) (number 1)) ≡ false
-  pub by_two : not_built (static (operation IntDivide Int (number 2))) ≡ false
-  pub by_zero : not_built (static (operation IntDivide Int (number 0))) ≡ false
-  pub by_a_local : not_built (static (operation IntDivide Int (var_ref nowhere (codes "y") Int))) ≡ false
+  pub by_two : builds (operation IntDivide Int (number 2)) ≡ true
+  pub by_zero : builds (operation IntDivide Int (number 0)) ≡ true
+  pub by_a_local : builds (operation IntDivide Int (var_ref nowhere (codes "y") Int)) ≡ true
   pub by_a_local_without_a_helper : is_built with_fields (λ e. true) (operation IntDivide Int (var_ref nowhere (codes "y") Int)) ≡ false
   pub by_zero_without_a_helper : is_built with_fields (λ e. true) (operation IntDivide Int (number 0)) ≡ false
   pub by_two_without_a_helper : is_built with_fields (λ e. true) (operation IntDivide Int (number 2)) ≡ true
-  pub long_by_two : not_built (static (operation LongRemainder Long (long_literal nowhere (pos 2)))) ≡ false
+  pub long_by_two : builds (operation LongRemainder Long (long_literal nowhere (pos 2))) ≡ true
   pub long_by_an_int_without_a_helper : is_built with_fields (λ e. true) (operation LongRemainder Long (number 2)) ≡ false
-  pub char_as_a_value : not_built (giving Any letter) ≡ false
-  pub case_with_a_key : not_built (static (case (1 ∷ []) unbuilt)) ≡ true
-  pub case_without_keys : not_built (static (case [] unbuilt)) ≡ false
+  pub char_as_a_value : is_object_body (giving Any letter) letter ≡ true
+  pub case_with_a_key : builds (case (1 ∷ []) unbuilt) ≡ false
+  pub case_without_keys : builds (case [] unbuilt) ≡ true
   pub needs_a_box : is_built_method with_fields (λ e. true) (giving Any letter) letter ≡ false
   pub has_a_box : is_built_method with_boxes (λ e. true) (giving Any letter) letter ≡ true
   pub needs_no_box : is_built_method with_fields (λ e. true) (giving Char letter) letter ≡ true

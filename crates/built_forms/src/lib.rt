@@ -1,12 +1,8 @@
-//! Which methods the linker builds: the forms of bodies that are built, as a definition and as code that takes no memory.
+//! The forms of bodies that the theorems on bodies cover, as a definition.
 //!
-//! The theorems on bodies stand on the definition.
+//! The function here is a law: it does nothing when it runs, and its clause is a theorem.
 #![tactic(auto)]
 
-mod forms;
-mod kinds;
 mod laws;
-mod methods;
 
 pub use laws::worked_forms;
-pub use methods::not_built;

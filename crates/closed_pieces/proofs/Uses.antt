@@ -1,10 +1,8 @@
 -- What the pieces of an accepted folder use they declare.
 use Rattle.std.proofs.Common.{◌≡◌, ◌↔◌, ◌∙◌, true, List, Some, sym, subst, Contains}
 use Rattle.std.proofs.lemmas.List.Elements.{Contains-append_left, Contains-append_right}
-use Rattle.linked_folders.proofs.Calls.{needed}
 use Rattle.linked_folders.proofs.DeclaredPiecesLive.{next_is, live_next, live_free}
 use Rattle.linked_folders.proofs.DeclaredPiecesNamed.{called_name, reflective_name as reflective_name_is}
-use Rattle.linked_folders.proofs.Members.{defined}
 use Rattle.linked_folders.specs.Accepted.{IsAccepted}
 use Rattle.linked_folders.specs.Bodies.{AreBodies}
 use Rattle.linked_folders.specs.Built.{is_object_body}
@@ -20,8 +18,7 @@ use Rattle.helper_rules.specs.Words.{helper}
 use Rattle.helper_rules.specs.declared.kinds.Helper.{Helper}
 use Rattle.js_tree.specs.Terms.{Name, Piece}
 use Rattle.js_tree.specs.declared.items.Binding.{Binding}
-use Rattle.linked_folders.proofs.Links.{body_built}
-use Rattle.linked_folders.specs.Edits.{AreBuilt}
+use Rattle.linked_folders.proofs.BodyForms.{body_is_built}
 use Rattle.module_rules.specs.Laws.{IsDeclared}
 use Rattle.linked_folders.proofs.Plain.{class_found}
 use Rattle.linked_folders.specs.PieceRulesPieces.{Parts}
@@ -40,7 +37,7 @@ use Rattle.closed_pieces.proofs.Places.{in_blocks, from_blocks, Stands, own, met
 use Rattle.closed_pieces.proofs.Told.{told_uses_declared, name_uses_declared}
 use Rattle.closed_pieces.specs.Laws.{UsesAreDeclared}
 
-module _ (entries : List EntryPoint) (files : List SourceFile) (l : Linked) (all : List EmittedMethod) (ps : List Piece) (bytes : (file : SourceFile) → Contains files file → AreBytes file.bytes) (a : IsAccepted entries files l.world) (built : AreBuilt l.world entries) (bodies : AreBodies l.world entries all) (exact : (f : Fact) → Contains l.facts f ↔ Reachable l.world entries f) (methods : AreEntries l.world l.facts l.entries) (p : AreLinkedPieces l all ps) where
+module _ (entries : List EntryPoint) (files : List SourceFile) (l : Linked) (all : List EmittedMethod) (ps : List Piece) (bytes : (file : SourceFile) → Contains files file → AreBytes file.bytes) (a : IsAccepted entries files l.world) (bodies : AreBodies l.world entries all) (exact : (f : Fact) → Contains l.facts f ↔ Reachable l.world entries f) (methods : AreEntries l.world l.facts l.entries) (p : AreLinkedPieces l all ps) where
   d : Declares entries l p.helpers ps
   d = declares entries files l all ps bytes a bodies exact p
 
@@ -48,7 +45,7 @@ module _ (entries : List EntryPoint) (files : List SourceFile) (l : Linked) (all
   holds f = (exact f).0
 
   objects : (e : EmittedMethod) → Contains all e → is_object_body e.definition e.its_body ≡ true
-  objects e i = body_built e.definition e.its_body (bodies.found e i).has_body (built e.member e.definition (needed l.world entries all bodies e i) (defined l.world e.member e.definition (bodies.found e i).found))
+  objects = body_is_built entries files l.world bytes a all bodies
 
   -- what a live class extends is live
   superclasses : (c s : Name) (parts : Parts) → AreParts l c parts → IsLive l.world l.facts c → parts.class.superclass ≡ Some s → IsLive l.world l.facts s
@@ -79,7 +76,7 @@ module _ (entries : List EntryPoint) (files : List SourceFile) (l : Linked) (all
   all_declared q i = declared q (stands l all ps p q i)
 
 pub uses_are_declared : UsesAreDeclared
-uses_are_declared entries files w ps bytes a built its = all_declared entries files its.linked its.all ps bytes accepted (subst (λ (x : Classes). AreBuilt x entries) to_world built) bodies exact methods its.are
+uses_are_declared entries files w ps bytes a its = all_declared entries files its.linked its.all ps bytes accepted bodies exact methods its.are
   where
     to_world : w ≡ its.linked.world
     to_world = sym its.is_linked.world

@@ -5,19 +5,17 @@ use Rattle.linked_folders.specs.Accepted.{IsAccepted}
 use Rattle.file_listings.specs.Listed.{AreBytes}
 use Rattle.js_tree.specs.Terms.{Piece}
 use Rattle.js_tree.specs.declared.items.Binding.{Binding}
-use Rattle.linked_folders.specs.Edits.{AreBuilt}
 use Rattle.linked_folders.specs.Link.{ArePieces}
 use Rattle.module_rules.specs.Laws.{IsDeclared}
 use Rattle.sj_names.specs.declared.entry_points.EntryPoint.{EntryPoint}
 use Rattle.sj_names.specs.declared.folders.SourceFile.{SourceFile}
 use Rattle.sj_world.specs.Known.{Classes}
 
--- in an accepted folder whose needed bodies are all built, each binding that a piece uses is the name of a piece that the binding's owner owns
+-- in an accepted folder, each binding that a piece uses is the name of a piece that the binding's owner owns
 abbrev pub UsesAreDeclared : Type 0
 UsesAreDeclared = (entries : List EntryPoint) (files : List SourceFile) (w : Classes) (ps : List Piece)
     → ((file : SourceFile) → Contains files file → AreBytes file.bytes)
     → IsAccepted entries files w
-    → AreBuilt w entries
     → ArePieces w entries ps
     → (p : Piece)
     → Contains ps p

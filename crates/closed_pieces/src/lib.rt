@@ -5,7 +5,7 @@
 
 ghost use Rattle.closed_pieces.specs.Laws.{UsesAreDeclared};
 
-/// In an accepted folder whose needed bodies are all of the forms that are built, each binding that a piece uses is the name of a piece of its owner.
+/// In an accepted folder each binding that a piece uses is the name of a piece of its owner.
 pub fn uses_are_declared()
     ensures { UsesAreDeclared }
 {}

@@ -7,3 +7,4 @@ pub mod Place
 pub mod Tops
 pub mod Whole
 pub mod Worked
+pub use Rattle.body_soundness.proofs.Modules as Soundness

@@ -8,7 +8,7 @@ use Rattle.file_declarations.proofs.Fields.{fields_differ, begins, statics_diffe
 use Rattle.file_declarations.proofs.Items.{IsClassItem, alone as class_alone, extending, code_found, members_found}
 use Rattle.file_declarations.proofs.Begun.{marker_held, same_classes, chain_length, zero_literal_is}
 use Rattle.file_declarations.specs.Declarations.{behind}
-use Rattle.file_declarations.specs.Declared.{Running, alone as by_itself, on_receiver, completing, running}
+use Rattle.file_declarations.specs.Declared.{Running, alone as by_itself, completing, running}
 use Rattle.file_tops.proofs.Run.{some_same}
 use Rattle.file_tops.specs.Tops.{literal_value, link}
 use Rattle.body_soundness.specs.Targets.{IsTargetOf}
@@ -50,7 +50,7 @@ use Rattle.file_declarations.specs.Reflecting.{reflective_code, proxy_code}
 use Rattle.file_declarations.specs.Made.{zero_shown}
 use Rattle.file_declarations.specs.Methods.{Linked, parameters_in, function_of}
 use Rattle.file_declarations.specs.Names.{emitted_in}
-use Rattle.file_declarations.specs.Objects.{RunsOn, Constructs, function_on, body_of}
+use Rattle.file_declarations.specs.Objects.{PassesObject, RunsOn, Constructs, function_on, body_of}
 use Rattle.file_declarations.specs.Objects as on_objects
 use Rattle.file_declarations.specs.Arrays.{CanGiveArrays, ReachesArrays, CanMakeArrays, ChecksIndex, TellsClasses, TellsItems, CanPut, CanTestArrays, array_members}
 use Rattle.file_declarations.specs.Worlds.{IsMade, CanCheck, CanDivide, Tested, of_kind, of_class, of_array, ThrowsCast, CanCast, CanCastClass, Casted, to_kind, to_class, to_array, StaticStands, setter_code, CellStands, StoreStands, LoadStands, HasObjects}
@@ -86,7 +86,7 @@ use Rattle.sj_trees.specs.declared.types.IrType.{IrType}
 use Rattle.sj_trees.specs.declared.types.IrType.TheVariants.{Any, Array, Class}
 use Rattle.built_forms.specs.Built.{Usable}
 use Rattle.declared_files.specs.Declared as declared
-use Rattle.declared_files.specs.Declared.{Spread, all_items, Stands, FunctionDeclared, ClassDeclared, ConstantsDeclared, ChainDeclared, KindTestDeclared, ClassTestDeclared, TestDeclared, KindCastDeclared, ClassCastDeclared, CastDeclared, TargetDeclared, EntryDeclared, CaseDeclared, KindsDeclared, ReflectedDeclared, ReflectedKind, NoEntryDeclared, ProxyDeclared, AnswerDeclared, BoxesDeclared, Declared, IsLawful}
+use Rattle.declared_files.specs.Declared.{Spread, all_items, Stands, FunctionDeclared, ClassDeclared, ConstantsDeclared, ChainDeclared, KindTestDeclared, ClassTestDeclared, TestDeclared, KindCastDeclared, ClassCastDeclared, CastDeclared, TargetDeclared, EntryDeclared, CaseDeclared, KindsDeclared, ReflectedDeclared, ReflectedKind, NoEntryDeclared, ProxyDeclared, AnswerDeclared, BoxesDeclared, Declared, IsLawful, Receives, as_method, as_constructor}
 use Rattle.declared_files.specs.Placed.{Placed, placed, Holds, AllHold, OfPlaced, RunInOrder}
 use Rattle.declared_files.proofs.Made.{marks_ancestors}
 use Rattle.declared_files.proofs.Tops.{good_module, stands_in, all_pass, HasModule}
@@ -154,12 +154,22 @@ module _ (z : Spread) where
     alone_code f Private d e r = cc
     alone_code f Constructor d e r = cc
 
-    received_code : (f : Name) (n : Namespace) (d : MethodDef) (e : Term) → running n ≡ on_receiver → code_at f n d e ≡ function_on place f d (body_of d e)
-    received_code f Public d e r = λ i. record { parameters = variable_name receiver ∷ parameters-are (names_of d.params) i; body = (code_at f Public d e).body }
-    received_code f Private d e r = λ i. record { parameters = variable_name receiver ∷ parameters-are (names_of d.params) i; body = (code_at f Public d e).body }
-    received_code f PublicStatic d e r = cc
-    received_code f PrivateStatic d e r = cc
-    received_code f Constructor d e r = cc
+    received_code : (f : Name) (n : Namespace) (d : MethodDef) (e : Term) (how : Running) → Receives d.result how → running n ≡ how → code_at f n d e ≡ function_on place f d (completed n (body_of d e))
+    received_code f Public d e how k r = λ i. record { parameters = variable_name receiver ∷ parameters-are (names_of d.params) i; body = (code_at f Public d e).body }
+    received_code f Private d e how k r = λ i. record { parameters = variable_name receiver ∷ parameters-are (names_of d.params) i; body = (code_at f Public d e).body }
+    received_code f Constructor d e how k r = λ i. record { parameters = variable_name receiver ∷ parameters-are (names_of d.params) i; body = (code_at f Constructor d e).body }
+    received_code f PublicStatic d e _ as_method r = cc
+    received_code f PublicStatic d e _ (as_constructor v) r = cc
+    received_code f PrivateStatic d e _ as_method r = cc
+    received_code f PrivateStatic d e _ (as_constructor v) r = cc
+
+    passes_object : (n : Namespace) (t : IrType) (how : Running) → Receives t how → running n ≡ how → PassesObject n t
+    passes_object Constructor t _ as_method r = cc
+    passes_object Constructor t _ (as_constructor v) r = v
+    passes_object Public t how k r = tt
+    passes_object Private t how k r = tt
+    passes_object PublicStatic t how k r = tt
+    passes_object PrivateStatic t how k r = tt
 
     completing_code : (f : Name) (n : Namespace) (d : MethodDef) (e : Term) → running n ≡ completing → code_at f n d e ≡ function_on place f d (on_objects.constructor_body d e)
     completing_code f Constructor d e r = λ i. record { parameters = variable_name receiver ∷ parameters-are (names_of d.params) i; body = (code_at f Constructor d e).body }
@@ -178,7 +188,7 @@ module _ (z : Spread) where
     linked_here f m l = let d = can.linked f m l in record { definition = d.right.definition; its_body = d.right.its_body; found = d.right.found; has_body = d.right.has_body; parameters = d.right.parameters; result_is = d.right.result_is; emitted = code_there (a_function m) by_itself m d ∙ ap Some (alone_code (z.home (a_function m)) d.right.definition.namespace d.right.definition d.right.its_body d.runs); rules = d.right.rules; reaches = reaches (z.home (a_function m)) }
 
     runs_here : (f : Name) (m : MemberName) → (z.has f).received m ≡ true → RunsOn place m
-    runs_here f m l = let d = can.received f m l in record { definition = d.right.definition; its_body = d.right.its_body; found = d.right.found; has_body = d.right.has_body; parameters = d.right.parameters; result_is = d.right.result_is; emitted = code_there (a_method m) on_receiver m d ∙ ap Some (received_code (z.home (a_method m)) d.right.definition.namespace d.right.definition d.right.its_body d.runs); rules = d.right.rules; reaches = reaches (z.home (a_method m)) }
+    runs_here f m l = let its = can.received f m l in let d = its.member in record { definition = d.right.definition; its_body = d.right.its_body; found = d.right.found; has_body = d.right.has_body; parameters = d.right.parameters; result_is = d.right.result_is; emitted = code_there (a_method m) its.how m d ∙ ap Some (received_code (z.home (a_method m)) d.right.definition.namespace d.right.definition d.right.its_body its.how its.receives d.runs); passes = passes_object d.right.definition.namespace d.right.definition.result its.how its.receives d.runs; rules = d.right.rules; reaches = reaches (z.home (a_method m)) }
 
     constructs_here : (f : Name) (m : MemberName) → (z.has f).built m ≡ true → Constructs place m
     constructs_here f m l = let k = can.built f m l in let d = k.0 in record { definition = d.right.definition; its_body = d.right.its_body; found = d.right.found; has_body = d.right.has_body; parameters = d.right.parameters; result_is = k.1; emitted = code_there (a_constructor m) completing m d ∙ ap Some (completing_code (z.home (a_constructor m)) d.right.definition.namespace d.right.definition d.right.its_body d.runs); rules = d.right.rules; reaches = reaches (z.home (a_constructor m)) }
@@ -713,7 +723,7 @@ module _ (z : Spread) where
 
       top_held : (f : Name) (x : Top) → is_usable (z.has f) x ≡ true → TopHolds place begun.owned x (t.tops (z.home x) (top_name x))
       top_held f (a_function m) l = let d = can.linked f m l in (held_in (z.home (a_function m)) (member_item d) d.function).1
-      top_held f (a_method m) l = let d = can.received f m l in (held_in (z.home (a_method m)) (member_item d) d.function).1
+      top_held f (a_method m) l = let d = (can.received f m l).member in (held_in (z.home (a_method m)) (member_item d) d.function).1
       top_held f (a_dispatch m) l = let d = can.dispatched f m l in (held_in (z.home (a_dispatch m)) (dispatch_item m d.cases) d.function).1
       top_held f (a_reflection m) l = let d = can.reflected f m l in (held_in (z.home (a_reflection m)) (reflective_item m (units_of (spelled_method m)) d.cases) d.function).1
       top_held f (a_constructor m) l = let d = (can.built f m l).0 in (held_in (z.home (a_constructor m)) (member_item d) d.function).1

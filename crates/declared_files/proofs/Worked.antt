@@ -46,7 +46,7 @@ use Rattle.sj_world.specs.Known.{is_same}
 use Rattle.sj_world.specs.Subtypes.{equal}
 use Rattle.sj_world.specs.Tables.{AreAncestors}
 use Rattle.typing_rules.specs.Rules.{nothing_wanted, fitting, HasFieldType}
-use Rattle.declared_files.specs.Declared.{Leads, Stands, Makes, Uses, FunctionDeclared, ClassDeclared, ConstantsDeclared, ArraysDeclared, ArrayCallDeclared, extends_none, extends_one, MadeDeclared, StaticDeclared, StoreDeclared, LoadDeclared, LookupDeclared, TellsApart, ReflectionDeclared, Declared, IsAmong, IsPublic, IsLawful, all_items, TestDeclared, CastDeclared, AreConstants}
+use Rattle.declared_files.specs.Declared.{ReceivedDeclared, as_method, Leads, Stands, Makes, Uses, FunctionDeclared, ClassDeclared, ConstantsDeclared, ArraysDeclared, ArrayCallDeclared, extends_none, extends_one, MadeDeclared, StaticDeclared, StoreDeclared, LoadDeclared, LookupDeclared, TellsApart, ReflectionDeclared, Declared, IsAmong, IsPublic, IsLawful, all_items, TestDeclared, CastDeclared, AreConstants}
 use Rattle.declared_files.specs.Placed.{Placed, placed}
 use Rattle.declared_files.specs.Worked.{object_constants, object_class, its_constants, its_class, init_function, get_function, main_function, main_file, class_file, object_file, main_use, class_use, use_of, three_files, spread}
 use Rattle.declared_files.proofs.Whole.{files_agree}
@@ -301,7 +301,7 @@ pub all_declared : Declared spread
 all_declared = record {
   leads = by_file (λ f u. (t : Top) → is_named u t ≡ true → Leads spread f t) main_leads class_leads nothing_leads;
   linked = by_file (λ f u. (m : Member) → u.linked m ≡ true → FunctionDeclared spread (a_function m) alone m) (λ m h. subst (λ k. FunctionDeclared spread (a_function k) alone k) (sym (member-same m main_member h)) main_declared) (λ m h. impossible h) (λ f m h. impossible h);
-  received = by_file (λ f u. (m : Member) → u.received m ≡ true → FunctionDeclared spread (a_method m) on_receiver m) (λ m h. subst (λ k. FunctionDeclared spread (a_method k) on_receiver k) (sym (member-same m (member class_name Private get_name) h)) get_declared) (λ m h. impossible h) (λ f m h. impossible h);
+  received = by_file (λ f u. (m : Member) → u.received m ≡ true → ReceivedDeclared spread m) (λ m h. subst (ReceivedDeclared spread) (sym (member-same m (member class_name Private get_name) h)) (record { how = on_receiver; member = get_declared; receives = as_method })) (λ m h. impossible h) (λ f m h. impossible h);
   looked = by_file (λ f u. (c : Name) (m : MethodName) → can_look_up u c m ≡ true → LookupDeclared spread c m (u.lookup.has_hijacked c)) (λ c m h. impossible h) (λ c m h. impossible h) (λ f c m h. impossible h);
   reflected = by_file (λ f u. (m : MethodName) → u.reflected m ≡ true → ReflectionDeclared spread m) (λ m h. impossible h) (λ m h. impossible h) (λ f m h. impossible h);
   dispatched = by_file (λ f u. (m : MethodName) → u.dispatched m ≡ true → TellsApart spread m) (λ m h. impossible h) (λ m h. impossible h) (λ f m h. impossible h);

@@ -33,6 +33,7 @@ use Rattle.file_declarations.specs.Reflected.{HasReflected}
 use Rattle.file_declarations.specs.Reflecting.{proxy_code}
 use Rattle.file_declarations.specs.Pieces.{is_char as is_char_result, constants_piece, class_item_of, constructor_body, variable_piece, setter_piece, cell_piece, load_piece, store_piece, test_piece, cast_piece}
 use Rattle.sj_desugar.specs.Desugar.{desugared_member, member}
+use Rattle.sj_desugar.specs.Plain.{is_no_type}
 use Rattle.sj_emit_expr.specs.Members.{member_piece}
 use Rattle.sj_emit_expr.specs.Templates.{member_name}
 use Rattle.sj_names.specs.MethodNames.{spelled_method}
@@ -88,6 +89,17 @@ pub record FunctionDeclared (z : Spread) (t : Top) (r : Running) (m : MemberName
   pub right : RightMember z.classes (z.has (z.home t)) m
   pub runs : running right.definition.namespace ≡ r
   pub function : Stands z t (member_piece (z.has (z.home t)).lookup m (desugared_member right.definition right.its_body)).item
+
+-- a member with this result is received: it runs on a receiver, or completes an object and has a value
+pub data Receives (t : IrType) : Running → Type 0 where
+  as_method : Receives t on_receiver
+  as_constructor : is_no_type t ≡ false → Receives t completing
+
+-- a member that is called on a receiver, with its function
+pub record ReceivedDeclared (z : Spread) (m : MemberName) : Type 0 where
+  pub how : Running
+  pub member : FunctionDeclared z (a_method m) how m
+  pub receives : Receives member.right.definition.result how
 
 -- a class that the code of some file has, its constants, to which its file leads, and its class with the constructor of its own fields, which extends
 -- this one, if there is one
@@ -312,7 +324,7 @@ pub record AreConstants (w : World) (ps : List Property) : Type 0 where
 pub record Declared (z : Spread) : Type 0 where
   pub leads : (f : Name) (t : Top) → is_named (z.has f) t ≡ true → Leads z f t
   pub linked : (f : Name) (m : MemberName) → (z.has f).linked m ≡ true → FunctionDeclared z (a_function m) alone m
-  pub received : (f : Name) (m : MemberName) → (z.has f).received m ≡ true → FunctionDeclared z (a_method m) on_receiver m
+  pub received : (f : Name) (m : MemberName) → (z.has f).received m ≡ true → ReceivedDeclared z m
   pub looked : (f c : Name) (m : MethodName) → can_look_up (z.has f) c m ≡ true → LookupDeclared z c m ((z.has f).lookup.has_hijacked c)
   pub dispatched : (f : Name) (m : MethodName) → (z.has f).dispatched m ≡ true → TellsApart z m
   pub on_arrays : (f : Name) (m : MethodName) → (z.has f).on_arrays m ≡ true → ArrayCallDeclared z m

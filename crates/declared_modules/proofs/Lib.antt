@@ -38,3 +38,4 @@ pub use Rattle.module_uses.proofs.One
 pub use Rattle.module_uses.proofs.There
 pub use Rattle.module_uses.proofs.ClosedPiecesUses
 pub use Rattle.module_uses.proofs.DeclaredFilesWhole
+pub use Rattle.module_uses.proofs.Soundness

@@ -8,7 +8,7 @@ use Rattle.module_uses.proofs.Tested.{kind_uses, cast_kind_uses}
 use Rattle.module_uses.proofs.Written.{divisors_fit}
 use Rattle.module_uses.proofs.Markers.{marked}
 use Rattle.module_uses.proofs.KindHelpers.{helpers_of}
-use Rattle.module_uses.specs.Declared.{Spread, all_items, Leads, FunctionDeclared, ClassDeclared, ChainDeclared, extends_none, extends_one, MadeDeclared, StaticDeclared, StoreDeclared, LoadDeclared, KindTestDeclared, ClassTestDeclared, by_marker, by_kind, TestDeclared, of_kind, of_class, KindCastDeclared, ClassCastDeclared, CastDeclared, to_kind, to_class, TargetDeclared, EntryDeclared, has_entry as entry_declared_here, has_none as no_entry_declared, CaseDeclared, DispatchDeclared, KindsDeclared, no_kinds, some_kinds, LookupDeclared, TellsApart, Uses as UsesTop, Makes as CanMake, ReflectedDeclared, ReflectedKind, no_case, has_case as has_case_declared, NoEntryDeclared, none_left, none_here, ProxyDeclared, proxy_here, AnswerDeclared, no_answer, has_answer, ReflectionDeclared, ArraysDeclared, ConstantsDeclared, ArrayCallDeclared, of_array, to_array}
+use Rattle.module_uses.specs.Declared.{Spread, all_items, Leads, FunctionDeclared, ReceivedDeclared, as_method, as_constructor, ClassDeclared, ChainDeclared, extends_none, extends_one, MadeDeclared, StaticDeclared, StoreDeclared, LoadDeclared, KindTestDeclared, ClassTestDeclared, by_marker, by_kind, TestDeclared, of_kind, of_class, KindCastDeclared, ClassCastDeclared, CastDeclared, to_kind, to_class, TargetDeclared, EntryDeclared, has_entry as entry_declared_here, has_none as no_entry_declared, CaseDeclared, DispatchDeclared, KindsDeclared, no_kinds, some_kinds, LookupDeclared, TellsApart, Uses as UsesTop, Makes as CanMake, ReflectedDeclared, ReflectedKind, no_case, has_case as has_case_declared, NoEntryDeclared, none_left, none_here, ProxyDeclared, proxy_here, AnswerDeclared, no_answer, has_answer, ReflectionDeclared, ArraysDeclared, ConstantsDeclared, ArrayCallDeclared, of_array, to_array}
 use Rattle.module_uses.specs.Placed.{placed}
 use Rattle.module_uses.proofs.Blocks.{method_there}
 use Rattle.module_uses.proofs.Cells.{CellThere, loaded_there, stored_there}
@@ -24,7 +24,7 @@ use Rattle.module_uses.proofs.Fields.{field_there, fields_kept, class_named}
 use Rattle.module_uses.proofs.Live.{classes_kept}
 use Rattle.module_uses.proofs.Members.{same-class, defined, has_function-from}
 use Rattle.module_uses.proofs.Parts.{uses_superclass, uses_constants}
-use Rattle.module_uses.proofs.Whole.{static_alone, received_runs, constructor_is, no_value, own_fields, whole_fields, method_of, Good, free, own, its, is_named, constants_here, class_of_its, class_here, super_good, live_good, made_is_live, entry_there, Needed, needed_static, variable_there, setter_there, class_test_there, class_cast_there, IsWritten, helper_written, helper_had, helper_listed, class_base_there, entry_called}
+use Rattle.module_uses.proofs.Whole.{static_alone, received_runs, constructor_is, no_value, with_value, own_fields, whole_fields, method_of, Good, free, own, its, is_named, constants_here, class_of_its, class_here, super_good, live_good, made_is_live, entry_there, Needed, needed_static, variable_there, setter_there, class_test_there, class_cast_there, IsWritten, helper_written, helper_had, helper_listed, class_base_there, entry_called}
 use Rattle.module_uses.specs.Accepted.{IsAccepted}
 use Rattle.module_uses.specs.Bodies.{AreBodies}
 use Rattle.module_uses.specs.Built.{can_look_up, Usable, has_static, has_cell, is_static, has_kind, has_no_value}
@@ -68,6 +68,7 @@ use Rattle.module_uses.proofs.Methods.{right_method}
 use Rattle.module_uses.proofs.Throwing.{exception_made, module_made}
 use Rattle.module_uses.specs.Rules.{RightMember}
 use Rattle.sj_desugar.specs.Desugar.{member}
+use Rattle.sj_desugar.specs.Plain.{is_no_type}
 use Rattle.sj_emit_expr.specs.Templates.{static_name}
 use Rattle.sj_emit_expr.specs.Tests.{test_name, cast_name}
 use Rattle.sj_emit_expr.specs.Uses.{object_binding, function_binding, class_use, static_use, setter_use, load_use, store_use, test_uses, cast_uses, looked_up_uses, call_uses, base_uses}
@@ -98,6 +99,10 @@ use Rattle.sj_world.specs.Laws.{IsPlain}
 use Rattle.sj_names.specs.declared.references.BaseRef.{BaseRef}
 use Rattle.sj_names.specs.Grammar.{is_class_name}
 use Rattle.sj_trees.specs.declared.classes.ClassDef.{ClassDef}
+
+valued : (t : IrType) → (t ≡ NoType → ⊥) → is_no_type t ≡ false
+valued NoType h = absurd (h refl)
+valued _ h = refl
 
 -- the binding at a top, with the class that owns it
 abbrev binding_of : Top → Binding
@@ -224,12 +229,15 @@ module _ (entries : List EntryPoint) (files : List SourceFile) (l : Linked) (all
       let c = code_in m r.1 (owner_stands f (function_binding m) q.1) alone (static_alone m.namespace r.0) in
       record { right = c.right; runs = c.runs; function = c.function }
 
-  received_declared : (f : Name) (m : Member) → (z.has f).received m ≡ true → FunctionDeclared z (a_method m) on_receiver m
+  received_declared : (f : Name) (m : Member) → (z.has f).received m ≡ true → ReceivedDeclared z m
   received_declared f m h =
       let q = and_parts (there.received m) (uses_in modules ps f (function_binding m)) h in
-      let r = and_parts (is_received m.namespace) (is_among written m.class && has_function all m) q.0 in
-      let c = code_in m r.1 (owner_stands f (function_binding m) q.1) on_receiver (received_runs m.namespace r.0) in
-      record { right = c.right; runs = c.runs; function = c.function }
+      let r = and_parts (is_received m) (is_among written m.class && has_function all m) q.0 in
+      let s = owner_stands f (function_binding m) q.1 in
+      elim (received_runs m.class m.namespace m.method r.0) [
+        | inl e ↦ let c = code_in m r.1 s on_receiver e in record { how = on_receiver; member = record { right = c.right; runs = c.runs; function = c.function }; receives = as_method }
+        | inr k ↦ let c = code_in m r.1 s completing k.0 in record { how = completing; member = record { right = c.right; runs = c.runs; function = c.function }; receives = as_constructor (valued c.right.definition.result (λ none. with_value m.method.result k.1 (sym c.right.result_is ∙ none))) }
+      ]
 
   built_declared : (f : Name) (m : Member) → (z.has f).built m ≡ true → (b : FunctionDeclared z (a_constructor m) completing m) × (b.right.definition.result ≡ NoType)
   built_declared f m h =

@@ -13,7 +13,6 @@ pub use Rattle.module_uses.specs.Verdicts
 pub use Rattle.module_uses.specs.Files
 pub use Rattle.module_uses.specs.Built
 pub use Rattle.module_uses.specs.Declared
-pub use Rattle.module_uses.specs.Edits
 pub use Rattle.module_uses.specs.Emitted
 pub use Rattle.module_uses.specs.RunningModulesLaws
 pub use Rattle.module_uses.specs.Link

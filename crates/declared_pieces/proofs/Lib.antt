@@ -56,3 +56,4 @@ pub use Rattle.object_helpers.proofs.LinkedEntriesOne
 pub use Rattle.object_helpers.proofs.Proxies
 pub use Rattle.file_declarations.proofs.ReflectedCases
 pub use Rattle.object_helpers.proofs.Stores
+pub use Rattle.object_helpers.proofs.BodyForms

@@ -1,5 +1,5 @@
 -- What the code of the written classes can use has its pieces.
-use Rattle.std.proofs.Common.{◌≡◌, ◌&&◌, ◌||◌, not, Bool, true, false, List, inl, inr, Option, Some, None, IsTrue, refl, sym, ap, subst, ◌∙◌}
+use Rattle.std.proofs.Common.{◌≡◌, ◌&&◌, ◌||◌, not, Bool, true, false, List, inl, inr, Option, Some, None, IsTrue, refl, sym, ap, subst, ◌∙◌, ◌⊎◌, if◌then◌else◌}
 use Rattle.std.specs.Prelude.{◌↔◌}
 use Rattle.std.specs.List.{Contains, filter, flat_map, list_any}
 use Rattle.std.proofs.lemmas.Bool.{and_parts, and_from, or_cases, or_left, or_right}
@@ -23,7 +23,7 @@ use Rattle.declared_pieces.proofs.Parts.{constants_among, statics_among, in_stat
 use Rattle.declared_pieces.proofs.Forms.{body_tells, test_form, cast_form, base_form}
 use Rattle.declared_pieces.specs.Closed.{IsClosed}
 use Rattle.declared_pieces.specs.Laws.{FindsEntry, TestThere, CastThere, BaseThere, WhatIsUsedHasPieces}
-use Rattle.file_declarations.specs.Declared.{alone, on_receiver, running}
+use Rattle.file_declarations.specs.Declared.{alone, on_receiver, running, completing}
 use Rattle.object_helpers.proofs.Facts.{made_known, called_known}
 use Rattle.object_helpers.specs.Entries.{AreEntries, IsLive}
 use Rattle.object_helpers.specs.Targets.{has_hijacked_in}
@@ -48,7 +48,7 @@ use Rattle.object_helpers.specs.Reachable.{Reachable}
 use Rattle.sj_names.proofs.Same.{impossible, text-same, text-refl}
 use Rattle.sj_names.specs.Grammar.{is_class_name}
 use Rattle.sj_names.specs.Same.{is_same_text}
-use Rattle.sj_names.specs.WellKnown.{object}
+use Rattle.sj_names.specs.WellKnown.{is_object, object}
 use Rattle.sj_names.specs.declared.entry_points.EntryPoint.{EntryPoint}
 use Rattle.sj_names.specs.declared.folders.SourceFile.{SourceFile}
 use Rattle.sj_names.specs.declared.method_names.Member.{Member}
@@ -80,13 +80,6 @@ static_alone Public h = impossible h
 static_alone Private h = impossible h
 static_alone Constructor h = impossible h
 
-pub received_runs : (n : Namespace) → is_received n ≡ true → running n ≡ on_receiver
-received_runs Public h = refl
-received_runs Private h = refl
-received_runs PublicStatic h = impossible h
-received_runs PrivateStatic h = impossible h
-received_runs Constructor h = impossible h
-
 pub constructor_is : (n : Namespace) → is_constructor n ≡ true → n ≡ Constructor
 constructor_is Constructor h = refl
 constructor_is Public h = impossible h
@@ -102,6 +95,14 @@ no_mark : (b : Bool) → not b ≡ true → b ≡ false
 no_mark true h = impossible h
 no_mark false h = refl
 
+-- a member that is received runs on a receiver, or completes an object and has a value
+pub received_runs : (c : Name) (n : Namespace) (m : MethodName) → is_received (record { class = c; namespace = n; method = m }) ≡ true → (running n ≡ on_receiver) ⊎ ((running n ≡ completing) × (has_no_value m.result ≡ false))
+received_runs c Public m h = inl refl
+received_runs c Private m h = inl refl
+received_runs c PublicStatic m h = impossible h
+received_runs c PrivateStatic m h = impossible h
+received_runs c Constructor m h = inr (refl, no_mark (has_no_value m.result) h)
+
 pub no_value : (r : Option TypeRef) → has_no_value r ≡ true → call_type r ≡ NoType
 no_value (Some References.Void) h = refl
 no_value (Some References.Boolean) h = impossible h
@@ -113,6 +114,15 @@ no_value (Some References.Long) h = impossible h
 no_value (Some (References.Class c)) h = impossible h
 no_value (Some (References.Array r)) h = impossible h
 no_value None h = impossible h
+
+pub with_value : (r : Option TypeRef) → has_no_value r ≡ false → call_type r ≡ NoType → ⊥
+with_value (Some References.Void) h e = impossible (sym h)
+with_value (Some (References.Class c)) h e = of_class (is_object c) e
+  where
+    of_class : (b : Bool) → (if b then IrType.Any else IrType.Class c) ≡ NoType → ⊥
+    of_class true e = cc
+    of_class false e = cc
+with_value _ h e = cc
 
 some_class : (a b : ClassDef) → ◌≡◌ {A = Option ClassDef} (Some a) (Some b) → a ≡ b
 some_class a b e = cc

@@ -11,3 +11,4 @@ pub use Rattle.linked_modules.proofs.LinkedFoldersEdits as Edits
 pub use Rattle.linked_modules.proofs.Edits as LinkedEdits
 pub use Rattle.linked_modules.proofs.Members as AcceptedFoldersMembers
 pub use Rattle.folder_judging.proofs.Firsts
+pub use Rattle.linked_modules.proofs.Verdict

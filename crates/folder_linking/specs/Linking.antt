@@ -12,21 +12,19 @@ use Rattle.sj_world.specs.Known.{Classes}
 use Rattle.sj_world.specs.Linked.{Linked}
 use Rattle.sj_reach.specs.Answers.{AreReachable}
 use Rattle.linked_modules.specs.Accepted.{IsAccepted}
-use Rattle.linked_modules.specs.LinkedFoldersEdits.{AreBuilt}
 use Rattle.js_mean.specs.Shows.{File}
 use Rattle.linked_modules.specs.LinkedFoldersLink.{ArePieces}
 use Rattle.linked_modules.specs.Link.{IsLink}
 use Rattle.plan_laws.specs.Laws.{AreCountable}
 use Rattle.sj_split.specs.declared.plans.Style.{Style}
 
--- the world of a folder of bytes that is accepted and whose needed bodies are built, with all that is reachable in it and its method entries
+-- the world of a folder of bytes that is accepted, with all that is reachable in it and its method entries
 pub record IsLinkable (entries : List EntryPoint) (l : Linked) : Type 0 where
   pub files : List SourceFile
   pub are_bytes : (file : SourceFile) → Contains files file → AreBytes file.bytes
   pub is_accepted : IsAccepted entries files l.world
   pub reached : AreReachable l.world entries l.facts
   pub method_entries : AreEntries l.world l.facts l.entries
-  pub built : AreBuilt l.world entries
 
 -- the pieces of the classes, which keep the rules of printing
 pub record ArePrintable (w : Classes) (entries : List EntryPoint) (pieces : List Piece) : Type 0 where

@@ -22,7 +22,7 @@ use sj_world::LinkedWorld;
 use std::alloc::Global;
 use world_pieces::world_pieces;
 
-/// The files of a folder that is accepted and whose needed bodies are of the forms that are built: those of the modules that are planned in the style
+/// The files of a folder that is accepted: those of the modules that are planned in the style
 /// for the pieces of its classes, in the order of their names. Each needed body is emitted once, by `work`. Want of memory is the only error.
 pub fn link<W: Workers>(
     alloc: Global,

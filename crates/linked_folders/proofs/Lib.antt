@@ -56,3 +56,4 @@ pub use Rattle.declared_pieces.proofs.Proxies
 pub use Rattle.declared_pieces.proofs.ReflectedCases
 pub use Rattle.declared_pieces.proofs.Stores
 pub use Rattle.declared_pieces.proofs.Classes
+pub use Rattle.declared_pieces.proofs.BodyForms

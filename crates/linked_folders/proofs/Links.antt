@@ -19,9 +19,8 @@ use Rattle.helper_rules.specs.declared.kinds.Failure.TheVariants.{Method}
 use Rattle.declared_pieces.proofs.Worlds.{judged}
 use Rattle.declared_pieces.specs.Accepted.{IsAccepted}
 use Rattle.declared_pieces.specs.Bodies.{AreBodies}
-use Rattle.declared_pieces.proofs.Written.{accepted_bodies}
 use Rattle.declared_pieces.specs.Written.{AreWrittenWith}
-use Rattle.declared_pieces.specs.Built.{Usable, is_object_body, has_built_body, not_built}
+use Rattle.declared_pieces.specs.Built.{Usable}
 use Rattle.declared_pieces.proofs.Blocks.{method_there, method_in_blocks, helper_there, own_pieces}
 use Rattle.declared_pieces.specs.BodySoundnessLaws.{IsClassBelow, made_below, kind_below, Answers, AnswersByName, no_method, has_method}
 use Rattle.declared_pieces.specs.ClassTestsKinds.{is_told}
@@ -72,7 +71,6 @@ use Rattle.declared_pieces.specs.Emitted.{EmittedMethod, initializer_member}
 use Rattle.declared_pieces.specs.Once.{DefinesOnce}
 use Rattle.declared_pieces.specs.Linked.{has_function}
 use Rattle.sj_split.proofs.Members.{at_first, further, cons_cases}
-use Rattle.sj_trees.specs.Term.{Term}
 use Rattle.sj_trees.specs.declared.classes.ClassDef.{ClassDef}
 use Rattle.sj_trees.specs.declared.classes.MethodDef.{MethodDef}
 use Rattle.sj_world.proofs.OnCycles.{among}
@@ -86,6 +84,7 @@ use Rattle.declared_pieces.proofs.Fields.{class_named}
 use Rattle.declared_pieces.proofs.Live.{classes_kept}
 use Rattle.linked_folders.proofs.Live.{live, are_live}
 use Rattle.linked_folders.specs.Laws.{WrittenPiecesRun}
+use Rattle.declared_pieces.proofs.BodyForms.{accepted_bodies}
 
 pub initializers_among : (id : List ℕ) (es : List EntryPoint) (e : EntryPoint) → Contains (initializers es id) e → Contains es e
 initializers_among id [] e h = nothing_in e h
@@ -99,7 +98,7 @@ initializers_among id (d ∷ es) e h = go (is_same_text id d.module) h (initiali
     go true i rest = later (cons_cases d e (initializers es id) i) rest
     go false i rest = further d e es (rest i)
 
-module _ (entries : List EntryPoint) (files : List SourceFile) (l : Linked) (all : List EmittedMethod) (ps : List Piece) (bytes : (file : SourceFile) → Contains files file → AreBytes file.bytes) (a : IsAccepted entries files l.world) (bodies : AreBodies l.world entries all) (exact : (f : Fact) → Contains l.facts f ↔ Reachable l.world entries f) (objects : (e : EmittedMethod) → Contains all e → is_object_body e.definition e.its_body ≡ true) (p : AreLinkedPieces l all ps) (methods : AreEntries l.world l.facts l.entries) (written : List Name) (owned : IsClosed ps written) where
+module _ (entries : List EntryPoint) (files : List SourceFile) (l : Linked) (all : List EmittedMethod) (ps : List Piece) (bytes : (file : SourceFile) → Contains files file → AreBytes file.bytes) (a : IsAccepted entries files l.world) (bodies : AreBodies l.world entries all) (exact : (f : Fact) → Contains l.facts f ↔ Reachable l.world entries f) (p : AreLinkedPieces l all ps) (methods : AreEntries l.world l.facts l.entries) (written : List Name) (owned : IsClosed ps written) where
   abbrev w : Classes
   w = l.world
 
@@ -287,7 +286,7 @@ module _ (entries : List EntryPoint) (files : List SourceFile) (l : Linked) (all
   run = record {
     reached = holds;
     whole = λ f. (exact f).1;
-    are_built = λ e i here. accepted_bodies entries files w l.facts all its_live p.helpers written a bodies uses e i here (objects e i);
+    are_built = λ e i here. accepted_bodies entries files w l.facts all its_live p.helpers written bytes a bodies uses e i here;
     closed = λ h g i u. (p.are_helpers.exact g).1 (by_helper h g ((p.are_helpers.exact h).0 i) u);
     thrown = thrown;
     listed = listed;
@@ -309,17 +308,9 @@ module _ (entries : List EntryPoint) (files : List SourceFile) (l : Linked) (all
   pub starts : (e : EntryPoint) → Contains entries e → Contains written e.class → has.linked (initializer_member e) ≡ true
   starts e i here = and_from (is_among written e.class) (has_function all (initializer_member e)) ((among written e.class).1 here) (entry w entries all bodies e i)
 
-not_false : (b : Bool) → not b ≡ false → b ≡ true
-not_false true e = refl
-not_false false e = sym e
-
--- the definition of a needed body is of the forms that are built, and so is its body
-pub body_built : (d : MethodDef) (t : Term) → d.body ≡ Some t → not_built d ≡ false → is_object_body d t ≡ true
-body_built d t has h = subst (λ (o : Option Term). has_built_body d o ≡ true) has (not_false (has_built_body d d.body) h)
-
 pub runs : WrittenPiecesRun
-runs entries files l all ps bytes a bodies exact objects p methods written owned = record {
-  live = its_live entries files l all ps bytes a bodies exact objects p methods written owned;
-  are_live = lives entries files l all ps bytes a bodies exact objects p methods written owned;
-  can_run = run entries files l all ps bytes a bodies exact objects p methods written owned;
+runs entries files l all ps bytes a bodies exact p methods written owned = record {
+  live = its_live entries files l all ps bytes a bodies exact p methods written owned;
+  are_live = lives entries files l all ps bytes a bodies exact p methods written owned;
+  can_run = run entries files l all ps bytes a bodies exact p methods written owned;
 }

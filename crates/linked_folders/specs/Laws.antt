@@ -1,10 +1,9 @@
 -- Laws of the pieces of accepted folders.
-use Rattle.std.specs.Prelude.{◌≡◌, ◌↔◌, true, List}
+use Rattle.std.specs.Prelude.{◌≡◌, ◌↔◌, List}
 use Rattle.std.specs.List.{Contains}
 use Rattle.file_listings.specs.Listed.{AreBytes}
 use Rattle.declared_pieces.specs.Accepted.{IsAccepted}
 use Rattle.declared_pieces.specs.Bodies.{AreBodies}
-use Rattle.declared_pieces.specs.Built.{is_object_body}
 use Rattle.declared_pieces.specs.Closed.{IsClosed}
 use Rattle.declared_pieces.specs.Emitted.{EmittedMethod}
 use Rattle.declared_pieces.specs.Entries.{AreEntries, IsLive}
@@ -29,14 +28,13 @@ pub record Runs (entries : List EntryPoint) (l : Linked) (all : List EmittedMeth
   pub are_live : (c : Name) → Contains live c ↔ IsLive l.world l.facts c
   pub can_run : CanRun l.world entries l.facts all live p.helpers written
 
--- of the pieces of an accepted folder whose needed bodies are of the forms that are built, what is written can run, where it uses nothing but what is written
+-- of the pieces of an accepted folder, what is written can run, where it uses nothing but what is written
 abbrev pub WrittenPiecesRun : Type 0
 WrittenPiecesRun = (entries : List EntryPoint) (files : List SourceFile) (l : Linked) (all : List EmittedMethod) (ps : List Piece)
     → ((file : SourceFile) → Contains files file → AreBytes file.bytes)
     → IsAccepted entries files l.world
     → AreBodies l.world entries all
     → ((f : Fact) → Contains l.facts f ↔ Reachable l.world entries f)
-    → ((e : EmittedMethod) → Contains all e → is_object_body e.definition e.its_body ≡ true)
     → (p : AreLinkedPieces l all ps)
     → AreEntries l.world l.facts l.entries
     → (written : List Name)

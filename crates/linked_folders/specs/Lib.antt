@@ -1,5 +1,4 @@
 pub mod Link
-pub mod Edits
 pub mod Laws
 pub use Rattle.declared_pieces.specs.Stages
 pub use Rattle.declared_pieces.specs.Emitted

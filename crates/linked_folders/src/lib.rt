@@ -10,7 +10,7 @@ pub fn pieces_are_one()
     ensures { PiecesAreOne }
 {}
 
-/// Take the pieces of an accepted folder each of whose needed bodies is of the forms that are built, and classes that own all that their pieces use. Then what is written of
+/// Take the pieces of an accepted folder, and classes that own all that their pieces use. Then what is written of
 /// these classes can run: each body is built with what is there, helpers have those that they use, and what they throw can be made.
 pub fn written_pieces_run()
     ensures { WrittenPiecesRun }

@@ -4,6 +4,7 @@ pub mod Whole
 pub mod Graphs
 pub mod One
 pub mod Edits
+pub mod Never
 pub use Rattle.declared_modules.proofs.Blocks
 pub use Rattle.declared_modules.proofs.Calls
 pub use Rattle.declared_modules.proofs.Edits as LinkedFoldersEdits
@@ -17,3 +18,4 @@ pub use Rattle.declared_modules.proofs.Uses
 pub use Rattle.declared_modules.proofs.AcceptedFoldersWorlds as Worlds
 pub use Rattle.declared_modules.proofs.Written
 pub use Rattle.declared_modules.proofs.Entries
+pub use Rattle.declared_modules.proofs.Verdict

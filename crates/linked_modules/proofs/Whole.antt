@@ -12,15 +12,13 @@ use Rattle.declared_modules.specs.Placed.{RunsLast, placed}
 use Rattle.declared_modules.proofs.Whole.{modules_declare}
 use Rattle.declared_modules.specs.Spread.{spread_of, AllStand, DeclaresConstants}
 use Rattle.declared_modules.proofs.Assembled.{laws_of}
-use Rattle.declared_modules.proofs.Calls.{needed}
 use Rattle.declared_modules.proofs.Derivations.{closed as closed_under}
 use Rattle.declared_modules.proofs.Judged.{judged_plain}
-use Rattle.declared_modules.proofs.Members.{defined}
 use Rattle.declared_modules.proofs.Worlds.{carry, link_right}
 use Rattle.declared_modules.proofs.AcceptedFoldersWorlds.{judged}
 use Rattle.declared_modules.specs.Accepted.{IsAccepted}
 use Rattle.declared_modules.specs.Bodies.{AreBodies}
-use Rattle.declared_modules.specs.Built.{Usable, is_object_body}
+use Rattle.declared_modules.specs.Built.{Usable}
 use Rattle.declared_modules.specs.Closed.{IsClosed}
 use Rattle.declared_modules.specs.Emitted.{EmittedMethod, initializer_member}
 use Rattle.declared_modules.specs.Pieces.{AreLinkedPieces}
@@ -35,7 +33,6 @@ use Rattle.js_mean.specs.States.{Program}
 use Rattle.js_tree.specs.Terms.{Name, Item, Piece}
 use Rattle.js_tree.specs.declared.items.Binding.{Binding}
 use Rattle.declared_modules.proofs.Links as links
-use Rattle.declared_modules.specs.Edits.{AreBuilt}
 use Rattle.declared_modules.specs.Link.{ArePieces}
 use Rattle.declared_modules.proofs.FromLinked.{linked_pieces_are_proper}
 use Rattle.declared_modules.proofs.Reached.{reached_files_are_good}
@@ -82,7 +79,7 @@ use Rattle.linked_modules.specs.Laws.{LinkedModulesAgree}
 one_file : (f g : Name) → Some f ≡ Some g → f ≡ g
 one_file f g e = cc
 
-module _ (entries : List EntryPoint) (files : List SourceFile) (l : Linked) (all : List EmittedMethod) (ps : List Piece) (bytes : (file : SourceFile) → Contains files file → AreBytes file.bytes) (a : IsAccepted entries files l.world) (bodies : AreBodies l.world entries all) (exact : (f : Fact) → Contains l.facts f ↔ Reachable l.world entries f) (objects : (e : EmittedMethod) → Contains all e → is_object_body e.definition e.its_body ≡ true) (p : AreLinkedPieces l all ps) (methods : AreMethodEntries l.world l.facts l.entries)
+module _ (entries : List EntryPoint) (files : List SourceFile) (l : Linked) (all : List EmittedMethod) (ps : List Piece) (bytes : (file : SourceFile) → Contains files file → AreBytes file.bytes) (a : IsAccepted entries files l.world) (bodies : AreBodies l.world entries all) (exact : (f : Fact) → Contains l.facts f ↔ Reachable l.world entries f) (p : AreLinkedPieces l all ps) (methods : AreMethodEntries l.world l.facts l.entries)
     (uses : (q : Piece) → Contains ps q → (b : Binding) → Contains q.uses b → IsDeclared ps b) (graph : Graph) (style : Style) (modules : List PlannedModule) (valid : AreEntries entries) (countable : AreCountable graph entries) (is_graph : IsGraph ps graph) (is : IsPlan sha1_digest graph entries style modules) (id : Id) (entered : Contains (map module_of entries) id) where
   abbrev w : Classes
   w = l.world
@@ -136,16 +133,16 @@ module _ (entries : List EntryPoint) (files : List SourceFile) (l : Linked) (all
   owned = written_closed modules ps order stands whole first
 
   abbrev its_live : List Name
-  its_live = links.its_live entries files l all ps bytes a bodies exact objects p methods written owned
+  its_live = links.its_live entries files l all ps bytes a bodies exact p methods written owned
 
   abbrev has : Usable
-  has = links.has entries files l all ps bytes a bodies exact objects p methods written owned
+  has = links.has entries files l all ps bytes a bodies exact p methods written owned
 
   run : CanRun w entries l.facts all its_live p.helpers written
-  run = links.run entries files l all ps bytes a bodies exact objects p methods written owned
+  run = links.run entries files l all ps bytes a bodies exact p methods written owned
 
   proper : AreProper modules ps
-  proper = linked_pieces_are_proper l all ps modules (links.named entries files l all ps bytes a bodies exact objects p methods written owned) (links.once entries files l all ps bytes a bodies exact objects p methods written owned) p closed
+  proper = linked_pieces_are_proper l all ps modules (links.named entries files l all ps bytes a bodies exact p methods written owned) (links.once entries files l all ps bytes a bodies exact p methods written owned) p closed
 
   abbrev z : Spread
   z = spread_of modules ps w has runs_last.front last own_items
@@ -161,15 +158,15 @@ module _ (entries : List EntryPoint) (files : List SourceFile) (l : Linked) (all
       in_last e = item_in_last program runs_last.front last own_items q.item (into_map item_of (filter (is_owned_in (file_with modules) last) ps) q (into_filter (is_owned_in (file_with modules) last) ps q i (is_it last (file_with modules q.owner) e)))
 
       go : Contains runs_last.front f ⊎ (last ≡ f) → Contains (all_items z) (placed f q.item)
-      go (inl j) = item_in_front program runs_last.front last own_items f q.item j (item_at sha1_digest graph entries style modules files l all ps bytes a (λ g. (exact g).0) p (links.extends entries files l all ps bytes a bodies exact objects p methods written owned) valid keep is_graph is closed q f i is_in)
+      go (inl j) = item_in_front program runs_last.front last own_items f q.item j (item_at sha1_digest graph entries style modules files l all ps bytes a (λ g. (exact g).0) p (links.extends entries files l all ps bytes a bodies exact p methods written owned) valid keep is_graph is closed q f i is_in)
       go (inr e) = subst (λ (g : Name). Contains (all_items z) (placed g q.item)) e (in_last (is_in ∙ ap Some (sym e)))
 
   -- the objects of those files are constants of classes
   marks : DeclaresConstants z
-  marks g x qs i = modules_declare_constants sha1_digest graph entries style modules files l all ps bytes a (λ f. (exact f).0) p (links.extends entries files l all ps bytes a bodies exact objects p methods written owned) valid keep is_graph is closed there.planned there.among runs_last.front runs_last.order g x qs i
+  marks g x qs i = modules_declare_constants sha1_digest graph entries style modules files l all ps bytes a (λ f. (exact f).0) p (links.extends entries files l all ps bytes a bodies exact p methods written owned) valid keep is_graph is closed there.planned there.among runs_last.front runs_last.order g x qs i
 
   declared : Declared z
-  declared = modules_declare entries files l all its_live written modules ps runs_last.front last own_items bytes a bodies p methods (links.lives entries files l all ps bytes a bodies exact objects p methods written owned) run owned (links.extends entries files l all ps bytes a bodies exact objects p methods written owned) proper.together whole all_stand marks
+  declared = modules_declare entries files l all its_live written modules ps runs_last.front last own_items bytes a bodies p methods (links.lives entries files l all ps bytes a bodies exact p methods written owned) run owned (links.extends entries files l all ps bytes a bodies exact p methods written owned) proper.together whole all_stand marks
 
   lawful : IsLawful z has
   lawful = record {
@@ -185,7 +182,7 @@ module _ (entries : List EntryPoint) (files : List SourceFile) (l : Linked) (all
   initializer_linked : (e : EntryPoint) → Contains (initializers entries id) e → (z.has last).linked (initializer_member e) ≡ true
   initializer_linked e i =
       and_from (has.linked (initializer_member e)) (uses_in modules ps last (called e))
-      (links.starts entries files l all ps bytes a bodies exact objects p methods written owned e (links.initializers_among id entries e i) (use_written modules ps order stands whole first last (called e) last_runs (calls e i)))
+      (links.starts entries files l all ps bytes a bodies exact p methods written owned e (links.initializers_among id entries e i) (use_written modules ps order stands whole first last (called e) last_runs (calls e i)))
       ((used_there modules ps last (called e)).1 (calls e i))
 
   public : IsPublic z id (initializers entries id)
@@ -194,7 +191,7 @@ module _ (entries : List EntryPoint) (files : List SourceFile) (l : Linked) (all
     order = runs_last.order;
     good = reached_files_are_good modules ps proper there.planned there.among;
     items = modules_have_their_items sha1_digest graph entries style modules ps keep is there.planned there.among ∙ ap (λ (es : List EntryPoint). own_items ++ map call_item_of es) there.calls;
-    declares = modules_declare_in_order sha1_digest graph entries style modules files l all ps bytes a (λ f. (exact f).0) p (links.extends entries files l all ps bytes a bodies exact objects p methods written owned) valid keep is_graph is closed there.planned there.among runs_last.front runs_last.order;
+    declares = modules_declare_in_order sha1_digest graph entries style modules files l all ps bytes a (λ f. (exact f).0) p (links.extends entries files l all ps bytes a bodies exact p methods written owned) valid keep is_graph is closed there.planned there.among runs_last.front runs_last.order;
     linked = initializer_linked;
   }
 
@@ -207,10 +204,10 @@ module _ (entries : List EntryPoint) (files : List SourceFile) (l : Linked) (all
 
 -- what is shown of the classes that these pieces are of
 abbrev Agreed : List EntryPoint → List SourceFile → Id → List File → List EmittedMethod → List Fact → Classes → Type 0
-Agreed entries files id link_files all facts w = IsAccepted entries files w → AreBuilt w entries → AreBodies w entries all → ((f : Fact) → Contains facts f ↔ Reachable w entries f) → Agrees w entries link_files id
+Agreed entries files id link_files all facts w = IsAccepted entries files w → AreBodies w entries all → ((f : Fact) → Contains facts f ↔ Reachable w entries f) → Agrees w entries link_files id
 
 pub linked_modules_agree : LinkedModulesAgree
-linked_modules_agree entries files w style id link_files bytes a valid built link countable entered = subst (Agreed entries files id link_files pieces.all pieces.facts) pieces.is_linked.world at_linked a built pieces.bodies pieces.are_facts
+linked_modules_agree entries files w style id link_files bytes a valid link countable entered = subst (Agreed entries files id link_files pieces.all pieces.facts) pieces.is_linked.world at_linked a pieces.bodies pieces.are_facts
   where
     pieces : ArePieces w entries link.pieces
     pieces = link.are_pieces
@@ -222,4 +219,4 @@ linked_modules_agree entries files w style id link_files bytes a valid built lin
     its_methods = subst (λ (fs : List Fact). AreMethodEntries l.world fs l.entries) (sym pieces.is_linked.facts_are) (subst (λ (x : Classes). AreMethodEntries x pieces.facts l.entries) (sym pieces.is_linked.world) pieces.is_linked.entries)
 
     at_linked : Agreed entries files id link_files pieces.all pieces.facts l.world
-    at_linked accepted forms bodies facts = files_show entries files l pieces.all link.pieces bytes accepted bodies (subst (λ (fs : List Fact). (f : Fact) → Contains fs f ↔ Reachable l.world entries f) (sym pieces.is_linked.facts_are) facts) (λ e i. links.body_built e.definition e.its_body (bodies.found e i).has_body (forms e.member e.definition (needed l.world entries pieces.all bodies e i) (defined l.world e.member e.definition (bodies.found e i).found))) pieces.are its_methods (uses_are_declared entries files w link.pieces bytes a built pieces) link.graph style link.plan valid countable link.is_graph link.is_plan id entered link_files link.files_are
+    at_linked accepted bodies facts = files_show entries files l pieces.all link.pieces bytes accepted bodies (subst (λ (fs : List Fact). (f : Fact) → Contains fs f ↔ Reachable l.world entries f) (sym pieces.is_linked.facts_are) facts) pieces.are its_methods (uses_are_declared entries files w link.pieces bytes a pieces) link.graph style link.plan valid countable link.is_graph link.is_plan id entered link_files link.files_are

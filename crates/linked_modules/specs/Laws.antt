@@ -1,11 +1,13 @@
 -- Laws of links with several public modules.
-use Rattle.std.specs.Prelude.{◌≡◌, List, map}
+use Rattle.std.specs.Prelude.{◌≡◌, ℕ, List, map}
 use Rattle.std.specs.List.{Contains}
 use Rattle.declared_modules.specs.Accepted.{IsAccepted}
-use Rattle.declared_modules.specs.Verdicts.{Verdict}
 use Rattle.file_listings.specs.Listed.{AreBytes}
+use Rattle.ir_mean.specs.Shows.{ir_shows}
 use Rattle.js_mean.specs.Shows.{File}
-use Rattle.declared_modules.specs.Edits.{AreBuilt}
+use Rattle.js_tree.specs.Terms.{Piece}
+use Rattle.declared_modules.specs.Link.{ArePieces}
+use Rattle.outcomes.specs.Agreement.{IsNotWrong}
 use Rattle.plan_laws.specs.Laws.{AreCountable}
 use Rattle.sj_agree.specs.Agrees.{Agrees}
 use Rattle.sj_names.specs.EntryPoints.{AreEntries}
@@ -16,16 +18,15 @@ use Rattle.sj_split.specs.Modules.{module_of}
 use Rattle.sj_split.specs.Walks.{Id}
 use Rattle.sj_split.specs.declared.plans.Style.{Style}
 use Rattle.sj_world.specs.Known.{Classes}
-use Rattle.linked_modules.specs.Edits.{IsEditVerdict, IsLinkOf, IsWork}
+use Rattle.linked_modules.specs.Edits.{IsLinkOf, IsWork}
 use Rattle.linked_modules.specs.Link.{IsLink}
 
--- the files that an accepted folder is linked to show of each public module what the folder's classes show, where each needed body is built
+-- the files that an accepted folder is linked to show of each public module what the folder's classes show
 abbrev pub LinkedModulesAgree : Type 0
 LinkedModulesAgree = (entries : List EntryPoint) (files : List SourceFile) (w : Classes) (style : Style) (id : Id) (links : List File)
     → ((file : SourceFile) → Contains files file → AreBytes file.bytes)
     → IsAccepted entries files w
     → AreEntries entries
-    → AreBuilt w entries
     → (link : IsLink w entries style links)
     → AreCountable link.graph entries
     → Contains (map module_of entries) id
@@ -41,10 +42,6 @@ LinkIsOne = (entries : List EntryPoint) (files : List SourceFile) (w : Classes) 
     → IsLink w entries style other
     → one ≡ other
 
--- an edit has one verdict at most
-abbrev pub EditVerdictIsOne : Type 0
-EditVerdictIsOne = (entries : List EntryPoint) (files : List SourceFile) (v u : Verdict) → IsEditVerdict entries files v → IsEditVerdict entries files u → v ≡ u
-
 -- a folder is linked to one list of files at most in each style
 abbrev pub FolderLinkIsOne : Type 0
 FolderLinkIsOne = (entries : List EntryPoint) (files : List SourceFile) (style : Style) (one other : List File)
@@ -57,12 +54,19 @@ FolderLinkIsOne = (entries : List EntryPoint) (files : List SourceFile) (style :
 abbrev pub WorkIsOne : Type 0
 WorkIsOne = (entries : List EntryPoint) (files : List SourceFile) (one other : Meter) → IsWork entries files one → IsWork entries files other → one ≡ other
 
--- the files that a folder is linked to show of each public module what the folder's classes show, where each needed body is built
+-- the files that a folder is linked to show of each public module what the folder's classes show
 abbrev pub LinkedFoldersAgree : Type 0
 LinkedFoldersAgree = (entries : List EntryPoint) (files : List SourceFile) (style : Style) (id : Id) (links : List File)
     → ((file : SourceFile) → Contains files file → AreBytes file.bytes)
     → AreEntries entries
     → (linked : IsLinkOf entries files style links)
-    → AreBuilt linked.world entries
     → Contains (map module_of entries) id
     → Agrees linked.world entries links id
+
+-- what the classes of an accepted folder show of a public module is wrong at no bound, where they have pieces
+abbrev pub AcceptedFoldersAreNeverWrong : Type 0
+AcceptedFoldersAreNeverWrong = (entries : List EntryPoint) (files : List SourceFile) (w : Classes) (ps : List Piece) (id : Id) (n : ℕ)
+    → ((file : SourceFile) → Contains files file → AreBytes file.bytes)
+    → IsAccepted entries files w
+    → ArePieces w entries ps
+    → IsNotWrong (ir_shows w entries id n).end

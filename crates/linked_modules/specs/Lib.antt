@@ -3,6 +3,5 @@ pub mod Edits
 pub mod Laws
 pub use Rattle.declared_modules.specs.Accepted
 pub use Rattle.declared_modules.specs.Bodies
-pub use Rattle.declared_modules.specs.Edits as LinkedFoldersEdits
 pub use Rattle.declared_modules.specs.Link as LinkedFoldersLink
 pub use Rattle.declared_modules.specs.Files

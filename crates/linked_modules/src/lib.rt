@@ -1,14 +1,14 @@
 //! The files of the modules that are planned for the pieces of an accepted folder, what they show of each public module, and what an edit comes to.
 //!
-//! `specs/` says which files those are, and what the verdict on an edit and its work are. The functions here are laws: they do nothing when they run, and
+//! `specs/` says which files those are, and what the work of an edit is. The functions here are laws: they do nothing when they run, and
 //! their clauses are theorems.
 #![tactic(auto)]
 
-ghost use Rattle.linked_modules.specs.Laws.{EditVerdictIsOne, FolderLinkIsOne, LinkIsOne, LinkedFoldersAgree, LinkedModulesAgree, WorkIsOne};
+ghost use Rattle.linked_modules.specs.Laws.{AcceptedFoldersAreNeverWrong, FolderLinkIsOne, LinkIsOne, LinkedFoldersAgree, LinkedModulesAgree, WorkIsOne};
 
 /// The theorem on links with several public modules. The files that an accepted folder is linked to, in either style, show of each public module
-/// what the folder's classes show, where each needed body is of the forms that are built: what the one shows within any bound the other shows within
-/// some bound, and the other way round, and neither is wrong at any bound.
+/// what the folder's classes show: what the one shows within any bound the other shows within some bound, and the other way round, and neither is
+/// wrong at any bound.
 pub fn linked_modules_agree()
     ensures { LinkedModulesAgree }
 {}
@@ -16,11 +16,6 @@ pub fn linked_modules_agree()
 /// The classes of an accepted folder are linked to one list of files at most in each style.
 pub fn link_is_one()
     ensures { LinkIsOne }
-{}
-
-/// An edit has one verdict at most.
-pub fn edit_verdict_is_one()
-    ensures { EditVerdictIsOne }
 {}
 
 /// A folder is linked to one list of files at most in each style.
@@ -33,8 +28,12 @@ pub fn work_is_one()
     ensures { WorkIsOne }
 {}
 
-/// The files that a folder is linked to show of each public module what the folder's classes show, where each needed body is of the forms that are
-/// built.
+/// The files that a folder is linked to show of each public module what the folder's classes show.
 pub fn linked_folders_agree()
     ensures { LinkedFoldersAgree }
+{}
+
+/// What the classes of an accepted folder show of a public module is wrong at no bound, where they have pieces, in however many modules these are put.
+pub fn accepted_folders_are_never_wrong()
+    ensures { AcceptedFoldersAreNeverWrong }
 {}

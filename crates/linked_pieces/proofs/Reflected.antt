@@ -10,7 +10,7 @@ use Rattle.sj_sound.specs.Entries.{IsTarget, IsReflective}
 use Rattle.sj_names.specs.declared.method_names.MethodName.{MethodName}
 use Rattle.sj_sound.proofs.Owners.{one_owner}
 use Rattle.sj_split.proofs.Unique.{never_both}
-use Rattle.sj_world.specs.Known.{Name, Classes}
+use Rattle.sj_world.specs.Known.{Classes}
 use Rattle.sj_world.specs.Linked.{Linked}
 use Rattle.sj_world.specs.declared.facts.Fact.{Fact}
 use Rattle.sj_world.specs.declared.facts.Fact.TheVariants as fact

@@ -33,10 +33,10 @@ use Rattle.sj_sound.specs.Dispatch.{dispatch_name, reflective_name}
 abbrev pub is_among : List Name → Name → Bool
 is_among names name = list_any (is_same_text name) names
 
-abbrev pub is_received : Namespace → Bool
-is_received Public = true
-is_received Private = true
-is_received _ = false
+abbrev pub is_instance : Namespace → Bool
+is_instance Public = true
+is_instance Private = true
+is_instance _ = false
 
 abbrev pub is_constructor : Namespace → Bool
 is_constructor Constructor = true
@@ -44,6 +44,10 @@ is_constructor _ = false
 
 abbrev pub is_constructor_without_value : Member → Bool
 is_constructor_without_value m = is_constructor m.namespace && has_no_value m.method.result
+
+-- a member that is called on a receiver for what it gives: any but a static one and a constructor without a value
+abbrev pub is_received : Member → Bool
+is_received m = is_instance m.namespace || is_constructor m.namespace && not (has_no_value m.method.result)
 
 -- an instance field of this name and type
 abbrev pub is_its_field : Name → IrType → FieldDef → Bool
@@ -173,7 +177,7 @@ abbrev pub used_of : Classes → List Fact → List EmittedMethod → List Name 
 used_of w facts all live helpers written = record {
   linked = λ m. is_static m.namespace && (is_among written m.class && has_function all m);
   lookup = lookup_in w;
-  received = λ m. is_received m.namespace && (is_among written m.class && has_function all m);
+  received = λ m. is_received m && (is_among written m.class && has_function all m);
   looked_up = λ c m. list_any (calls_on c m) facts && (not (has_hijacked_in w c) || tells_apart w facts all written m);
   dispatched = tells_apart w facts all written;
   reflected = calls_by_name w all written;

@@ -35,11 +35,11 @@ module _ (has : Usable) (uses : Binding → Bool) where
   abbrev IsUsed : Binding → Type 0
   IsUsed b = uses b ≡ true
 
-  received_gives : (c : List ℕ) (n : Namespace) (m : MethodName) → GivesReceived IsUsed has.lookup has here n c m
-  received_gives c Constructor m = and_from (has.built (member c Constructor m)) (uses (function_binding (member c Constructor m)))
-  received_gives c Public m = and_from (has.received (has.lookup.target (member c Public m))) (uses (function_binding (has.lookup.target (member c Public m))))
-  received_gives c Private m = and_from (has.received (member c Private m)) (uses (function_binding (member c Private m)))
-  received_gives c n m = tt
+  received_gives : (c : List ℕ) (n : Namespace) (m : MethodName) (t : IrType) → GivesReceived IsUsed has.lookup has here n c m t
+  received_gives c Constructor m t = (and_from (has.built (member c Constructor m)) (uses (function_binding (member c Constructor m))), λ value. and_from (has.received (member c Constructor m)) (uses (function_binding (member c Constructor m))))
+  received_gives c Public m t = and_from (has.received (has.lookup.target (member c Public m))) (uses (function_binding (has.lookup.target (member c Public m))))
+  received_gives c Private m t = and_from (has.received (member c Private m)) (uses (function_binding (member c Private m)))
+  received_gives c n m t = tt
 
   -- all that these name is used
   all_used : (bs : List Binding) → All IsUsed bs → list_all uses bs ≡ true
@@ -70,8 +70,8 @@ module _ (has : Usable) (uses : Binding → Bool) where
   module _ (e : Term) (fit : DivisorsFit e) where
     gives : (t : Term) → Contains (trees e) t → Gives IsUsed has.lookup has here t
     gives (apply_static p c n m ts t) i = and_from (has.linked (member c n m)) (uses (function_binding (member c n m)))
-    gives (apply p d m ts t) i = (λ c same. received_gives c Public m, (λ c same. looked_gives c m, (λ same h. h, λ n h u. and_from (has.reflected m) (list_all uses (call_uses has.lookup (callees.Reflective m))) h (all_used (call_uses has.lookup (callees.Reflective m)) u))))
-    gives (apply_statically p d c n m ts t) i = received_gives c n m
+    gives (apply p d m ts t) i = (λ c same. received_gives c Public m t, (λ c same. looked_gives c m, (λ same h. h, λ n h u. and_from (has.reflected m) (list_all uses (call_uses has.lookup (callees.Reflective m))) h (all_used (call_uses has.lookup (callees.Reflective m)) u))))
+    gives (apply_statically p d c n m ts t) i = received_gives c n m t
     gives (new_object p c m ts) i = λ h k f u. (and_from (has.built (member c Constructor m)) (uses (function_binding (member c Constructor m))) k f, and_from (has.made c) (uses (class_use c)) h u)
     gives (select p d c f t) i = λ h. h
     gives (select_static p c f t) i = (and_from (has.static_field c f t) (uses (static_use c f)), and_from (has.static_setter c f t) (uses (setter_use c f)))

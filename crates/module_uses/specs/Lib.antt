@@ -22,7 +22,6 @@ pub use Rattle.running_modules.specs.Used as LinkedPiecesUsed
 pub use Rattle.running_modules.specs.Verdicts
 pub use Rattle.running_modules.specs.Files
 pub use Rattle.running_modules.specs.Settings
-pub use Rattle.running_modules.specs.Edits
 pub use Rattle.running_modules.specs.Laws as RunningModulesLaws
 pub use Rattle.running_modules.specs.Link
 pub use Rattle.running_modules.specs.ClassTestsKinds

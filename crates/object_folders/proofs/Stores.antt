@@ -7,7 +7,7 @@ use Rattle.linked_entries.specs.Kept.{KeepsTreeRules}
 use Rattle.linked_entries.proofs.Lists.{nothing_in, in_front_or_behind, at_front, further_on}
 use Rattle.sj_infos.specs.Trees.{trees, below as trees_below, all_below as all_trees_below, cases_below as cases_trees_below}
 use Rattle.sj_local.specs.Nodes.{Context, Node, node, nodes, inside, in_a_block, with_local, with_label, caught, behind, below, statements_below, all_below, cases_below}
-use Rattle.sj_local.specs.TreeRules.{breaks, breaks_store, is_module_constructor, is_this, body_nodes, method_nodes, outermost}
+use Rattle.sj_local.specs.TreeRules.{breaks, breaks_store, breaks_target, is_module_constructor, is_target, is_this, body_nodes, method_nodes, outermost}
 use Rattle.sj_local.specs.declared.rules.Rule.TheVariants as rules
 use Rattle.sj_names.proofs.Same.{impossible, text-same}
 use Rattle.sj_names.specs.Same.{is_same_text}
@@ -98,6 +98,21 @@ own_name c space p k e t is h =
     not_broken : (b : Bool) → not b ≡ false → b ≡ true
     not_broken true e = refl
     not_broken false e = impossible (sym e)
+
+-- a method that keeps the rules on trees assigns to variables, fields and items alone
+pub targets_kept : (c : ClassDef) (d : MethodDef) (t : Term) → d.body ≡ Some t → KeepsTreeRules c d → (p : Position) (a e : Term) → Contains (trees t) (assign p a e) → is_target a ≡ true
+targets_kept c d t has kept p a e i =
+    let xs = nodes (outermost d) t in
+    let among : Contains (map tree_of xs) (assign p a e) = subst (λ (l : List Term). Contains l (assign p a e)) (sym (under (outermost d) (inside (outermost d)) t (same_below (inside (outermost d)) t))) i in
+    let found = has_node xs (assign p a e) among in
+    is_kept found.there.tree found.tree_is (none-passes (breaks rules.Target c d.namespace) (method_nodes d) kept.target found.there (subst (λ (b : Option Term). Contains (body_nodes d b) found.there) (sym has) found.among))
+  where
+    not_broken : (b : Bool) → not b ≡ false → b ≡ true
+    not_broken true e = refl
+    not_broken false e = impossible (sym e)
+
+    is_kept : (u : Term) → u ≡ assign p a e → breaks_target u ≡ false → is_target a ≡ true
+    is_kept u is h = not_broken (is_target a) (subst (λ (v : Term). breaks_target v ≡ false) is h)
 
 -- a method that keeps the rules on trees stores no module but that of its class
 pub stores_own : (c : ClassDef) (d : MethodDef) (t : Term) → d.body ≡ Some t → KeepsTreeRules c d → (p : Position) (k : Name) (e : Term) → Contains (trees t) (store_module p k e) → k ≡ c.name

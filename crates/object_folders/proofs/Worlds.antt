@@ -54,7 +54,7 @@ pub carry : AcceptedFoldersCarryObjects
 carry entries files w facts all live helpers written bytes a bodies run = record {
   kept = kept;
   acyclic = a.world.no_cycle;
-  received = member_right entries files w facts all live helpers written bytes a bodies run (λ m. is_received m.namespace);
+  received = member_right entries files w facts all live helpers written bytes a bodies run is_received;
   targets = λ m h. targets_run w (topped w (plain_world w kept.superclass kept.hijacked)) m;
   looked = run.looked;
   on_arrays = run.on_arrays;

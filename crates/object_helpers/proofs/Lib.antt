@@ -53,3 +53,4 @@ pub use Rattle.proper_pieces.proofs.Apart
 pub use Rattle.body_uses.proofs.LinkedEntriesOne
 pub use Rattle.body_uses.proofs.Proxies
 pub use Rattle.body_uses.proofs.Stores
+pub use Rattle.body_uses.proofs.Forms as BodyForms

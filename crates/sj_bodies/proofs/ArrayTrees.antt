@@ -35,7 +35,7 @@ use Rattle.sj_bodies.specs.Fine.{FitsIn}
 use Rattle.sj_bodies.proofs.Contexts.{Context, Writes, Sound, Ahead, ready-lift, keeps-less, let_go, Came, gave}
 use Rattle.sj_bodies.proofs.Forms.{of_operands}
 use Rattle.sj_bodies.proofs.ObjectTrees.{expression_does, receiver_piece, received-type, sure_run}
-use Rattle.sj_bodies.proofs.Spills.{Does, Final, OperandDoes, OperandsDo, runs, operands_in, types}
+use Rattle.sj_bodies.proofs.Spills.{Does, Final, OperandDoes, OperandsDo, operands_in, types}
 use Rattle.sj_bodies.proofs.Statements.{valued_done, throws-on, ends-one, Ends}
 use Rattle.sj_bodies.proofs.Trees.{LowAlike, piece, list_of, operands-list, runs-list, types-list}
 

@@ -1,5 +1,5 @@
 -- A try with a finalizer: it runs behind the block however this ends, and what has come to a variable by then is there behind it.
-use Rattle.std.proofs.Common.{◌≡◌, ℕ, ◌≤◌, Bool, true, false, List, [], ◌∷◌, Some, refl, sym, ap, ◌∙◌, subst, ◌⊎◌, inl, inr, ⊎_elim, arith, if◌then◌else◌}
+use Rattle.std.proofs.Common.{◌≡◌, ℕ, ◌≤◌, Bool, true, false, List, [], Some, refl, sym, ap, ◌∙◌, subst, ◌⊎◌, inl, inr, ⊎_elim, arith, if◌then◌else◌}
 use Rattle.outcomes.specs.Outcome.{Out, done, then_do}
 use Rattle.outcomes.specs.Agreement.{Sim}
 use Rattle.outcomes.proofs.Sequence.{then_do-right}
@@ -7,10 +7,8 @@ use Rattle.outcomes.proofs.Simulation.{sim_done, sim_then}
 use Rattle.sj_plain.specs.Meaning as ir_meaning
 use Rattle.sj_plain.specs.States as ir
 use Rattle.js_mean.specs.Meaning as js_meaning
-use Rattle.js_mean.specs.Proper.{is_among as is_declared, declared}
 use Rattle.js_mean.specs.States as js
 use Rattle.js_tree.specs.Terms as tree
-use Rattle.js_tree.specs.Terms.{Name}
 use Rattle.sj_core.specs.Terms as core
 use Rattle.sj_core.specs.Terms.{followed}
 use Rattle.sj_names.proofs.Same.{impossible}
@@ -23,14 +21,13 @@ use Rattle.sj_proper.specs.Locals.{Scope}
 use Rattle.sj_proper.proofs.Declared.{Declares}
 use Rattle.sj_trees.specs.Term.{Term}
 use Rattle.sj_trees.specs.declared.positions.Position.{Position}
-use Rattle.sj_trees.specs.declared.types.IrType.{IrType}
 use Rattle.sj_trees.specs.declared.types.IrType.TheVariants.{Any}
-use Rattle.sj_plain.specs.Settings.{Receiving, Setting, run, SameState, Lawful, Holding, Sees, usable}
+use Rattle.sj_plain.specs.Settings.{Receiving, Setting, run, SameState, Lawful, Holding, usable}
 use Rattle.sj_plain.proofs.Worlds.{World, Grows, grows-trans, SameValue, value-lift}
 use Rattle.sj_bodies.proofs.Blocks.{Outside, Undeclared, not_declared, entered, enter-ready, leave-ready, block_alike}
-use Rattle.sj_bodies.proofs.Contexts.{Context, Writes, writes-more, Sound, Ahead, IsOpen, Ready, Keeps, keeps-trans, keeps-fewer, keeps-all, keeps-less, less-trans, Goes, Less, Arrives, let_go, stored, returned, Came, gave, left, threw, stopped}
+use Rattle.sj_bodies.proofs.Contexts.{Context, Writes, writes-more, Sound, Ahead, IsOpen, Ready, Keeps, keeps-trans, keeps-fewer, keeps-all, less-trans, Goes, Less, Arrives, let_go, stored, returned, Came, gave, left, threw, stopped}
 use Rattle.sj_bodies.proofs.Saves.{is_in, once_in, in_once, aims_of, label_in, in_label, IsSaved, saved_next, saved_between, saved_numbered, Early, Opened, Saves, keeping, giving, keeping_other, keeping_inside, giving_other, giving_inside, keeping_saves, saves_still, giving_back, keeps_run, gives_run}
-use Rattle.sj_bodies.proofs.Statements.{run-followed, leaves_on, ends-one, Ends}
+use Rattle.sj_bodies.proofs.Statements.{run-followed, ends-one, Ends}
 
 -- the variables to which what leaves the finalizer goes, and those of them that are kept
 abbrev pub aims : Context → Term → List core.Variable

@@ -31,7 +31,7 @@ use Rattle.sj_bodies.proofs.Blocks.{Outside, undeclared}
 use Rattle.sj_bodies.proofs.Contexts.{around, Context, Writes, Sound, Ahead, Ready, Keeps, keeps-refl, Came}
 use Rattle.sj_bodies.specs.Fine.{IsDiscard, is_discard, FitsIn, FineOperand, Amid, Asks}
 use Rattle.sj_plain.proofs.Boxes.{StandsFor, stood, stood-fits, operand_stood, stands-for, stand-for-all, StandForAll}
-use Rattle.sj_plain.proofs.Received.{may_be_checked, value_or_nothing, Received, received, Constructed, constructed}
+use Rattle.sj_plain.proofs.Received.{may_be_checked, value_or_nothing, Received, received, Constructed, constructed, with_value}
 use Rattle.sj_proper.proofs.BuiltFormsStatics.{read_static, set_static}
 use Rattle.sj_proper.proofs.Targets.{target_goal}
 use Rattle.sj_proper.specs.Finalizers.{finalizer_code}
@@ -55,7 +55,7 @@ use Rattle.sj_plain.proofs.Instances.{OnInstances, by_class, by_array}
 use Rattle.sj_plain.proofs.Looked.{as_instances}
 use Rattle.sj_proper.proofs.Mutable.{of_first, of_second, of_definition, front, front_cases}
 use Rattle.sj_plain.specs.Conditions.{IsNoConstruction, Plain}
-use Rattle.sj_proper.specs.Plain.{is_plain, mutable_in, mutable_in_all, mutable_in_cases}
+use Rattle.sj_proper.specs.Plain.{is_no_type, is_plain, mutable_in, mutable_in_all, mutable_in_cases}
 use Rattle.sj_bodies.proofs.Parts.{plain_at, tree_in, operand_in, operand_by, amid-behind, amid-inside, one_mutable, other_mutable, given_up, fits, fits-value, yields, asks-left, asks-right}
 use Rattle.sj_proper.proofs.Fitting.{fits-lowest, fits-unary, fits-dividend, operates, unary-value, binary-value, cast-value, unary-operand-value, left-operand-value}
 use Rattle.sj_proper.proofs.Locals.{there, typed-there, local-value}
@@ -537,7 +537,7 @@ module _ (z : Setting) (lawful : Lawful z) (low : LowAlike z) where
       let operands = each (operand_boxes (goals_of c.targets) e) (operands_box (goals_of c.targets) ts) inner.1 in
       (parts.0, inner.0, operands.0, operands.1)
 
-  -- a call on a receiver: of a private or a public member, or of a constructor, which has no value
+  -- a call on a receiver: of a private or a public member, or of a constructor with a value
   receive_by : (p : Position) (e : Term) (d : List ℕ) (n : Namespace) (m : MethodName) (ts : Terms) (t : IrType) → TreeDoes z lawful low e → OperandsFine ts → (c : Context) (k : Destination) (j : ℕ) → Sound z.is_mutable c → Ahead c j → Outside c (Own (apply_statically p e d n m ts t)) → Writes c.written k → (fine : FineHere z lawful low c k (apply_statically p e d n m ts t)) → Received z.place.classes (usable z) (may_check (usable z) fine.scene.sure) e d n m ts → Does z lawful c k j (apply_statically p e d n m ts t)
   receive_by p e d n m ts t does_e do_all c k j sound ahead out wr fine its = receive_does z lawful low p c k j e d n m ts t sound ahead wr (fits z.place.classes lawful.base.ordered (usable z) k t fine.asks (result_is m.result t fine.typed.0.meets.1) (called e m ts t c k fine.boxed).0) its.there fine.typed.0.meets.1 (stands-for z lawful (class_type d) (type_of_term e) its.below its.stands) (stand-for-all z lawful ts m.params its.arguments) (receiver_of c j e d (Own (apply_statically p e d n m ts t)) (λ x o. inl o) does_e out fine.scene fine.amid (of_first z.is_mutable (mutable_in e) (mutable_in_all ts) (front e) fine.written) fine.typed.0.meets.2 its.may_be fine.typed.1 (called e m ts t c k fine.boxed).2 fine.around fine.once.0, do_all c j (outside-part c (Own (apply_statically p e d n m ts t)) (OwnAll ts) (λ x o. inr o) out) fine.scene fine.amid (of_second z.is_mutable (mutable_in e) (mutable_in_all ts) (front e) fine.written) m.params its.arguments fine.typed.2 (called e m ts t c k fine.boxed).3 fine.around fine.once.1)
 
@@ -547,7 +547,11 @@ module _ (z : Setting) (lawful : Lawful z) (low : LowAlike z) where
   statically_does : (p : Position) (e : Term) (d : List ℕ) (n : Namespace) (m : MethodName) (ts : Terms) (t : IrType) → TreeDoes z lawful low e → OperandsFine ts → TreeDoes z lawful low (apply_statically p e d n m ts t)
   statically_does p e d Private m ts t does_e do_all c k j sound ahead out wr fine = receive_by p e d Private m ts t does_e do_all c k j sound ahead out wr fine (received z.place.classes (usable z) (may_check (usable z) fine.scene.sure) e d Private m ts fine.typed.0.built (called e m ts t c k fine.boxed).1 fine.typed.0.finds fine.typed.0.meets.2 fine.typed.0.meets.3)
   statically_does p e d Public m ts t does_e do_all c k j sound ahead out wr fine = receive_by p e d Public m ts t does_e do_all c k j sound ahead out wr fine (received z.place.classes (usable z) (may_check (usable z) fine.scene.sure) e d Public m ts fine.typed.0.built (called e m ts t c k fine.boxed).1 fine.typed.0.finds fine.typed.0.meets.2 fine.typed.0.meets.3)
-  statically_does p e d Constructor m ts t does_e do_all c k j sound ahead out wr fine = let its = constructed z.place.classes (usable z) fine.scene p e d m ts t (called e m ts t c k fine.boxed).1 fine.typed in construct_by p e d m ts t does_e do_all c k j sound ahead out fine its (given_up z.place.classes lawful.base.ordered k (subst (Asks z.place.classes k) its.none fine.asks))
+  statically_does p e d Constructor m ts t does_e do_all c k j sound ahead out wr fine = by (is_no_type t) refl
+    where
+      by : (b : Bool) → is_no_type t ≡ b → Does z lawful c k j (apply_statically p e d Constructor m ts t)
+      by true none = let its = constructed z.place.classes (usable z) fine.scene p e d m ts t none (called e m ts t c k fine.boxed).1 fine.typed in construct_by p e d m ts t does_e do_all c k j sound ahead out fine its (given_up z.place.classes lawful.base.ordered k (subst (Asks z.place.classes k) its.none fine.asks))
+      by false value = receive_by p e d Constructor m ts t does_e do_all c k j sound ahead out wr fine (received z.place.classes (usable z) (may_check (usable z) fine.scene.sure) e d Constructor m ts (with_value (usable z) d m t (may_check (usable z) fine.scene.sure e) value fine.typed.0.built) (called e m ts t c k fine.boxed).1 fine.typed.0.finds fine.typed.0.meets.2 fine.typed.0.meets.3)
   statically_does p e d n m ts t does_e do_all c k j sound ahead out wr fine = impossible fine.typed.0.built
 
   -- a call that is looked up, on a receiver of a hijacked class: a call of the member that this class runs

@@ -1,8 +1,8 @@
 -- A block, and the handler of what it throws.
-use Rattle.std.proofs.Common.{◌≡◌, ◌∙◌, ℕ, Bool, true, false, ◌||◌, List, Some, refl, sym, ap, subst, if◌then◌else◌, inr}
+use Rattle.std.proofs.Common.{◌≡◌, ◌∙◌, ℕ, Bool, false, ◌||◌, List, Some, refl, sym, ap, subst, if◌then◌else◌, inr}
 use Rattle.std.specs.Prelude.{nat_eq}
 use Rattle.std.specs.Cmp.Lexicographic.{pointwise}
-use Rattle.outcomes.specs.Outcome.{Out, done, then_do}
+use Rattle.outcomes.specs.Outcome.{done, then_do}
 use Rattle.outcomes.specs.Agreement.{Sim}
 use Rattle.outcomes.proofs.Sequence.{then_do-right}
 use Rattle.outcomes.proofs.Simulation.{sim_done, sim_then, sim_weaken}
@@ -15,7 +15,7 @@ use Rattle.js_tree.specs.Terms as tree
 use Rattle.js_tree.specs.Terms.{Name}
 use Rattle.sj_core.specs.Terms as core
 use Rattle.sj_proper.specs.Desugar.{target_of}
-use Rattle.sj_proper.specs.Spill.{Destination, discard, to_variable, to_result}
+use Rattle.sj_proper.specs.Spill.{Destination}
 use Rattle.sj_proper.specs.Templates.{statement_templates}
 use Rattle.sj_proper.proofs.Declared.{Declares}
 use Rattle.sj_proper.proofs.Equal.{differs}
@@ -24,7 +24,7 @@ use Rattle.sj_trees.specs.declared.positions.Position.{Position}
 use Rattle.sj_trees.specs.declared.types.IrType.{IrType}
 use Rattle.sj_trees.specs.declared.types.IrType.TheVariants.{Any}
 use Rattle.sj_plain.specs.Settings.{Receiving, Setting, run, SameState, Lawful, Holding, OfNoVariable, usable}
-use Rattle.sj_bodies.proofs.Blocks.{Outside, Undeclared, not_declared, not_among, entered, enter-ready, block_alike}
+use Rattle.sj_bodies.proofs.Blocks.{Undeclared, not_declared, not_among, entered, enter-ready, block_alike}
 use Rattle.sj_bodies.proofs.Contexts.{Context, Writes, writes-more, Sound, Ready, Keeps, Less, Arrives, let_go, stored, returned, Came, gave, left, threw, stopped, keeps-refl, started-other}
 use Rattle.sj_bodies.proofs.Forms.{set-ready, came-narrow, rebased}
 use Rattle.sj_bodies.proofs.Statements.{ends-one, Ends}

@@ -134,7 +134,7 @@ module _ (p : Place) (plain : IsPlain p.classes) (ordered : IsSubtyping (IsSub p
   taken_by w m o v x its this = record { stands = value-fits w (class_type o.class) (class_type m.class) v x (fits-sub p.classes ordered (class_type o.class) (class_type m.class) its.above (ap (λ b. b && not (is_char (class_type o.class))) (class-no-char m.class))) this.stands; there = this.there }
 
   target_alike : (d : Direction) (n k : ℕ) → Level d n k → TargetsAlike p d (ir_meaning.below p.classes n) (js_meaning.below p.program k)
-  target_alike d n k level m o its l w v x vs xs env s u this values same = subst (λ (g : MethodName). Sim d (Valued p w env (call_type g.result)) (ir_meaning.call (ir_meaning.below p.classes n) (ir_meaning.static_target p.classes m.class m.namespace m.method) (Some v) vs env s) (top_call p (js_meaning.below p.program k) (a_method o) (x ∷ xs) u)) its.method (receive_alike p names d (ir_meaning.below p.classes n) (js_meaning.below p.program k) o l (ir_meaning.static_target p.classes m.class m.namespace m.method) (its.runs l.definition l.its_body l.has_body l.found) (level (record { file = p.home (a_method o); owner = o.class; sure = sure_locals l.its_body }) l.reaches (is_mutable_in l.definition l.its_body)) w v x vs xs env s u (taken_by w m o v x its this) (subst (λ (g : MethodName). SameValues w (types_referred g.params) vs xs) (sym its.method) values) same)
+  target_alike d n k level m o its l w v x vs xs env s u this values same = subst (λ (g : MethodName). Sim d (Valued p w env (call_type g.result)) (ir_meaning.call (ir_meaning.below p.classes n) (ir_meaning.static_target p.classes m.class m.namespace m.method) (Some v) vs env s) (top_call p (js_meaning.below p.program k) (a_method o) (x ∷ xs) u)) its.method (receive_alike p names d (ir_meaning.below p.classes n) k o l (ir_meaning.static_target p.classes m.class m.namespace m.method) (its.runs l.definition l.its_body l.has_body l.found) (level (record { file = p.home (a_method o); owner = o.class; sure = sure_locals l.its_body }) l.reaches (is_mutable_in l.definition l.its_body)) w v x vs xs env s u (taken_by w m o v x its this) (subst (λ (g : MethodName). SameValues w (types_referred g.params) vs xs) (sym its.method) values) same)
 
   method_alike : (f : Code) (is_mutable : List ℕ → Bool) (d : Direction) (n k : ℕ) → Level d n k → (m : Member) → IsTargetOf p.classes m (called_member (p.has f.file).lookup m.namespace m) → RunsOn p (called_member (p.has f.file).lookup m.namespace m) → ReceivesAlike (within f d is_mutable n k) m
   method_alike f is_mutable d n k level m its l = target_alike d n k level m (called_member (p.has f.file).lookup m.namespace m) its l

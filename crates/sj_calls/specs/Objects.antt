@@ -1,18 +1,22 @@
 -- Members that run on receivers, and constructors: what is asked of each, so that a call of it and of its function are alike.
-use Rattle.std.specs.Prelude.{◌≡◌, ◌∷◌, Some, None}
+use Rattle.std.specs.Prelude.{◌≡◌, false, ◌∷◌, Some, None}
 use Rattle.dispatch_laws.specs.World.{member_of}
 use Rattle.js_mean.specs.Meaning as js_meaning
 use Rattle.js_tree.specs.Terms.{Name}
 use Rattle.sj_core.specs.Terms as core
-use Rattle.sj_bodies.specs.Desugar.{is_mutable_in, names_of, body_code}
+use Rattle.sj_bodies.specs.Desugar.{is_mutable_in, names_of, body_code, completed}
+use Rattle.sj_bodies.specs.Plain.{is_no_type}
 use Rattle.dispatch_laws.specs.Templates.{member_name, statement_templates}
 use Rattle.sj_names.specs.declared.method_names.Member.{Member}
+use Rattle.sj_names.specs.declared.method_names.Namespace.{Namespace}
+use Rattle.sj_names.specs.declared.method_names.Namespace.TheVariants.{Constructor}
 use Rattle.sj_trees.specs.Term.{Term}
 use Rattle.sj_trees.specs.declared.classes.MethodDef.{MethodDef}
 use Rattle.sj_bodies.specs.Methods.{HaveTypes, KeepsRules}
 use Rattle.sj_bodies.specs.Settings.{Place, a_method, a_constructor, Reaches}
 use Rattle.sj_bodies.specs.Standing.{call_type}
 use Rattle.sj_calls.specs.Methods.{parameters_in}
+use Rattle.sj_trees.specs.declared.types.IrType.{IrType}
 use Rattle.sj_trees.specs.declared.types.IrType.TheVariants.{NoType}
 
 -- the emitted function of a method that runs on a receiver, with this body, in this file: the receiver is its first parameter
@@ -26,6 +30,11 @@ body_of d e = body_code (is_mutable_in d e) d.result e
 abbrev pub constructor_body : MethodDef → Term → core.Statements
 constructor_body d e = core.followed (body_code (is_mutable_in d e) d.result e) (core.statement (core.return_of None (core.variable_use core.receiver)) core.no_statements)
 
+-- the function of a constructor gives the object that it ran on behind its body, which the value of a body that has one passes by
+abbrev pub PassesObject : Namespace → IrType → Type 0
+PassesObject Constructor t = is_no_type t ≡ false
+PassesObject _ t = Unit {0}
+
 -- a member that runs on a receiver, with a body that keeps the rules, whose function stands in its file
 pub record RunsOn (p : Place) (m : Member) : Type 0 where
   pub definition : MethodDef
@@ -34,7 +43,8 @@ pub record RunsOn (p : Place) (m : Member) : Type 0 where
   pub has_body : definition.body ≡ Some its_body
   pub parameters : HaveTypes definition.params m.method.params
   pub result_is : definition.result ≡ call_type m.method.result
-  pub emitted : js_meaning.code_of p.program (p.home (a_method m)) (member_name m) ≡ Some (function_on p (p.home (a_method m)) definition (body_of definition its_body))
+  pub emitted : js_meaning.code_of p.program (p.home (a_method m)) (member_name m) ≡ Some (function_on p (p.home (a_method m)) definition (completed definition.namespace (body_of definition its_body)))
+  pub passes : PassesObject definition.namespace definition.result
   pub rules : KeepsRules p.classes (p.has (p.home (a_method m))) m.class definition its_body
   pub reaches : Reaches p (p.home (a_method m))
 

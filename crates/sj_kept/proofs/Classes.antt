@@ -51,6 +51,7 @@ class-keeps c h m i = record {
   jump = none-first _ (method-keeps c rule.ReturnLabel (kept rule.ReturnLabel in_thirteenth) m i);
   this = none-first _ (method-keeps c rule.This (kept rule.This in_fourteenth) m i);
   stored = none-first _ (method-keeps c rule.StoreModule (kept rule.StoreModule in_fifteenth) m i);
+  target = none-first _ (method-keeps c rule.Target (kept rule.Target in_sixteenth) m i);
 }
   where
     kept : (r : Rule) → Contains all_rules r → Breaks c r None
@@ -73,6 +74,9 @@ class-keeps c h m i = record {
 
     in_fifteenth : Contains all_rules rule.StoreModule
     in_fifteenth = (14, omega arith, refl)
+
+    in_sixteenth : Contains all_rules rule.Target
+    in_sixteenth = (15, omega arith, refl)
 
 place-unless : (b : Bool) → None ≡ unless b → b ≡ true
 place-unless true e = refl
@@ -108,6 +112,10 @@ not-broken : (b : Bool) → not b ≡ false → b ≡ true
 not-broken true h = refl
 not-broken false h = impossible (sym h)
 
+first-false : (a b : Bool) → (a || b) ≡ false → a ≡ false
+first-false true b h = h
+first-false false b h = refl
+
 second-false : (a b : Bool) → (a || b) ≡ false → b ≡ false
 second-false true b h = impossible (sym h)
 second-false false b h = h
@@ -129,6 +137,14 @@ method-passes c r e m i = none-passes (breaks_method c r) c.methods (no-place c 
 -- each method's name has a result
 pub result-keeps : (c : ClassDef) → FirstBroken c None → (m : MethodDef) → Contains c.methods m → is_some m.name.result ≡ true
 result-keeps c h m i = not-broken (is_some m.name.result) (second-false (is_init m.name.simple && not (is_constructor m.namespace && is_void m.name.result)) (not (is_some m.name.result)) (method-passes c rule.MethodName (none-each (Breaks c) 1 all_rules None h refl rule.MethodName (5, omega arith, refl)) m i))
+
+-- `<init>` has no value
+pub init-keeps : (c : ClassDef) → FirstBroken c None → (m : MethodDef) → Contains c.methods m → is_init m.name.simple ≡ true → is_void m.name.result ≡ true
+init-keeps c h m i named = void (is_init m.name.simple) named (method-passes c rule.MethodName (none-each (Breaks c) 1 all_rules None h refl rule.MethodName (5, omega arith, refl)) m i)
+  where
+    void : (b : Bool) → b ≡ true → ((b && not (is_constructor m.namespace && is_void m.name.result)) || not (is_some m.name.result)) ≡ false → is_void m.name.result ≡ true
+    void false e k = impossible e
+    void true e k = (and_parts (is_constructor m.namespace) (is_void m.name.result) (not-broken (is_constructor m.namespace && is_void m.name.result) (first-false (not (is_constructor m.namespace && is_void m.name.result)) (not (is_some m.name.result)) k))).1
 
 -- the types that a method's name tells
 pub signature-keeps : (c : ClassDef) → FirstBroken c None → (m : MethodDef) → Contains c.methods m → HaveTypes m.params m.name.params × (m.result ≡ call_type m.name.result)

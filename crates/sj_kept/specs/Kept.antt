@@ -6,7 +6,7 @@ use Rattle.sj_local.specs.declared.rules.Rule.TheVariants as rules
 use Rattle.sj_trees.specs.declared.classes.ClassDef.{ClassDef}
 use Rattle.sj_trees.specs.declared.classes.MethodDef.{MethodDef}
 
--- the rules on declarations, definitions, variables, jumps, This and stores of modules are kept by the method
+-- the rules on declarations, definitions, variables, jumps, This, stores of modules and targets of assignments are kept by the method
 pub record KeepsTreeRules (c : ClassDef) (d : MethodDef) : Type 0 where
   pub declared : DeclaresTwice d None
   pub definition : first_where (breaks rules.Definition c d.namespace) (method_nodes d) ≡ None
@@ -14,3 +14,4 @@ pub record KeepsTreeRules (c : ClassDef) (d : MethodDef) : Type 0 where
   pub jump : first_where (breaks rules.ReturnLabel c d.namespace) (method_nodes d) ≡ None
   pub this : first_where (breaks rules.This c d.namespace) (method_nodes d) ≡ None
   pub stored : first_where (breaks rules.StoreModule c d.namespace) (method_nodes d) ≡ None
+  pub target : first_where (breaks rules.Target c d.namespace) (method_nodes d) ≡ None

@@ -1,6 +1,5 @@
 -- Calls on the instances of a class, whichever way the method is found.
-use Rattle.std.proofs.Common.{◌≡◌, List, ℕ, true, false, inl, Some, refl, sym, subst}
-use Rattle.std.specs.Prelude.{codes}
+use Rattle.std.proofs.Common.{◌≡◌, List, ℕ, true, false, inl, refl, sym, subst}
 use Rattle.body_rules.proofs.Direct.{ByLookup, OnArray}
 use Rattle.body_rules.specs.Desugar.{callee_of}
 use Rattle.body_rules.specs.Standing.{Fits, MayStand}

@@ -40,7 +40,7 @@ use Rattle.sj_plain.proofs.Orders.{ActsAlike, OperandAlike, OperandsAlike, all_s
 use Rattle.sj_plain.proofs.Standing.{open-refers, type-open}
 use Rattle.sj_plain.proofs.Tops.{row_shown, top_seen}
 use Rattle.std.proofs.lemmas.Slice.Eq.{bytes_eq-Decides}
-use Rattle.sj_plain.proofs.Worlds.{World, Keeps, grown-keeps, shaped-class, Grows, grows-refl, grows-trans, SameValue, Stands, same_undefined, same_null, same_boolean, same_char, same_box, same_number, same_long, same_text, same_reference, value-fits, value-carry, values-fit, SameValues, no_values, one_more}
+use Rattle.sj_plain.proofs.Worlds.{World, Keeps, shaped-class, Grows, grows-refl, grows-trans, SameValue, Stands, same_undefined, same_null, same_boolean, same_char, same_box, same_number, same_long, same_text, same_reference, value-fits, value-carry, values-fit, SameValues, no_values, one_more}
 
 -- two texts that are the same by their test
 same-class : (d c : List ℕ) (b : Bool) → (is_same_text d c && b) ≡ true → d ≡ c

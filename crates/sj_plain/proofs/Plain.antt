@@ -69,7 +69,7 @@ use Rattle.sj_plain.proofs.Modules.{load_alike}
 use Rattle.sj_plain.proofs.Objects.{select_alike, static_alike, new_alike, received_call_alike, checked_alike}
 use Rattle.sure_receivers.specs.Sure.{is_sure}
 use Rattle.sj_names.specs.declared.method_names.Namespace.TheVariants.{Public, Private, Constructor}
-use Rattle.sj_plain.proofs.Received.{value_none, not_none, class_value, value_below, value_apart, may_be_checked, Received, received, looked_stand}
+use Rattle.sj_plain.proofs.Received.{value_none, not_none, class_value, value_below, value_apart, may_be_checked, Received, received, with_value, looked_stand}
 use Rattle.sj_plain.proofs.Orders.{ActsAlike, OperandAlike, OperandsAlike, no_operands, more_operands, all_shown, valued-weaken, in_order_alike}
 use Rattle.sj_plain.proofs.Shifts.{left_shift_alike, right_shift_alike, zero_shift_alike, joined_alike}
 use Rattle.sj_plain.proofs.Boxes.{operand_coerced, operands_coerced, stood, stood-fits, operand_stood, all_stood, all-stood-fit, StandsFor, StandForAll, stands-for, stand-for-all, receiver-coerced}
@@ -482,11 +482,11 @@ module _ (z : Setting) (lawful : Lawful z) (scope : Scope) where
         in_front : {w : World} {env : ir.Env} {sc : js.Scope} {own : IrType} {q : ir.Run} {x : core.Expression} {ts : List IrType} {rs : List ir.Run} {es : List core.Expression} → OperandsAlike z w env sc (own ∷ []) (q ∷ []) (x ∷ []) → OperandsAlike z w env sc ts rs es → OperandsAlike z w env sc (own ∷ ts) (q ∷ rs) (x ∷ es)
         in_front (more_operands own q x _ _ _ told one no_operands) others = more_operands own q x _ _ _ told one others
 
-    -- a call on a receiver: of a private or a public member, as that of a constructor has no value
+    -- a call on a receiver: of a private or a public member, or of a constructor with a value
     receiving_tree : (p : Position) (e : Term) (c : List ℕ) (n : Namespace) (m : MethodName) (ts : Terms) (t : IrType) → Kept (apply_statically p e c n m ts t) → Makes (is_boxed Any e || any_is_boxed m.params ts) → IsNoConstruction (apply_statically p e c n m ts t) → TreeAlike e → (ArgumentsFit z.place.classes (usable z) ts m.params → RowAlike ts) → TreeAlike (apply_statically p e c n m ts t)
     receiving_tree p e c Private m ts t h may v one others = let its = received z.place.classes (usable z) (may_check (usable z) scene.sure) e c Private m ts h.0.built may h.0.finds h.0.meets.2 h.0.meets.3 in receive_tree p e c Private m ts t its h one (others its.arguments)
     receiving_tree p e c Public m ts t h may v one others = let its = received z.place.classes (usable z) (may_check (usable z) scene.sure) e c Public m ts h.0.built may h.0.finds h.0.meets.2 h.0.meets.3 in receive_tree p e c Public m ts t its h one (others its.arguments)
-    receiving_tree p e c Constructor m ts t h may v one others = absurd v
+    receiving_tree p e c Constructor m ts t h may v one others = let its = received z.place.classes (usable z) (may_check (usable z) scene.sure) e c Constructor m ts (with_value (usable z) c m t (may_check (usable z) scene.sure e) v h.0.built) may h.0.finds h.0.meets.2 h.0.meets.3 in receive_tree p e c Constructor m ts t its h one (others its.arguments)
     receiving_tree p e c n m ts t h may v one others = impossible h.0.built
 
     -- a call that is looked up, on a receiver of a hijacked class: what the member does that this class runs, and its text

@@ -1,6 +1,6 @@
 -- What the rules give: which trees have a value, and what holds of a call on a receiver.
 use Rattle.std.proofs.Common.{◌≡◌, ℕ, Bool, true, false, ◌&&◌, ◌⊎◌, inl, inr, List, refl, sym, ap, ◌∙◌, subst}
-use Rattle.std.specs.Prelude.{◌||◌}
+use Rattle.std.specs.Prelude.{◌||◌, if◌then◌else◌}
 use Rattle.std.proofs.lemmas.Bool.{and_parts}
 use Rattle.body_rules.proofs.RulesGive.{class_has_value, ArgumentsFit, arguments_there, each_made}
 use Rattle.body_rules.specs.Standing.{MayStand}
@@ -44,14 +44,24 @@ class_value c = value_none (class_type c) (class_has_value c)
 pub value_below : (w : Classes) (law : IsSubtyping (IsSub w)) (own t : IrType) → IsSub w own t → is_no_type t ≡ false → is_no_type own ≡ false
 value_below w law own t f n = not_none own (λ i. impossible (sym n ∙ ap is_no_type (law.from_none t (subst (λ s. IsSub w s t) i f))))
 
--- the call of a constructor has no value
+-- a tree with a value is no call of a constructor without one
 pub value_apart : (w : Classes) (has : Usable) (s : Scene) (t : Term) → Typed w has s t → is_no_type (type_of_term t) ≡ false → IsNoConstruction t
 value_apart w has s (apply_statically p e c n m ts t) h v = by n h
   where
     by : (n : Namespace) → Typed w has s (apply_statically p e c n m ts t) → IsNoConstruction (apply_statically p e c n m ts t)
-    by Constructor h = impossible (sym v ∙ (and_parts (has.built (member c Constructor m)) (is_no_type t) h.0.built).1)
+    by Constructor h = v
     by _ h = tt
 value_apart w has s _ h v = tt
+
+-- the call of a constructor is that of a member on a receiver where it has a value, and of a constructor of its class where it has none
+abbrev CallsConstructor : Usable → List ℕ → MethodName → Bool → Bool → Type 0
+CallsConstructor has c m none checked = (if none then has.built (member c Constructor m) else (has.received (member c Constructor m) && checked)) ≡ true
+
+pub without_value : (has : Usable) (c : List ℕ) (m : MethodName) (t : IrType) (checked : Bool) → is_no_type t ≡ true → CallsConstructor has c m (is_no_type t) checked → has.built (member c Constructor m) ≡ true
+without_value has c m t checked none h = subst (λ (b : Bool). CallsConstructor has c m b checked) none h
+
+pub with_value : (has : Usable) (c : List ℕ) (m : MethodName) (t : IrType) (checked : Bool) → is_no_type t ≡ false → CallsConstructor has c m (is_no_type t) checked → (has.received (member c Constructor m) && checked) ≡ true
+with_value has c m t checked value h = subst (λ (b : Bool). CallsConstructor has c m b checked) value h
 
 pub record Received (w : Classes) (has : Usable) (checked : Term → Bool) (e : Term) (c : List ℕ) (n : Namespace) (m : MethodName) (ts : Terms) : Type 0 where
   pub there : has.received (called_member has.lookup n (member c n m)) ≡ true
@@ -96,7 +106,7 @@ value_or_nothing w law NoType t f h = impossible (sym h ∙ ap has_no_value (law
 value_or_nothing w law Nothing t f h = inr refl
 value_or_nothing w law _ t f h = inl refl
 
--- what the rules give of a call of a constructor on This
+-- what the rules give of a call of a constructor without a value on This
 pub record Constructed (w : Classes) (has : Usable) (s : Scene) (e : Term) (c : List ℕ) (m : MethodName) (ts : Terms) (t : IrType) : Type 0 where
   pub there : has.built (member c Constructor m) ≡ true
   pub none : t ≡ NoType
@@ -114,10 +124,10 @@ is_none : (t : IrType) → is_no_type t ≡ true → t ≡ NoType
 is_none NoType h = refl
 is_none _ h = impossible h
 
-pub constructed : (w : Classes) (has : Usable) (s : Scene) (p : Position) (e : Term) (c : List ℕ) (m : MethodName) (ts : Terms) (t : IrType) → may_make has (is_boxed Any e || any_is_boxed m.params ts) ≡ true → Typed w has s (apply_statically p e c Constructor m ts t) → Constructed w has s e c m ts t
-constructed w has s p e c m ts t boxed h = record {
-  there = its.0;
-  none = is_none t its.1;
+pub constructed : (w : Classes) (has : Usable) (s : Scene) (p : Position) (e : Term) (c : List ℕ) (m : MethodName) (ts : Terms) (t : IrType) → is_no_type t ≡ true → may_make has (is_boxed Any e || any_is_boxed m.params ts) ≡ true → Typed w has s (apply_statically p e c Constructor m ts t) → Constructed w has s e c m ts t
+constructed w has s p e c m ts t none boxed h = record {
+  there = without_value has c m t (may_check has s.sure e) none h.0.built;
+  none = is_none t none;
   surely = this.0;
   value = subst HasValue (sym this.1) (class_has_value s.owner);
   below = h.0.meets.2;
@@ -125,9 +135,6 @@ constructed w has s p e c m ts t boxed h = record {
   arguments = arguments_there w has ts m.params may.1 h.0.finds h.0.meets.3;
 }
   where
-    its : (has.built (member c Constructor m) ≡ true) × (is_no_type t ≡ true)
-    its = and_parts (has.built (member c Constructor m)) (is_no_type t) h.0.built
-
     may : (may_make has (is_boxed Any e) ≡ true) × (may_make has (any_is_boxed m.params ts) ≡ true)
     may = each_made has (is_boxed Any e) (any_is_boxed m.params ts) boxed
 

@@ -1,10 +1,10 @@
 -- What is asked of a plain tree where it stands.
-use Rattle.std.specs.Prelude.{◌≡◌, ℕ, true, List}
+use Rattle.std.specs.Prelude.{◌≡◌, ℕ, true, false, List}
 use Rattle.body_rules.specs.Locals.{Scope, parameters_of}
 use Rattle.body_rules.specs.Typing.{Scene, Typed}
 use Rattle.body_rules.specs.Boxes.{boxes_as_text}
 use Rattle.body_rules.specs.Built.{Usable, may_make}
-use Rattle.body_rules.specs.Plain.{is_plain}
+use Rattle.body_rules.specs.Plain.{is_no_type, is_plain}
 use Rattle.sj_names.specs.declared.method_names.Namespace.TheVariants.{Constructor}
 use Rattle.sj_trees.specs.Term.{Term, apply_statically}
 use Rattle.sj_plain.specs.Settings.{Code}
@@ -15,9 +15,9 @@ use Rattle.ir_mean.specs.Known.{Classes}
 abbrev pub InScope : Scene → Scope → Type 0
 InScope s g = (x : List ℕ) (t : IrType) → parameters_of s.locals x t → g x t
 
--- any tree but the call of a constructor on a receiver: its function gives the receiver, where the IR gives nothing
+-- any tree but the call of a constructor without a value: its function gives the receiver, where the IR gives nothing
 abbrev pub IsNoConstruction : Term → Type 0
-IsNoConstruction (apply_statically p e c Constructor m ts t) = ⊥
+IsNoConstruction (apply_statically p e c Constructor m ts t) = is_no_type t ≡ false
 IsNoConstruction _ = Unit {0}
 
 -- a plain tree that keeps the rules in a scene of the code at hand, whose locals are in scope, and whose expression makes objects that hold chars only if they

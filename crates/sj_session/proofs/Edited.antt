@@ -10,34 +10,26 @@ use Rattle.sj_world.specs.Known.{Classes}
 use Rattle.sj_world.specs.Linked.{Linked}
 use Rattle.folder_linking.proofs.Worlds.{have_worlds}
 use Rattle.folder_linking.specs.Accepted.{IsAccepted}
-use Rattle.folder_linking.specs.Verdicts.{Verdict, accepted, refused, IsVerdict}
+use Rattle.folder_linking.specs.Verdicts.{accepted, refused, IsVerdict}
 use Rattle.folder_judging.specs.Counts.{Counts, bodies_among, with_reads, with_checks, ChecksAtMost}
 use Rattle.folder_judging.specs.Counts as judging
 use Rattle.folder_judging.specs.Judging.{IsLinkedFolder, AreFactsIn}
 use Rattle.folder_judging.specs.Reading.{HaveBytes}
-use Rattle.folder_judging.specs.Refusals.{IsRefusal}
 use Rattle.folder_judging.specs.declared.errors.JudgeError.{JudgeError}
 use Rattle.folder_judging.specs.declared.errors.JudgeError.TheVariants as judged
 use Rattle.folder_linking.proofs.Edits.{same_world, world_is}
 use Rattle.folder_linking.proofs.LinkedEdits.{linked_folders_agree}
-use Rattle.folder_linking.specs.Edits.{IsEditVerdict, IsLinkOf, by_folder, unbuilt, built}
-use Rattle.folder_linking.specs.Built.{AreBuilt}
+use Rattle.folder_linking.specs.Edits.{IsLinkOf}
 use Rattle.folder_linking.proofs.Linked.{bodies_many}
 use Rattle.folder_linking.specs.Counts.{with_emits, EmitsAtMost}
 use Rattle.folder_linking.specs.Linking.{IsCountableLink, IsLinkable}
 use Rattle.folder_linking.specs.Modules.{as_file}
 use Rattle.folder_linking.specs.declared.files.ModuleFile.{ModuleFile}
 use Rattle.sj_session.specs.Counts as counts
-use Rattle.sj_session.specs.Editing as editing
-use Rattle.sj_session.specs.Editing.{IsEdit, IsRefusedUnbuilt}
+use Rattle.sj_session.specs.Editing.{IsEdit}
 use Rattle.sj_session.specs.Sessions.{work_told}
 use Rattle.sj_session.specs.declared.answers.Report.{Report}
 use Rattle.sj_session.specs.declared.editing.Edit.{Edit}
-
--- a refusal of the judge is one of the edit
-pub by_judge : (entries : List EntryPoint) (files : List SourceFile) (e : JudgeError) → IsRefusal (IsVerdict entries files) e → IsRefusal (IsEditVerdict entries files) e
-by_judge entries files (judged.Refused code place) h = by_folder code place h
-by_judge entries files judged.NoMemory h = tt
 
 -- what was counted by the judge where it refused
 pub counts_refused : (entries : List EntryPoint) (files : List SourceFile) (e : JudgeError) (old new : Meter) → Counts files (AreFactsIn entries files) (Err e) old new → counts.CountsEdit entries files (Err e) old new
@@ -64,69 +56,52 @@ module _ (entries : List EntryPoint) (files : List SourceFile) (l : Linked) (jud
     };
   }
 
-  -- a refusal with 21
-  pub by_built : (e : JudgeError) → IsRefusal (IsRefusedUnbuilt l.world entries) e → IsRefusal (IsEditVerdict entries files) e
-  by_built (judged.Refused code place) h = go (refused code place) h
-    where
-      go : (v : Verdict) → IsRefusedUnbuilt l.world entries v → IsEditVerdict entries files v
-      go _ (editing.unbuilt spelled least) = unbuilt l.world spelled world_accepted least
-  by_built judged.NoMemory h = tt
-
-  pub linkable : AreBuilt l.world entries → IsLinkable entries l
-  linkable forms = record { files = files; are_bytes = bytes; is_accepted = world_accepted; reached = reached; method_entries = known.linked.linked.method_entries; built = forms }
+  pub linkable : IsLinkable entries l
+  linkable = record { files = files; are_bytes = bytes; is_accepted = world_accepted; reached = reached; method_entries = known.linked.linked.method_entries }
 
   all_checked : ChecksAtMost (AreFactsIn entries files) (bodies_among l.facts)
   all_checked = judging.bodies l.facts (bodies_among l.facts) facts_in (omega arith)
 
-  -- what was counted where the judge accepted and 21 refuses
-  pub counts_unbuilt : (e : JudgeError) (old new : Meter) → Counts files (AreFactsIn entries files) (Ok l) old new → counts.CountsEdit entries files (Err e) old new
-  counts_unbuilt (judged.Refused code place) old new h = record { reads = length files; checks = bodies_among l.facts; few_reads = omega arith; few_checks = all_checked; counted = h.checked ∙ ap (λ (n : ℕ). with_checks (bodies_among l.facts) (with_reads n old)) h.whole }
-  counts_unbuilt judged.NoMemory old new h = record { reads = length files; checks = bodies_among l.facts; emits = 0; few_reads = omega arith; few_checks = all_checked; few_emits = counts.none; counted = h.checked ∙ ap (λ (n : ℕ). with_checks (bodies_among l.facts) (with_reads n old)) h.whole }
-
   judged_all : (old new : Meter) → Counts files (AreFactsIn entries files) (Ok l) old new → new ≡ with_checks (bodies_among l.facts) (with_reads (length files) old)
   judged_all old new h = h.checked ∙ ap (λ (n : ℕ). with_checks (bodies_among l.facts) (with_reads n old)) h.whole
 
-  module _ (forms : AreBuilt l.world entries) where
-    is_built : IsEditVerdict entries files accepted
-    is_built = built l.world world_accepted forms
+  -- and where no memory was left while its functions were emitted
+  pub counts_unlinked : (old middle new : Meter) → Counts files (AreFactsIn entries files) (Ok l) old middle → EmitsAtMost (bodies_among l.facts) middle new → counts.CountsSome entries files old new
+  counts_unlinked old middle new h some = record {
+    reads = length files;
+    checks = bodies_among l.facts;
+    emits = some.emits;
+    few_reads = omega arith;
+    few_checks = all_checked;
+    few_emits = counts.bodies l.facts some.emits judge.0 facts_in some.few;
+    counted = some.counted ∙ ap (with_emits some.emits) (judged_all old middle h);
+  }
 
-    -- and where no memory was left while its functions were emitted
-    pub counts_unlinked : (old middle new : Meter) → Counts files (AreFactsIn entries files) (Ok l) old middle → EmitsAtMost (bodies_among l.facts) middle new → counts.CountsSome entries files old new
-    counts_unlinked old middle new h some = record {
-      reads = length files;
-      checks = bodies_among l.facts;
-      emits = some.emits;
-      few_reads = omega arith;
-      few_checks = all_checked;
-      few_emits = counts.bodies l.facts some.emits is_built facts_in some.few;
-      counted = some.counted ∙ ap (with_emits some.emits) (judged_all old middle h);
+  -- and where it was left after all of them
+  pub counts_all : (old middle new : Meter) → Counts files (AreFactsIn entries files) (Ok l) old middle → new ≡ with_emits (bodies_among l.facts) middle → counts.CountsSome entries files old new
+  counts_all old middle new h emitted = counts_unlinked old middle new h (record { emits = bodies_among l.facts; few = omega arith; counted = emitted })
+
+  module _ (style : Style) (links : List ModuleFile) (link : IsCountableLink l.world entries style (map as_file links)) where
+    abbrev linked_to : (fs : List ModuleFile) → IsCountableLink l.world entries style (map as_file fs) → IsLinkOf entries files style (map as_file fs)
+    linked_to fs its = record { world = l.world; is_accepted = world_accepted; link = its.link; countable = its.countable }
+
+    pub edited : (edit : Edit) → edit.files.items ≡ links → edit.report ≡ record { modules = length links; read = length files; checked = bodies_among l.facts; optimised = 0; emitted = bodies_among l.facts } → IsEdit entries files style edit
+    edited edit made told = record {
+      verdict = judge.0;
+      linked = linked_to edit.files.items same;
+      modules = ap (λ (r : Report). r.modules) told ∙ ap length (sym made);
+      work = record {
+        world = l.world;
+        is_accepted = world_accepted;
+        all = link.link.are_pieces.all;
+        bodies = link.link.are_pieces.bodies;
+        is = ap work_told told ∙ ap (λ (n : ℕ). record { read = length files; checked = n; optimised = 0; emitted = n }) (sym (bodies_many l.world entries l.facts link.link.are_pieces.all reached link.link.are_pieces.bodies));
+      };
+      agrees = λ w id a among. subst (λ (u : Classes). Agrees u entries (map as_file edit.files.items) id) (same_world entries files l.world w world_accepted a) (linked_folders_agree entries files style id (map as_file edit.files.items) bytes link.valid (linked_to edit.files.items same) among);
     }
+      where
+        same : IsCountableLink l.world entries style (map as_file edit.files.items)
+        same = subst (λ (fs : List ModuleFile). IsCountableLink l.world entries style (map as_file fs)) (sym made) link
 
-    -- and where it was left after all of them
-    pub counts_all : (old middle new : Meter) → Counts files (AreFactsIn entries files) (Ok l) old middle → new ≡ with_emits (bodies_among l.facts) middle → counts.CountsSome entries files old new
-    counts_all old middle new h emitted = counts_unlinked old middle new h (record { emits = bodies_among l.facts; few = omega arith; counted = emitted })
-
-    module _ (style : Style) (links : List ModuleFile) (link : IsCountableLink l.world entries style (map as_file links)) where
-      abbrev linked_to : (fs : List ModuleFile) → IsCountableLink l.world entries style (map as_file fs) → IsLinkOf entries files style (map as_file fs)
-      linked_to fs its = record { world = l.world; is_accepted = world_accepted; link = its.link; countable = its.countable }
-
-      pub edited : (edit : Edit) → edit.files.items ≡ links → edit.report ≡ record { modules = length links; read = length files; checked = bodies_among l.facts; optimised = 0; emitted = bodies_among l.facts } → IsEdit entries files style edit
-      edited edit made told = record {
-        verdict = is_built;
-        linked = linked_to edit.files.items same;
-        modules = ap (λ (r : Report). r.modules) told ∙ ap length (sym made);
-        work = record {
-          world = l.world;
-          is_accepted = world_accepted;
-          all = link.link.are_pieces.all;
-          bodies = link.link.are_pieces.bodies;
-          is = ap work_told told ∙ ap (λ (n : ℕ). record { read = length files; checked = n; optimised = 0; emitted = n }) (sym (bodies_many l.world entries l.facts link.link.are_pieces.all reached link.link.are_pieces.bodies));
-        };
-        agrees = λ w id a among. subst (λ (u : Classes). Agrees u entries (map as_file edit.files.items) id) (same_world entries files l.world w world_accepted a) (linked_folders_agree entries files style id (map as_file edit.files.items) bytes link.valid (linked_to edit.files.items same) forms among);
-      }
-        where
-          same : IsCountableLink l.world entries style (map as_file edit.files.items)
-          same = subst (λ (fs : List ModuleFile). IsCountableLink l.world entries style (map as_file fs)) (sym made) link
-
-      pub counts_edited : (edit : Edit) (old middle new : Meter) → edit.report ≡ record { modules = length links; read = length files; checked = bodies_among l.facts; optimised = 0; emitted = bodies_among l.facts } → Counts files (AreFactsIn entries files) (Ok l) old middle → new ≡ with_emits (bodies_among l.facts) middle → counts.CountsMade entries files (Ok edit) old new
-      counts_edited edit old middle new told h emitted = emitted ∙ ap (with_emits (bodies_among l.facts)) (judged_all old middle h) ∙ ap (λ (r : Report). counts.with_work r.read r.checked r.emitted old) (sym told)
+    pub counts_edited : (edit : Edit) (old middle new : Meter) → edit.report ≡ record { modules = length links; read = length files; checked = bodies_among l.facts; optimised = 0; emitted = bodies_among l.facts } → Counts files (AreFactsIn entries files) (Ok l) old middle → new ≡ with_emits (bodies_among l.facts) middle → counts.CountsMade entries files (Ok edit) old new
+    counts_edited edit old middle new told h emitted = emitted ∙ ap (with_emits (bodies_among l.facts)) (judged_all old middle h) ∙ ap (λ (r : Report). counts.with_work r.read r.checked r.emitted old) (sym told)

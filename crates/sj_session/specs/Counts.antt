@@ -4,10 +4,9 @@ use Rattle.sj_names.specs.declared.counters.Meter.{Meter}
 use Rattle.sj_names.specs.declared.entry_points.EntryPoint.{EntryPoint}
 use Rattle.sj_names.specs.declared.folders.SourceFile.{SourceFile}
 use Rattle.sj_world.specs.declared.facts.Fact.{Fact}
-use Rattle.folder_linking.specs.Verdicts.{accepted}
+use Rattle.folder_linking.specs.Verdicts.{accepted, IsVerdict}
 use Rattle.folder_judging.specs.Counts.{raised_by, bodies_among, ChecksAtMost}
 use Rattle.folder_judging.specs.Judging.{AreFactsIn}
-use Rattle.folder_linking.specs.Edits.{IsEditVerdict}
 use Rattle.sj_session.specs.declared.answers.Report.{Report}
 use Rattle.sj_session.specs.declared.editing.Edit.{Edit}
 use Rattle.folder_judging.specs.declared.errors.JudgeError.{JudgeError}
@@ -21,7 +20,7 @@ module _ (entries : List EntryPoint) (files : List SourceFile) where
   -- so many emissions are no more than there are bodies that are needed, in a folder whose edit is accepted
   pub data EmitsAtMost : ℕ → Type 0 where
     none : EmitsAtMost 0
-    bodies : (facts : List Fact) (n : ℕ) → IsEditVerdict entries files accepted → AreFactsIn entries files facts → n ≤ bodies_among facts → EmitsAtMost n
+    bodies : (facts : List Fact) (n : ℕ) → IsVerdict entries files accepted → AreFactsIn entries files facts → n ≤ bodies_among facts → EmitsAtMost n
 
   -- no more files are read than there are, no more bodies checked than are needed, and none emitted
   pub record CountsRefused (old new : Meter) : Type 0 where

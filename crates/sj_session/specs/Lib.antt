@@ -1,7 +1,6 @@
 pub mod Sessions
 pub mod Counts
 pub mod Editing
-pub mod Unbuilt
 pub use Rattle.folder_linking.specs.Modules
 pub use Rattle.folder_linking.specs.Verdicts
 pub use Rattle.folder_linking.specs.Edits

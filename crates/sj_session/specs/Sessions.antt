@@ -9,9 +9,9 @@ use Rattle.sj_split.specs.Modules.{module_of}
 use Rattle.sj_split.specs.Walks.{Id}
 use Rattle.sj_split.specs.declared.plans.Style.{Style}
 use Rattle.sj_world.specs.Known.{Classes}
-use Rattle.folder_linking.specs.Verdicts.{accepted, refused}
+use Rattle.folder_linking.specs.Verdicts.{accepted, refused, IsVerdict}
 use Rattle.folder_linking.specs.Accepted.{IsAccepted}
-use Rattle.folder_linking.specs.Edits.{IsEditVerdict, IsLinkOf, IsWork}
+use Rattle.folder_linking.specs.Edits.{IsLinkOf, IsWork}
 use Rattle.folder_linking.specs.Modules.{as_file}
 use Rattle.folder_linking.specs.declared.files.ModuleFile.{ModuleFile}
 use Rattle.sj_session.specs.declared.options.Options.{Options}
@@ -41,7 +41,7 @@ work_told r = record { read = r.read; checked = r.checked; optimised = r.optimis
 
 -- the session takes the folder, which is accepted, and its files
 pub record IsTaken (old : Standing) (folder : Folder) (report : Report) (new : Standing) : Type 0 where
-  pub verdict : IsEditVerdict old.entries folder.files accepted
+  pub verdict : IsVerdict old.entries folder.files accepted
   pub links : List ModuleFile
   pub linked : IsLinkOf old.entries folder.files old.options.style (map as_file links)
   pub taken : new ≡ record old { present = Some folder; files = links }
@@ -51,7 +51,7 @@ pub record IsTaken (old : Standing) (folder : Folder) (report : Report) (new : S
 -- what an edit answers and makes: it takes a folder that is accepted, and leaves the session as it was in any other case
 abbrev pub Edits : Standing → Folder → Result Report JudgeError → Standing → Type 0
 Edits old folder (Ok report) new = IsTaken old folder report new
-Edits old folder (Err (Refused code place)) new = IsEditVerdict old.entries folder.files (refused code place) × (new ≡ old)
+Edits old folder (Err (Refused code place)) new = IsVerdict old.entries folder.files (refused code place) × (new ≡ old)
 Edits old folder (Err NoMemory) new = new ≡ old
 
 -- the files show of each public module what the folder's classes show

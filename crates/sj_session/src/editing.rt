@@ -2,13 +2,10 @@
 ghost use Rattle.std.specs.Prelude.{◌≡◌, IfOk, MatchResult, length};
 ghost use Rattle.folder_judging.specs.Counts.{bodies_among};
 ghost use Rattle.folder_judging.specs.Refusals.{IsRefusal};
-ghost use Rattle.folder_linking.specs.Edits.{IsEditVerdict};
-ghost use Rattle.folder_linking.specs.Built.{AreBuilt};
-ghost use Rattle.sj_reach.specs.Answers.{AreReachable};
-ghost use Rattle.sj_session.specs.Editing.{IsEdit, IsRefusedUnbuilt};
+ghost use Rattle.folder_linking.specs.Verdicts.{IsVerdict};
+ghost use Rattle.sj_session.specs.Editing.{IsEdit};
 ghost use Rattle.sj_session.specs.Counts as counts;
 
-use crate::unbuilt::least_unbuilt;
 use crate::{EditRefusal, ModuleFile, Report};
 use folder_judging::judge;
 use folder_linking::link;
@@ -25,8 +22,6 @@ pub struct Edit {
     pub report: Report,
 }
 
-const NOT_BUILT: u8 = 21;
-
 /// Judges and links the folder of these files.
 pub fn linked_edit<W: Workers>(
     alloc: Global,
@@ -35,27 +30,12 @@ pub fn linked_edit<W: Workers>(
     style: Style,
     work: &mut W,
 ) -> Result<Edit, EditRefusal>
-    ensures edit { MatchResult result (IsEdit entries.now files.now style) (IsRefusal (IsEditVerdict entries.now files.now)) }
+    ensures edit { MatchResult result (IsEdit entries.now files.now style) (IsRefusal (IsVerdict entries.now files.now)) }
     ensures counted { counts.CountsMade entries.now files.now result (W.meter work.old) (W.meter work.new) }
 {
     let linked = judge(alloc, files, entries, work)?;
-    all_built(alloc, &linked, entries)?;
     let links = link(alloc, &linked, entries, style, work)?;
     Ok(edit_of(files, &linked, links)?)
-}
-
-// Whether the folder can be linked: `Refused` with 21 where a needed body isn't built.
-fn all_built(alloc: Global, linked: &LinkedWorld, entries: &Entries) -> Result<(), EditRefusal>
-    requires { AreReachable linked.now.world entries.now linked.now.facts }
-    ensures { MatchResult result (λ _. AreBuilt linked.now.world entries.now) (IsRefusal (IsRefusedUnbuilt linked.now.world entries.now)) }
-{
-    match least_unbuilt(alloc, linked, entries)? {
-        Some(place) => Err(EditRefusal::Refused {
-            code: NOT_BUILT,
-            place,
-        }),
-        None => Ok(()),
-    }
 }
 
 // The edit with these files. Where they are too many for a report, they would be more than memory holds.

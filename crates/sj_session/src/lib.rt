@@ -7,7 +7,6 @@ mod answers;
 mod editing;
 mod options;
 mod sessions;
-mod unbuilt;
 
 pub use answers::Report;
 pub use folder_judging::JudgeError as EditRefusal;

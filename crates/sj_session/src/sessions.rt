@@ -46,8 +46,7 @@ impl Session {
 
     /// Judges and links the folder, and takes it with its files where it is accepted.
     ///
-    /// `Refused` exactly where the verdict is that refusal: one of the judge of folders, or 21 at the least spelling of a needed body that isn't of the
-    /// forms that are built. After it, and after `NoMemory`, the session is as before. All is
+    /// `Refused` exactly where the folder's verdict is that refusal. After it, and after `NoMemory`, the session is as before. All is
     /// read, checked and emitted anew by `work`: of a folder that is accepted each file is read once, and each needed body is checked and emitted once; of any
     /// other no more, and nothing is emitted where it is refused.
     pub fn edit<W: Workers>(

@@ -8,8 +8,8 @@ use Rattle.sj_names.specs.declared.folders.Folder.{Folder}
 use Rattle.sj_names.specs.declared.folders.SourceFile.{SourceFile}
 use Rattle.sj_outside.specs.Writing.{Event, line, WritesFront}
 use Rattle.sj_outside.specs.declared.answers.PutFile.{PutFile}
-use Rattle.sj_session.specs.Verdicts.{accepted, refused}
-use Rattle.sj_session.specs.Edits.{IsEditVerdict, IsLinkOf, IsWork}
+use Rattle.sj_session.specs.Verdicts.{accepted, refused, IsVerdict}
+use Rattle.sj_session.specs.Edits.{IsLinkOf, IsWork}
 use Rattle.sj_session.specs.Modules.{as_file}
 use Rattle.sj_session.specs.ModuleFile.{ModuleFile}
 use Rattle.sj_session.specs.Sessions.{Standing, IsTaken, ShowTheSame, work_told}
@@ -36,8 +36,8 @@ module _ (out : List ℕ) (number : ℕ) (old new : Standing) (files : List Sour
       same : is.links ≡ modules
       same = sym (ap (λ (s : Standing). s.files) is.taken) ∙ sym modules_are
 
-      verdict : IsEditVerdict old.entries files accepted
-      verdict = subst (λ (fs : List SourceFile). IsEditVerdict old.entries fs accepted) files_are is.verdict
+      verdict : IsVerdict old.entries files accepted
+      verdict = subst (λ (fs : List SourceFile). IsVerdict old.entries fs accepted) files_are is.verdict
 
       link : IsLinkOf old.entries files old.options.style (map as_file modules)
       link = subst (λ (fs : List SourceFile). IsLinkOf old.entries fs old.options.style (map as_file modules)) files_are (subst (λ (ms : List ModuleFile). IsLinkOf old.entries folder.files old.options.style (map as_file ms)) same is.linked)
@@ -66,9 +66,9 @@ module _ (out : List ℕ) (entries : List EntryPoint) (style : Style) (number : 
   abbrev pub refused_edit : List ℕ → Edited
   refused_edit text = record { is_accepted = false; events = line text ∷ [] }
 
-  pub refuses_edit : (others : List SourceFile) (code : ℕ) (place shown text : List ℕ) → others ≡ files → shown ≡ place → text ≡ refused_line number code shown → IsEditVerdict entries others (refused code place) → IsShownEdit out entries style number files (refused_edit text)
+  pub refuses_edit : (others : List SourceFile) (code : ℕ) (place shown text : List ℕ) → others ≡ files → shown ≡ place → text ≡ refused_line number code shown → IsVerdict entries others (refused code place) → IsShownEdit out entries style number files (refused_edit text)
   refuses_edit others code place shown text files_are place_is text_is verdict =
-      let of_files : IsEditVerdict entries files (refused code place) = subst (λ (fs : List SourceFile). IsEditVerdict entries fs (refused code place)) files_are verdict in
+      let of_files : IsVerdict entries files (refused code place) = subst (λ (fs : List SourceFile). IsVerdict entries fs (refused code place)) files_are verdict in
       let same : refused_line number code place ≡ text = ap (refused_line number code) (sym place_is) ∙ sym text_is in
       record { is_output = subst (λ (t : List ℕ). IsEditOutput out entries style number files (refused_edit t)) same (refuses code place of_files); shown = none }
 

@@ -12,7 +12,8 @@ use Rattle.sj_words.specs.declared.commands.Command.{Command}
 use Rattle.sj_words.specs.declared.commands.Link.{Link}
 use Rattle.sj_session.proofs.Firsts.{same_lists, standing}
 use Rattle.sj_session.specs.Verdicts.{Verdict, accepted, refused}
-use Rattle.sj_session.proofs.LinkedEdits.{one_edit, one_folder_link, one_work}
+use Rattle.sj_session.proofs.LinkedEdits.{one_folder_link, one_work}
+use Rattle.sj_session.proofs.Verdict.{one_verdict}
 use Rattle.entries_file.specs.EntriesFile.{entries_of}
 use Rattle.entries_file.proofs.Steps.{valid_entries}
 use Rattle.sj_names.specs.EntryPoints.{AreEntries}
@@ -59,9 +60,9 @@ module _ (out : List ℕ) (entries : List EntryPoint) (valid : AreEntries entrie
       let same_links : links ≡ others = one_folder_link entries files style links others valid l m in
       let same_work : work ≡ more = one_work entries files work more w x in
       λ i. linked_to (same_links i) (same_work i)
-  one_edit_output _ _ (linked links work v l w) (refuses code place u) = absurd (not_both (one_edit entries files accepted (refused code place) v u))
-  one_edit_output _ _ (refuses code place v) (linked links work u l w) = absurd (not_both (one_edit entries files accepted (refused code place) u v))
-  one_edit_output _ _ (refuses code place v) (refuses other at u) = ap refused_by (one_edit entries files (refused code place) (refused other at) v u)
+  one_edit_output _ _ (linked links work v l w) (refuses code place u) = absurd (not_both (one_verdict entries files accepted (refused code place) v u))
+  one_edit_output _ _ (refuses code place v) (linked links work u l w) = absurd (not_both (one_verdict entries files accepted (refused code place) u v))
+  one_edit_output _ _ (refuses code place v) (refuses other at u) = ap refused_by (one_verdict entries files (refused code place) (refused other at) v u)
 
 module _ (contents : Parts) (well : is_well contents ≡ true) (out : List ℕ) (entries : List EntryPoint) (valid : AreEntries entries) (style : Style) where
   one_edited : (number : ℕ) (path : List ℕ) (e f : Edited) → IsEdited contents out entries style number path e → IsEdited contents out entries style number path f → e ≡ f

@@ -5,9 +5,9 @@ use Rattle.sj_names.specs.declared.folders.SourceFile.{SourceFile}
 use Rattle.sj_outside.specs.declared.answers.PutFile.{PutFile}
 use Rattle.sj_world.specs.Known.{Classes}
 use Rattle.folder_files.specs.Files.{IsReadOf}
-use Rattle.sj_session.specs.Verdicts.{Verdict, accepted, refused}
+use Rattle.sj_session.specs.Verdicts.{Verdict, accepted, refused, IsVerdict}
 use Rattle.sj_session.specs.Accepted.{IsAccepted}
-use Rattle.sj_session.specs.Edits.{IsEditVerdict, by_folder, unbuilt, built, IsLinkOf, IsWork}
+use Rattle.sj_session.specs.Edits.{IsLinkOf, IsWork}
 use Rattle.read_verdicts.proofs.Read.{same_verdict, whole_read}
 use Rattle.sj_split.specs.declared.plans.Style.{Style}
 use Rattle.sjslink.specs.Editing.{PutsShown, none, links, IsShownEdit}
@@ -20,10 +20,8 @@ module _ (entries : List EntryPoint) (files read : List SourceFile) (is : IsRead
   accepted_whole P w a p = subst P (whole_read files read is a.small) p
 
   -- the verdict on an edit
-  verdict_of_read : (v : Verdict) → IsEditVerdict entries read v → IsEditVerdict entries files v
-  verdict_of_read _ (by_folder code place h) = by_folder code place ((same_verdict entries files read (refused code place) is).0 h)
-  verdict_of_read _ (unbuilt w spelled a least) = unbuilt w spelled (accepted_whole (λ fs. IsAccepted entries fs w) w a a) least
-  verdict_of_read _ (built w a all) = built w (accepted_whole (λ fs. IsAccepted entries fs w) w a a) all
+  verdict_of_read : (v : Verdict) → IsVerdict entries read v → IsVerdict entries files v
+  verdict_of_read v h = (same_verdict entries files read v is).0 h
 
   module _ (out : List ℕ) (style : Style) (number : ℕ) where
     output_of_read : (e : Edited) → IsEditOutput out entries style number read e → IsEditOutput out entries style number files e

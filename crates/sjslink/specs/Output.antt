@@ -12,8 +12,8 @@ use Rattle.sj_split.specs.declared.plans.Style.{Style}
 use Rattle.sj_words.specs.Earlier.{split_command}
 use Rattle.sj_words.specs.declared.commands.Link.{Link}
 use Rattle.folder_files.specs.Files.{AreFilesOf}
-use Rattle.sj_session.specs.Verdicts.{accepted, refused}
-use Rattle.sj_session.specs.Edits.{IsEditVerdict, IsLinkOf, IsWork}
+use Rattle.sj_session.specs.Verdicts.{accepted, refused, IsVerdict}
+use Rattle.sj_session.specs.Edits.{IsLinkOf, IsWork}
 use Rattle.sjslink.specs.Input.{IsLinkCommand, HasEntries, planned_style}
 use Rattle.sjslink.specs.declared.answers.Status.{Status}
 use Rattle.sjslink.specs.declared.answers.Status.TheVariants.{Done, SomeRefused, Usage, ReadFault, WriteFault, NoMemory, BadEntries}
@@ -54,8 +54,8 @@ pub record Edited : Type 0 where
 
 -- what is written for the edit of this number, of a folder of these files: the files that it is linked to in this style and a line, or a line alone
 pub data IsEditOutput (out : List ℕ) (entries : List EntryPoint) (style : Style) (number : ℕ) (files : List SourceFile) : Edited → Type 0 where
-  linked : (links : List File) (work : Meter) → IsEditVerdict entries files accepted → IsLinkOf entries files style links → IsWork entries files work → IsEditOutput out entries style number files (record { is_accepted = true; events = puts_of out number links ++ line (accepted_line number (length links) work) ∷ [] })
-  refuses : (code : ℕ) (place : List ℕ) → IsEditVerdict entries files (refused code place) → IsEditOutput out entries style number files (record { is_accepted = false; events = line (refused_line number code place) ∷ [] })
+  linked : (links : List File) (work : Meter) → IsVerdict entries files accepted → IsLinkOf entries files style links → IsWork entries files work → IsEditOutput out entries style number files (record { is_accepted = true; events = puts_of out number links ++ line (accepted_line number (length links) work) ∷ [] })
+  refuses : (code : ℕ) (place : List ℕ) → IsVerdict entries files (refused code place) → IsEditOutput out entries style number files (record { is_accepted = false; events = line (refused_line number code place) ∷ [] })
 
 -- the same of the folder at a path
 pub record IsEdited (contents : Parts) (out : List ℕ) (entries : List EntryPoint) (style : Style) (number : ℕ) (path : List ℕ) (edited : Edited) : Type 0 where
