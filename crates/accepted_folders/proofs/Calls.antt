@@ -7,7 +7,8 @@ use Rattle.std.proofs.lemmas.List.Elements.{All-nil, All-cons, All-head, All-tai
 use Rattle.ir_mean.specs.Shows.{initializers}
 use Rattle.sj_core.specs.declared.callees.Callee.{Callee}
 use Rattle.sj_core.specs.declared.callees.Callee.TheVariants as callees
-use Rattle.sj_judged.specs.Emitted.{EmittedMethod, initializer_member}
+use Rattle.sj_judged.specs.EmittedMethods.{EmittedMethod}
+use Rattle.sj_judged.specs.Emitted.{initializer_member}
 use Rattle.sj_judged.specs.Desugar.{member, callee_of}
 use Rattle.sj_infos.specs.Infos.{asks, asked_by_body}
 use Rattle.sj_infos.specs.Sure.{sure_among}

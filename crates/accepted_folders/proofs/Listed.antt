@@ -2,14 +2,12 @@
 use Rattle.std.proofs.Common.{◌≡◌, Bool, true, false, List, [], ◌∷◌, Option, Some, None, refl, sym, ap, subst, ◌∙◌, ⊎_elim, Contains, inl, inr}
 use Rattle.std.specs.Prelude.{◌⊎◌}
 use Rattle.std.proofs.lemmas.List.Sorted.{Contains-permutation, IsPermutation-sym}
-use Rattle.sj_judged.specs.Emitted.{EmittedMethod}
-use Rattle.sj_judged.specs.Files.{HasFunction}
+use Rattle.sj_judged.specs.EmittedMethods.{EmittedMethod, HasFunction, HaveOwnMembers}
 use Rattle.sj_judged.proofs.Found.{here, there}
 use Rattle.sj_local.specs.Broken.{FirstBroken}
 use Rattle.sj_names.proofs.Same.{impossible}
 use Rattle.sj_names.specs.declared.entry_points.EntryPoint.{EntryPoint}
 use Rattle.sj_names.specs.declared.method_names.Member.{Member}
-use Rattle.sj_judged.specs.Emitted.{HaveOwnMembers}
 use Rattle.sj_judged.proofs.Same.{has_function-is}
 use Rattle.sj_judged.specs.Linked.{has_function}
 use Rattle.sj_trees.specs.Term.{Term}

@@ -15,8 +15,7 @@ use Rattle.ir_mean.specs.World as ir
 use Rattle.sj_world.specs.Known.{Name, Classes, class_of}
 use Rattle.sj_world.specs.Members.{IsMethod, IsMethodOf}
 use Rattle.sj_world.specs.Paths.{IsFirst}
-use Rattle.sj_judged.specs.Emitted.{EmittedMethod}
-use Rattle.sj_judged.specs.Files.{HasFunction}
+use Rattle.sj_judged.specs.EmittedMethods.{EmittedMethod, HasFunction}
 use Rattle.folder_verdicts.proofs.Firsts.{same_first}
 use Rattle.sj_judged.specs.Linked.{is_same_member, has_function}
 

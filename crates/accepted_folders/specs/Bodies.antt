@@ -7,9 +7,7 @@ use Rattle.sj_names.specs.declared.method_names.Member.{Member}
 use Rattle.sj_world.specs.Known.{Classes}
 use Rattle.sj_world.specs.declared.facts.Fact.TheVariants.{Body}
 use Rattle.folder_verdicts.specs.Reachable.{Reachable}
-use Rattle.sj_judged.specs.Emitted.{EmittedMethod}
-use Rattle.sj_judged.specs.Files.{HasFunction}
-use Rattle.sj_judged.specs.Emitted.{HaveOwnMembers}
+use Rattle.sj_judged.specs.EmittedMethods.{EmittedMethod, HasFunction, HaveOwnMembers}
 
 -- the definition is that of its member in the classes, and the body is its body
 pub record IsFound (w : Classes) (e : EmittedMethod) : Type 0 where

@@ -6,7 +6,8 @@ use Rattle.ir_mean.specs.Shows.{initializers}
 use Rattle.js_mean.specs.Shows.{file_of}
 use Rattle.js_tree.specs.Spelling.{Spells}
 use Rattle.sj_judged.specs.Agrees.{Agrees}
-use Rattle.sj_judged.specs.Emitted.{EmittedMethod, module_with}
+use Rattle.sj_judged.specs.EmittedMethods.{EmittedMethod}
+use Rattle.sj_judged.specs.Emitted.{module_with}
 use Rattle.sj_names.specs.declared.entry_points.EntryPoint.{EntryPoint}
 use Rattle.sj_names.specs.declared.folders.SourceFile.{SourceFile}
 use Rattle.sj_judged.specs.Linked.{functions_of, have_functions}

@@ -4,7 +4,6 @@ pub mod Laws
 pub mod Objects
 pub use Rattle.sj_judged.specs.Entries
 pub use Rattle.folder_verdicts.specs.Reachable
-pub use Rattle.sj_judged.specs.Emitted
 pub use Rattle.sj_judged.specs.Typing
 pub use Rattle.sj_judged.specs.Built
 pub use Rattle.sj_judged.specs.Boxes
@@ -15,7 +14,6 @@ pub use Rattle.folder_verdicts.specs.TypingRulesRules
 pub use Rattle.folder_verdicts.specs.Typed
 pub use Rattle.folder_verdicts.specs.Nodes
 pub use Rattle.folder_verdicts.specs.Labels
-pub use Rattle.sj_judged.specs.Files
 pub use Rattle.sj_judged.specs.Rules as BodySoundnessRules
 pub use Rattle.sj_judged.specs.Worlds
 pub use Rattle.sj_judged.specs.Standing

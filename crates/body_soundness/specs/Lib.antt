@@ -9,6 +9,7 @@ pub use Rattle.dispatch_laws.specs.Rows
 pub use Rattle.dispatch_laws.specs.Shows
 pub use Rattle.dispatch_laws.specs.World
 pub use Rattle.sj_proper.specs.Emitted
+pub use Rattle.sj_proper.specs.EmittedMethods
 pub use Rattle.sj_proper.specs.Methods
 pub use Rattle.dispatch_laws.specs.SjWorldLaws
 pub use Rattle.dispatch_laws.specs.Subtypes

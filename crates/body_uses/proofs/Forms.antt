@@ -22,7 +22,7 @@ use Rattle.object_folders.proofs.Stores.{targets_kept}
 use Rattle.object_folders.specs.Accepted.{IsAccepted}
 use Rattle.object_folders.specs.Bodies.{AreBodies}
 use Rattle.object_folders.specs.Built.{any_object, can_call, can_cast, has_base, has_no_value, is_based, is_operation, is_testable, are_countable, stands, is_built, are_built, are_built_cases, is_object_body}
-use Rattle.object_folders.specs.Emitted.{EmittedMethod}
+use Rattle.object_folders.specs.EmittedMethods.{EmittedMethod}
 use Rattle.object_folders.specs.Kept.{KeepsTreeRules}
 use Rattle.object_folders.specs.Reachable.{Reachable}
 use Rattle.object_folders.specs.Rules.{Reads, of_new, asked_body}

@@ -58,7 +58,7 @@ use Rattle.sj_names.specs.declared.references.TypeRef.{TypeRef}
 use Rattle.sj_names.specs.declared.references.TypeRef.TheVariants.{Void}
 use Rattle.sj_names.specs.declared.method_names.Namespace.{Namespace}
 use Rattle.sj_names.specs.declared.method_names.Namespace.TheVariants.{Public, PublicStatic, Private, PrivateStatic, Constructor}
-use Rattle.object_folders.specs.Emitted.{EmittedMethod}
+use Rattle.object_folders.specs.EmittedMethods.{EmittedMethod}
 use Rattle.object_folders.specs.Linked.{has_function}
 use Rattle.sj_trees.proofs.SameTypes.{type-refl}
 use Rattle.sj_trees.specs.SameTypes.{is_same_type}

@@ -13,7 +13,7 @@ use Rattle.sj_emit_expr.specs.Uses.{uses}
 use Rattle.sj_infos.specs.Trees.{trees}
 use Rattle.sj_names.specs.declared.entry_points.EntryPoint.{EntryPoint}
 use Rattle.sj_names.specs.declared.folders.SourceFile.{SourceFile}
-use Rattle.object_folders.specs.Emitted.{EmittedMethod}
+use Rattle.object_folders.specs.EmittedMethods.{EmittedMethod}
 use Rattle.sj_trees.specs.Term.{Term}
 use Rattle.sj_trees.specs.declared.classes.MethodDef.{MethodDef}
 use Rattle.sj_world.specs.Known.{Name, Classes}

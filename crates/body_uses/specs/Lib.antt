@@ -8,13 +8,12 @@ pub use Rattle.object_folders.specs.Pieces
 pub use Rattle.object_folders.specs.Reachable
 pub use Rattle.object_folders.specs.Rules
 pub use Rattle.object_folders.specs.Kept
-pub use Rattle.object_folders.specs.Emitted
+pub use Rattle.object_folders.specs.EmittedMethods
 pub use Rattle.object_folders.specs.Classes
 pub use Rattle.object_folders.specs.PieceRulesPieces
 pub use Rattle.object_folders.specs.Once
 pub use Rattle.object_folders.specs.Typing
 pub use Rattle.object_folders.specs.Entries
-pub use Rattle.object_folders.specs.Files
 pub use Rattle.object_folders.specs.Judged
 pub use Rattle.object_folders.specs.Linked
 pub use Rattle.object_folders.specs.LinkedPiecesLaws

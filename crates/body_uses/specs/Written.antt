@@ -7,7 +7,7 @@ use Rattle.helper_rules.specs.declared.kinds.Helper.{Helper}
 use Rattle.js_tree.specs.declared.items.Binding.{Binding}
 use Rattle.object_folders.specs.Reachable.{Reachable}
 use Rattle.sj_names.specs.declared.entry_points.EntryPoint.{EntryPoint}
-use Rattle.object_folders.specs.Emitted.{EmittedMethod}
+use Rattle.object_folders.specs.EmittedMethods.{EmittedMethod}
 use Rattle.sj_world.specs.Known.{Name, Classes}
 use Rattle.sj_world.specs.declared.facts.Fact.{Fact}
 use Rattle.object_folders.specs.Pieces.{piece_of_member}

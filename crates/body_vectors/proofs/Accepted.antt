@@ -5,11 +5,10 @@ use Rattle.ir_mean.specs.Rows.{object_with, once}
 use Rattle.ir_mean.specs.Shows.{ir_shows}
 use Rattle.js_mean.specs.Shows.{js_shows}
 use Rattle.sj_trees.specs.declared.classes.ClassDef.{ClassDef}
-use Rattle.sj_proper.specs.Emitted.{EmittedMethod}
+use Rattle.sj_proper.specs.EmittedMethods.{EmittedMethod, HaveOwnMembers}
 use Rattle.sj_judged.specs.Files.{program_with}
 use Rattle.sj_judged.proofs.Worked.{worked_plain}
 use Rattle.sj_judged.specs.Worked.{main_method, tripling_method, worked_world, worked_methods}
-use Rattle.sj_proper.specs.Emitted.{HaveOwnMembers}
 use Rattle.sj_judged.specs.Programs.{IsAccepted}
 use Rattle.sj_judged.proofs.Programs.{classes_agree}
 use Rattle.body_vectors.proofs.Premises.{Recorded, each_accepted_of, own}

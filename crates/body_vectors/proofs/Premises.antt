@@ -28,7 +28,7 @@ use Rattle.sj_trees.specs.declared.classes.ClassDef.{ClassDef}
 use Rattle.sj_trees.specs.declared.classes.MethodDef.{MethodDef}
 use Rattle.sj_trees.specs.declared.classes.ParamDef.{ParamDef}
 use Rattle.body_rules.proofs.Equal.{equals}
-use Rattle.sj_proper.specs.Emitted.{EmittedMethod}
+use Rattle.sj_proper.specs.EmittedMethods.{EmittedMethod, HaveOwnMembers}
 use Rattle.body_rules.proofs.Lists.{nothing_in, in_front_or_behind}
 use Rattle.sj_names.proofs.Same.{impossible}
 use Rattle.sj_judged.specs.Linked.{have_functions, functions_of}
@@ -38,7 +38,6 @@ use Rattle.built_forms.specs.Built.{body_boxes}
 use Rattle.body_rules.specs.Locals.{local_of, HasValue}
 use Rattle.sj_proper.specs.Methods.{scene_of}
 use Rattle.sj_judged.specs.Worked.{emitted}
-use Rattle.sj_proper.specs.Emitted.{HaveOwnMembers}
 use Rattle.sj_judged.specs.Programs.{IsAccepted}
 use Rattle.sj_kept.proofs.Classes.{class-keeps, keeps-superclass, keeps-hijacked}
 use Rattle.sj_kept.proofs.Methods.{body_keeps}

@@ -6,7 +6,8 @@ use Rattle.ir_mean.specs.Rows.{nowhere, object_name, once}
 use Rattle.ir_mean.specs.Shows.{ir_shows}
 use Rattle.js_mean.specs.Shows.{js_shows}
 use Rattle.js_tree.specs.Texts.{put_item_line}
-use Rattle.sj_proper.specs.Emitted.{EmittedMethod, function_item_of}
+use Rattle.sj_proper.specs.EmittedMethods.{EmittedMethod}
+use Rattle.sj_proper.specs.Emitted.{function_item_of}
 use Rattle.sj_judged.specs.Files.{program_with}
 use Rattle.sj_names.specs.declared.method_names.Namespace.{Namespace}
 use Rattle.sj_names.specs.declared.references.TypeRef.{TypeRef}

@@ -3,9 +3,8 @@ use Rattle.std.specs.Prelude.{◌≡◌, true, [], ◌∷◌, codes}
 use Rattle.std.specs.List.{Contains}
 use Rattle.ir_mean.specs.Rows.{once}
 use Rattle.ir_mean.specs.Shows.{initializers}
-use Rattle.sj_proper.specs.Emitted.{EmittedMethod}
+use Rattle.sj_proper.specs.EmittedMethods.{EmittedMethod, HaveOwnMembers}
 use Rattle.sj_judged.specs.Judged.{IsJudgedClass, IsJudgedMethod}
-use Rattle.sj_proper.specs.Emitted.{HaveOwnMembers}
 use Rattle.sj_judged.specs.Linked.{have_functions}
 use Rattle.sj_trees.specs.declared.classes.ClassDef.{ClassDef}
 use Rattle.body_vectors.specs.Bounds.{all_emitted}

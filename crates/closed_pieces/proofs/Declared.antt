@@ -22,7 +22,7 @@ use Rattle.linked_folders.specs.Classes.{HasForm}
 use Rattle.linked_folders.specs.Dispatch.{dispatch_name, reflective_name}
 use Rattle.linked_folders.specs.Dispatched.{IsDispatched}
 use Rattle.linked_folders.specs.ToldPieces.{IsReflected}
-use Rattle.linked_folders.specs.Emitted.{EmittedMethod}
+use Rattle.linked_folders.specs.EmittedMethods.{EmittedMethod}
 use Rattle.linked_folders.specs.Entries.{IsLive}
 use Rattle.linked_folders.specs.Pieces.{piece_of_member, pieces_of_block, AreLinkedPieces}
 use Rattle.linked_folders.specs.Reachable.{Reachable}

@@ -19,7 +19,7 @@ use Rattle.linked_folders.specs.Accepted.{IsAccepted}
 use Rattle.linked_folders.specs.Bodies.{AreBodies}
 use Rattle.linked_folders.specs.Built.{any_object, body_boxes, is_built, is_object_body, may_make}
 use Rattle.linked_folders.specs.Classes.{HasForm}
-use Rattle.linked_folders.specs.Emitted.{EmittedMethod}
+use Rattle.linked_folders.specs.EmittedMethods.{EmittedMethod}
 use Rattle.linked_folders.specs.Pieces.{piece_of_member}
 use Rattle.linked_folders.specs.Reachable.{Reachable}
 use Rattle.linked_folders.specs.Refusals.{missing_class, missing_method, abstract_target, IsPresent, no_class, no_target, no_target_body, no_method, no_hijacked_body}

@@ -8,7 +8,7 @@ use Rattle.linked_folders.proofs.Given.{all_from}
 use Rattle.linked_folders.specs.Classes.{AreClassPieces, AreParts, absent, present}
 use Rattle.linked_folders.specs.Dispatched.{OfDispatched}
 use Rattle.linked_folders.specs.ToldPieces.{OfReflected}
-use Rattle.linked_folders.specs.Emitted.{EmittedMethod}
+use Rattle.linked_folders.specs.EmittedMethods.{EmittedMethod}
 use Rattle.linked_folders.specs.Pieces.{piece_of_member, Block, IsBlock, AreBlocks, pieces_of_block, with_helpers, AreLinkedPieces}
 use Rattle.helper_rules.specs.Helpers.{helper_piece}
 use Rattle.helper_rules.specs.declared.kinds.Helper.{Helper}

@@ -8,7 +8,7 @@ use Rattle.linked_folders.specs.Bodies.{AreBodies}
 use Rattle.linked_folders.specs.Built.{is_object_body}
 use Rattle.linked_folders.specs.Classes.{AreParts}
 use Rattle.linked_folders.specs.Dispatch.{dispatch_name, reflective_name}
-use Rattle.linked_folders.specs.Emitted.{EmittedMethod}
+use Rattle.linked_folders.specs.EmittedMethods.{EmittedMethod}
 use Rattle.linked_folders.specs.Entries.{IsLive, IsReflective, AreEntries}
 use Rattle.linked_folders.specs.Pieces.{piece_of_member, by_piece, AreLinkedPieces}
 use Rattle.linked_folders.specs.Reachable.{Reachable}

@@ -16,7 +16,7 @@ use Rattle.module_rules.specs.Calls.{call_item_of}
 use Rattle.module_rules.specs.Modules.{file_with, is_owned_in, item_of, module_of as planned_module}
 use Rattle.sj_split.specs.Modules.{file}
 use Rattle.module_uses.proofs.Places.{Stands, own, method, helps, tells, names, stands}
-use Rattle.module_uses.specs.Emitted.{EmittedMethod}
+use Rattle.module_uses.specs.EmittedMethods.{EmittedMethod}
 use Rattle.module_uses.specs.Files.{program_of, source_of}
 use Rattle.module_uses.specs.LinkedPiecesPieces.{AreLinkedPieces}
 use Rattle.module_uses.specs.Pieces.{Parts, pieces, class_piece}

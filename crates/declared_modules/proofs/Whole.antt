@@ -30,7 +30,7 @@ use Rattle.module_uses.specs.Bodies.{AreBodies}
 use Rattle.module_uses.specs.Built.{can_look_up, Usable, has_static, has_cell, is_static, has_kind, has_no_value}
 use Rattle.module_uses.specs.Closed.{IsClosed}
 use Rattle.module_uses.specs.FileDeclarationsDeclared.{Running, alone, on_receiver, completing, running}
-use Rattle.module_uses.specs.Emitted.{EmittedMethod}
+use Rattle.module_uses.specs.EmittedMethods.{EmittedMethod}
 use Rattle.module_uses.specs.Dispatch.{Told, IsReachedTarget, dispatch_piece, Reflected, reflective_piece}
 use Rattle.module_uses.specs.Entries.{AreEntries, IsLive}
 use Rattle.module_uses.specs.ClassTestsKinds.{is_told}

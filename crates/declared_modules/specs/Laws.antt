@@ -5,7 +5,7 @@ use Rattle.module_uses.specs.Declared.{Declared}
 use Rattle.module_uses.specs.Accepted.{IsAccepted}
 use Rattle.module_uses.specs.Bodies.{AreBodies}
 use Rattle.module_uses.specs.Closed.{IsClosed}
-use Rattle.module_uses.specs.Emitted.{EmittedMethod}
+use Rattle.module_uses.specs.EmittedMethods.{EmittedMethod}
 use Rattle.module_uses.specs.Entries.{AreEntries, IsLive}
 use Rattle.module_uses.specs.LinkedPiecesPieces.{AreLinkedPieces}
 use Rattle.module_uses.specs.Running.{CanRun}

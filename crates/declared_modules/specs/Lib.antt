@@ -14,6 +14,7 @@ pub use Rattle.module_uses.specs.Files
 pub use Rattle.module_uses.specs.Built
 pub use Rattle.module_uses.specs.Declared
 pub use Rattle.module_uses.specs.Emitted
+pub use Rattle.module_uses.specs.EmittedMethods
 pub use Rattle.module_uses.specs.RunningModulesLaws
 pub use Rattle.module_uses.specs.Link
 pub use Rattle.module_uses.specs.Placed

@@ -11,7 +11,7 @@ use Rattle.object_helpers.specs.Pieces.{piece_of_member, Block, IsBlock, AreBloc
 use Rattle.file_declarations.specs.Classes.{AreClassPieces, AreParts, absent, present}
 use Rattle.file_declarations.specs.Pieces.{Parts, pieces}
 use Rattle.sj_names.specs.WellKnown.{is_object, object}
-use Rattle.object_helpers.specs.Emitted.{EmittedMethod}
+use Rattle.object_helpers.specs.EmittedMethods.{EmittedMethod}
 use Rattle.sj_split.proofs.Members.{at_first, further, cons_cases, into_map}
 use Rattle.sj_trees.specs.declared.classes.ClassDef.{ClassDef}
 use Rattle.sj_world.specs.Known.{Classes, class_of}

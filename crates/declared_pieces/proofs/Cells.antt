@@ -21,7 +21,7 @@ use Rattle.object_helpers.proofs.Stores.{stores_own}
 use Rattle.object_helpers.proofs.Worlds.{judged}
 use Rattle.object_helpers.specs.Accepted.{IsAccepted}
 use Rattle.object_helpers.specs.Bodies.{AreBodies}
-use Rattle.object_helpers.specs.Emitted.{EmittedMethod}
+use Rattle.object_helpers.specs.EmittedMethods.{EmittedMethod}
 use Rattle.object_helpers.specs.Pieces.{AreLinkedPieces}
 use Rattle.object_helpers.specs.Reachable.{Reachable}
 use Rattle.object_helpers.specs.Rules.{Reads, load_needed}

@@ -8,7 +8,7 @@ use Rattle.object_helpers.proofs.EachTyped.{in_all}
 use Rattle.object_helpers.proofs.Members.{defined}
 use Rattle.object_helpers.specs.Bodies.{AreBodies}
 use Rattle.file_declarations.specs.Classes.{HasForm}
-use Rattle.object_helpers.specs.Emitted.{EmittedMethod}
+use Rattle.object_helpers.specs.EmittedMethods.{EmittedMethod}
 use Rattle.object_helpers.specs.Used.{is_test_for, is_cast_to, is_base_of, is_load_of, is_store_of, is_tested, is_cast, is_based_on, is_loaded, is_stored}
 use Rattle.sj_infos.specs.Forms.{form_of, of_base, of_call, of_test, of_cast, forms_in, forms_by_body}
 use Rattle.sj_infos.specs.Infos.{asks, asked_by_body, of_base as asked_base, of_array, of_type, is_any, class_cast, negative_size}

@@ -53,7 +53,7 @@ use Rattle.object_helpers.proofs.WorkedOut.{targets_are_worked_out}
 use Rattle.object_helpers.proofs.EachTyped.{in_all}
 use Rattle.object_helpers.specs.Accepted.{IsAccepted}
 use Rattle.object_helpers.specs.Bodies.{AreBodies}
-use Rattle.object_helpers.specs.Emitted.{EmittedMethod}
+use Rattle.object_helpers.specs.EmittedMethods.{EmittedMethod}
 use Rattle.object_helpers.specs.Entries.{AreEntries, IsLive, IsTarget, IsReflective, IsProxy, proxy}
 use Rattle.object_helpers.specs.Pieces.{piece_of_member, pieces_of_block, AreLinkedPieces, by_piece}
 use Rattle.object_helpers.specs.Reachable.{Reachable}

@@ -33,7 +33,7 @@ use Rattle.sj_names.proofs.Same.{impossible, text-refl, text-same}
 use Rattle.sj_names.specs.WellKnown.{is_object, object}
 use Rattle.sj_names.specs.declared.entry_points.EntryPoint.{EntryPoint}
 use Rattle.sj_names.specs.declared.folders.SourceFile.{SourceFile}
-use Rattle.object_helpers.specs.Emitted.{EmittedMethod}
+use Rattle.object_helpers.specs.EmittedMethods.{EmittedMethod}
 use Rattle.sj_split.proofs.Members.{at_first, further, cons_cases, from_map}
 use Rattle.sj_trees.specs.declared.classes.FieldDef.{FieldDef}
 use Rattle.sj_world.proofs.Grows.{ancestors_grow}

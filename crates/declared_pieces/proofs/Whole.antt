@@ -57,7 +57,7 @@ use Rattle.sj_names.specs.declared.method_names.Namespace.{Namespace}
 use Rattle.sj_names.specs.declared.method_names.Namespace.TheVariants.{Public, PublicStatic, Private, PrivateStatic, Constructor}
 use Rattle.sj_names.specs.declared.references.TypeRef.{TypeRef}
 use Rattle.sj_names.specs.declared.references.TypeRef.TheVariants as References
-use Rattle.object_helpers.specs.Emitted.{EmittedMethod}
+use Rattle.object_helpers.specs.EmittedMethods.{EmittedMethod}
 use Rattle.object_helpers.proofs.Same.{has_function-is}
 use Rattle.object_helpers.specs.Linked.{has_function}
 use Rattle.sj_split.proofs.Members.{into_filter, from_filter}

@@ -20,7 +20,7 @@ use Rattle.file_declarations.specs.Bridges.{bridge}
 use Rattle.file_declarations.specs.Classes.{AreParts}
 use Rattle.file_declarations.specs.Dispatch.{Told, AreTold, IsReachedTarget, dispatch_piece, Reflected, AreReflected, reflected_uses, reflective_piece}
 use Rattle.file_declarations.specs.Reflecting.{proxy_code}
-use Rattle.object_helpers.specs.Emitted.{EmittedMethod}
+use Rattle.object_helpers.specs.EmittedMethods.{EmittedMethod}
 use Rattle.object_helpers.specs.Entries.{AreEntries, IsLive, IsReflective}
 use Rattle.object_helpers.specs.Linked.{has_function}
 use Rattle.file_declarations.specs.Pieces.{Parts, entry_member, constants_piece, class_piece, variable_piece, setter_piece, test_piece, test_uses, kind_of_class, cast_piece, is_char}

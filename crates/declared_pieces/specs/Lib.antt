@@ -5,6 +5,7 @@ pub use Rattle.object_helpers.specs.Pieces
 pub use Rattle.object_helpers.specs.Modules
 pub use Rattle.object_helpers.specs.Reachable
 pub use Rattle.object_helpers.specs.Emitted
+pub use Rattle.object_helpers.specs.EmittedMethods
 pub use Rattle.object_helpers.specs.Bodies
 pub use Rattle.object_helpers.specs.Verdicts
 pub use Rattle.object_helpers.specs.Accepted
@@ -14,7 +15,6 @@ pub use Rattle.object_helpers.specs.Judged
 pub use Rattle.file_declarations.specs.Classes
 pub use Rattle.object_helpers.specs.LinkedPiecesLaws
 pub use Rattle.object_helpers.specs.Used
-pub use Rattle.object_helpers.specs.Files
 pub use Rattle.object_helpers.specs.Written
 pub use Rattle.object_helpers.specs.Dispatch
 pub use Rattle.object_helpers.specs.Dispatched

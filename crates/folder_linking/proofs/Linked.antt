@@ -10,13 +10,12 @@ use Rattle.js_tree.specs.Rules.{IsPiece}
 use Rattle.js_tree.specs.Terms.{Piece}
 use Rattle.js_tree.specs.Views.{piece_view}
 use Rattle.js_tree.specs.declared.items.JsPiece.{JsPiece}
-use Rattle.body_soundness.specs.Emitted.{EmittedMethod}
-use Rattle.world_pieces.specs.Files.{HasFunction}
+use Rattle.body_soundness.specs.EmittedMethods.{EmittedMethod, HaveOwnMembers}
+use Rattle.world_pieces.specs.EmittedMethods.{HasFunction}
 use Rattle.sj_names.proofs.Equal.{member_decides}
 use Rattle.sj_names.specs.contracts.method_names.MemberPartialEq.TheImpl as member_eq
 use Rattle.sj_names.specs.declared.entry_points.EntryPoint.{EntryPoint}
 use Rattle.sj_names.specs.declared.method_names.Member.{Member}
-use Rattle.body_soundness.specs.Emitted.{HaveOwnMembers}
 use Rattle.sj_reach.specs.Answers.{StandOnce, AreReachable}
 use Rattle.sj_reach.specs.Reachable.{Reachable}
 use Rattle.sj_split.proofs.Members.{at_first, further, cons_cases, into_map, from_map}

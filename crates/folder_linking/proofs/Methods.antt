@@ -5,7 +5,7 @@ use Rattle.std.specs.List.{All}
 use Rattle.js_tree.specs.Rules.{IsPiece}
 use Rattle.js_tree.specs.Views.{piece_view}
 use Rattle.world_pieces.specs.Pieces.{piece_of_member}
-use Rattle.body_soundness.specs.Emitted.{EmittedMethod}
+use Rattle.body_soundness.specs.EmittedMethods.{EmittedMethod}
 use Rattle.sj_pieces.specs.Owners.{OnObjects}
 use Rattle.sj_split.proofs.Members.{at_first, further, cons_cases}
 use Rattle.sj_world.specs.Known.{Classes}

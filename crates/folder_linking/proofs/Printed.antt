@@ -11,7 +11,8 @@ use Rattle.linked_modules.proofs.Blocks.{method_there}
 use Rattle.linked_modules.proofs.Calls.{entry}
 use Rattle.linked_modules.proofs.Members.{defined}
 use Rattle.world_pieces.proofs.Same.{has_function-is}
-use Rattle.body_soundness.specs.Emitted.{EmittedMethod, initializer_member}
+use Rattle.body_soundness.specs.EmittedMethods.{EmittedMethod}
+use Rattle.body_soundness.specs.Emitted.{initializer_member}
 use Rattle.world_pieces.specs.Pieces.{piece_of_member}
 use Rattle.linked_modules.proofs.Entries.{initializer_of}
 use Rattle.linked_modules.specs.Files.{IsFileOf, AreFilesOf}

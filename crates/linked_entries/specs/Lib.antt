@@ -5,9 +5,8 @@ pub use Rattle.accepted_folders.specs.BodySoundnessLaws
 pub use Rattle.accepted_folders.specs.BodySoundnessRules as Rules
 pub use Rattle.accepted_folders.specs.Built
 pub use Rattle.linked_pieces.specs.Classes
-pub use Rattle.linked_pieces.specs.Emitted
+pub use Rattle.linked_pieces.specs.EmittedMethods
 pub use Rattle.accepted_folders.specs.Entries
-pub use Rattle.linked_pieces.specs.Files
 pub use Rattle.accepted_folders.specs.Judged
 pub use Rattle.accepted_folders.specs.Linked
 pub use Rattle.accepted_folders.specs.Locals

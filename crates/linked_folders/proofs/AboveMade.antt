@@ -11,7 +11,7 @@ use Rattle.declared_pieces.proofs.Pieces.{extending}
 use Rattle.declared_pieces.proofs.Plain.{class_found}
 use Rattle.declared_pieces.specs.Accepted.{IsAccepted}
 use Rattle.declared_pieces.specs.Bodies.{AreBodies}
-use Rattle.declared_pieces.specs.Emitted.{EmittedMethod}
+use Rattle.declared_pieces.specs.EmittedMethods.{EmittedMethod}
 use Rattle.declared_pieces.specs.Entries.{IsLive}
 use Rattle.declared_pieces.specs.Pieces.{AreLinkedPieces}
 use Rattle.declared_pieces.specs.Reachable.{Reachable}

@@ -31,7 +31,7 @@ use Rattle.declared_pieces.proofs.Parts.{cast_among}
 use Rattle.declared_pieces.proofs.Plain.{class_found}
 use Rattle.declared_pieces.specs.Closed.{IsClosed}
 use Rattle.declared_pieces.specs.Entries.{AreEntries, IsLive}
-use Rattle.declared_pieces.specs.Files.{HasFunction}
+use Rattle.declared_pieces.specs.EmittedMethods.{EmittedMethod, HasFunction}
 use Rattle.file_listings.specs.Listed.{AreBytes}
 use Rattle.helper_rules.specs.Helpers.{failure_class, helper_name, helper_piece, init_name, of, used_helpers}
 use Rattle.helper_rules.specs.Words.{bound, class_name, helper, kind_class}
@@ -67,7 +67,7 @@ use Rattle.sj_names.specs.WellKnown.{object}
 use Rattle.sj_names.specs.declared.entry_points.EntryPoint.{EntryPoint}
 use Rattle.sj_names.specs.declared.folders.SourceFile.{SourceFile}
 use Rattle.sj_names.specs.declared.method_names.MethodName.{MethodName}
-use Rattle.declared_pieces.specs.Emitted.{EmittedMethod, initializer_member}
+use Rattle.declared_pieces.specs.Emitted.{initializer_member}
 use Rattle.declared_pieces.specs.Once.{DefinesOnce}
 use Rattle.declared_pieces.specs.Linked.{has_function}
 use Rattle.sj_split.proofs.Members.{at_first, further, cons_cases}

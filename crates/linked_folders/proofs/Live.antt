@@ -5,7 +5,7 @@ use Rattle.js_tree.specs.Terms.{Piece}
 use Rattle.declared_pieces.specs.Pieces.{Block, AreBlocks, AreLinkedPieces}
 use Rattle.declared_pieces.specs.Classes.{AreClassPieces, absent, present}
 use Rattle.sj_names.proofs.Same.{impossible}
-use Rattle.declared_pieces.specs.Emitted.{EmittedMethod}
+use Rattle.declared_pieces.specs.EmittedMethods.{EmittedMethod}
 use Rattle.sj_split.proofs.Members.{at_first, further, cons_cases}
 use Rattle.sj_trees.specs.declared.classes.ClassDef.{ClassDef}
 use Rattle.sj_world.specs.Known.{Name, class_of}

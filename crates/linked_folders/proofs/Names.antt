@@ -4,7 +4,7 @@ use Rattle.std.proofs.lemmas.List.Elements.{All-contains}
 use Rattle.file_listings.proofs.ListedClasses.{file_is_listed}
 use Rattle.file_listings.specs.Listed.{AreBytes}
 use Rattle.listing_spelling.specs.Rules.{HasListing, IsListedMethod}
-use Rattle.declared_pieces.specs.Emitted.{EmittedMethod}
+use Rattle.declared_pieces.specs.EmittedMethods.{EmittedMethod}
 use Rattle.sj_emit_expr.specs.Templates.{member_name}
 use Rattle.declared_pieces.proofs.Found.{OwnerOf, owner_of}
 use Rattle.declared_pieces.specs.Judged.{IsJudgedClass}

@@ -12,8 +12,7 @@ use Rattle.declared_pieces.proofs.LinkedEntriesOne.{one_method}
 use Rattle.declared_pieces.specs.ToldPieces.{HasOneTarget}
 use Rattle.declared_pieces.specs.LinkedPiecesLaws.{AreAlike}
 use Rattle.declared_pieces.proofs.LinkedEntriesOne.{entries_one}
-use Rattle.declared_pieces.specs.Emitted.{EmittedMethod}
-use Rattle.declared_pieces.specs.Files.{HasFunction}
+use Rattle.declared_pieces.specs.EmittedMethods.{EmittedMethod, HasFunction}
 use Rattle.sj_graph.specs.declared.graphs.Reference.{Reference}
 use Rattle.sj_local.specs.Broken.{FirstBroken}
 use Rattle.sj_names.specs.declared.entry_points.EntryPoint.{EntryPoint}

@@ -5,7 +5,7 @@ use Rattle.file_listings.specs.Listed.{AreBytes}
 use Rattle.declared_pieces.specs.Accepted.{IsAccepted}
 use Rattle.declared_pieces.specs.Bodies.{AreBodies}
 use Rattle.declared_pieces.specs.Closed.{IsClosed}
-use Rattle.declared_pieces.specs.Emitted.{EmittedMethod}
+use Rattle.declared_pieces.specs.EmittedMethods.{EmittedMethod}
 use Rattle.declared_pieces.specs.Entries.{AreEntries, IsLive}
 use Rattle.declared_pieces.specs.Pieces.{AreLinkedPieces}
 use Rattle.declared_pieces.specs.Reachable.{Reachable}

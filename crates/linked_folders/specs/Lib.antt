@@ -1,7 +1,7 @@
 pub mod Link
 pub mod Laws
 pub use Rattle.declared_pieces.specs.Stages
-pub use Rattle.declared_pieces.specs.Emitted
+pub use Rattle.declared_pieces.specs.EmittedMethods
 pub use Rattle.declared_pieces.specs.Modules
 pub use Rattle.declared_pieces.specs.Entries
 pub use Rattle.declared_pieces.specs.Accepted
@@ -14,7 +14,6 @@ pub use Rattle.declared_pieces.specs.Used
 pub use Rattle.declared_pieces.specs.Refusals
 pub use Rattle.declared_pieces.specs.TypingRulesRules as Rules
 pub use Rattle.declared_pieces.specs.Typed
-pub use Rattle.declared_pieces.specs.Files
 pub use Rattle.declared_pieces.specs.Reachable
 pub use Rattle.declared_pieces.specs.Verdicts
 pub use Rattle.declared_pieces.specs.Helpers

@@ -6,7 +6,7 @@ use Rattle.js_tree.specs.Terms.{Piece}
 use Rattle.declared_pieces.specs.Pieces.{AreLinkedPieces}
 use Rattle.declared_pieces.specs.Reachable.{Reachable}
 use Rattle.sj_names.specs.declared.entry_points.EntryPoint.{EntryPoint}
-use Rattle.declared_pieces.specs.Emitted.{EmittedMethod}
+use Rattle.declared_pieces.specs.EmittedMethods.{EmittedMethod}
 use Rattle.sj_world.specs.Known.{Classes}
 use Rattle.sj_world.specs.Linked.{Linked}
 use Rattle.sj_world.specs.declared.facts.Fact.{Fact}

@@ -13,7 +13,8 @@ use Rattle.declared_modules.specs.Accepted.{IsAccepted}
 use Rattle.declared_modules.specs.Bodies.{AreBodies}
 use Rattle.declared_modules.specs.Built.{Usable}
 use Rattle.declared_modules.specs.Closed.{IsClosed}
-use Rattle.declared_modules.specs.Emitted.{EmittedMethod, initializer_member}
+use Rattle.declared_modules.specs.EmittedMethods.{EmittedMethod}
+use Rattle.declared_modules.specs.Emitted.{initializer_member}
 use Rattle.declared_modules.specs.Entries.{AreEntries}
 use Rattle.declared_modules.specs.Pieces.{AreLinkedPieces}
 use Rattle.declared_modules.specs.Reachable.{Reachable}

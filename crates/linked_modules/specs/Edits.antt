@@ -2,7 +2,7 @@
 use Rattle.std.specs.Prelude.{◌≡◌, List, length}
 use Rattle.declared_modules.specs.Accepted.{IsAccepted}
 use Rattle.declared_modules.specs.Bodies.{AreBodies}
-use Rattle.declared_modules.specs.Emitted.{EmittedMethod}
+use Rattle.declared_modules.specs.EmittedMethods.{EmittedMethod}
 use Rattle.js_mean.specs.Shows.{File}
 use Rattle.plan_laws.specs.Laws.{AreCountable}
 use Rattle.sj_names.specs.declared.counters.Meter.{Meter}

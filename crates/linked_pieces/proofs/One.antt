@@ -19,7 +19,7 @@ use Rattle.sj_infos.specs.declared.forms.BodyForm.{BodyForm}
 use Rattle.sj_infos.specs.declared.forms.BodyForm.TheVariants as forms
 use Rattle.sj_local.specs.Broken.{FirstBroken}
 use Rattle.sj_names.proofs.Same.{impossible}
-use Rattle.sj_sound.specs.Emitted.{EmittedMethod}
+use Rattle.sj_sound.specs.EmittedMethods.{EmittedMethod}
 use Rattle.sj_split.proofs.Unique.{never_both}
 use Rattle.sj_trees.specs.declared.classes.ClassDef.{ClassDef}
 use Rattle.sj_trees.specs.declared.classes.FieldDef.{FieldDef}

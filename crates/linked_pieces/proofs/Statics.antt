@@ -4,7 +4,7 @@ use Rattle.std.specs.Prelude.{◌||◌}
 use Rattle.sj_kept.specs.Built.{has_static}
 use Rattle.helper_rules.specs.declared.kinds.Helper.{Helper}
 use Rattle.linked_pieces.specs.Used.{used_of, uses_static}
-use Rattle.sj_sound.specs.Emitted.{EmittedMethod}
+use Rattle.sj_sound.specs.EmittedMethods.{EmittedMethod}
 use Rattle.sj_trees.specs.declared.types.IrType.{IrType}
 use Rattle.sj_world.specs.Known.{Name, Classes}
 use Rattle.sj_world.specs.declared.facts.Fact.{Fact}

@@ -12,7 +12,7 @@ use Rattle.sj_sound.specs.Classes.{AreClassPieces}
 use Rattle.sj_kept.specs.Desugar.{desugared_member}
 use Rattle.sj_kept.specs.Members.{member_piece}
 use Rattle.sj_names.specs.WellKnown.{is_object}
-use Rattle.sj_sound.specs.Emitted.{EmittedMethod}
+use Rattle.sj_sound.specs.EmittedMethods.{EmittedMethod}
 use Rattle.sj_split.specs.Orders.{IsBefore}
 use Rattle.sj_world.specs.Known.{Name, Classes}
 use Rattle.sj_world.specs.Linked.{Linked}

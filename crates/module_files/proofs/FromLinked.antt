@@ -6,7 +6,8 @@ use Rattle.std.proofs.lemmas.List.Elements.{Contains-append_left}
 use Rattle.std.proofs.lemmas.Bool.{and_parts}
 use Rattle.js_mean.specs.Proper.{is_proper_item}
 use Rattle.js_tree.specs.Terms.{Item, Piece}
-use Rattle.proper_pieces.specs.Emitted.{EmittedMethod, call_item_of}
+use Rattle.proper_pieces.specs.EmittedMethods.{EmittedMethod}
+use Rattle.proper_pieces.specs.Emitted.{call_item_of}
 use Rattle.proper_pieces.specs.Once.{DefinesOnce}
 use Rattle.proper_pieces.specs.Pieces.{AreLinkedPieces}
 use Rattle.proper_pieces.proofs.Apart.{told_apart}

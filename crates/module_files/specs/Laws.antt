@@ -5,7 +5,7 @@ use Rattle.js_mean.specs.Files.{is_good_file, owner, running_order}
 use Rattle.js_mean.specs.Shows.{File, IsRead}
 use Rattle.js_tree.specs.Terms.{Name, Piece}
 use Rattle.js_tree.specs.declared.items.Binding.{Binding}
-use Rattle.proper_pieces.specs.Emitted.{EmittedMethod}
+use Rattle.proper_pieces.specs.EmittedMethods.{EmittedMethod}
 use Rattle.proper_pieces.specs.Once.{DefinesOnce}
 use Rattle.proper_pieces.specs.Pieces.{AreLinkedPieces}
 use Rattle.module_names.specs.Names.{Key, Digest}

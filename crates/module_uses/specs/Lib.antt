@@ -9,6 +9,7 @@ pub use Rattle.running_modules.specs.Bodies
 pub use Rattle.running_modules.specs.Built
 pub use Rattle.running_modules.specs.Closed
 pub use Rattle.running_modules.specs.Emitted
+pub use Rattle.running_modules.specs.EmittedMethods
 pub use Rattle.running_modules.specs.Entries
 pub use Rattle.running_modules.specs.FileDeclarationsDeclared
 pub use Rattle.running_modules.specs.DeclaredPiecesLaws

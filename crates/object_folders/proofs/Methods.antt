@@ -16,7 +16,7 @@ use Rattle.file_listings.proofs.ListedClasses.{file_is_listed}
 use Rattle.file_listings.specs.Listed.{AreBytes}
 use Rattle.ir_mean.specs.World.{member_of}
 use Rattle.listing_spelling.specs.Rules.{HasListing, IsListedMethod, IsListedTree}
-use Rattle.linked_entries.specs.Files.{HasFunction}
+use Rattle.linked_entries.specs.EmittedMethods.{EmittedMethod, HasFunction}
 use Rattle.linked_entries.proofs.Found.{OwnerOf, owner_of}
 use Rattle.linked_entries.specs.Judged.{IsJudgedClass}
 use Rattle.linked_entries.proofs.Classes.{class-keeps, signature-keeps}
@@ -25,7 +25,6 @@ use Rattle.sj_names.specs.declared.entry_points.EntryPoint.{EntryPoint}
 use Rattle.sj_names.specs.declared.folders.SourceFile.{SourceFile}
 use Rattle.sj_names.specs.declared.method_names.Member.{Member}
 use Rattle.sj_names.specs.declared.method_names.MethodName.{MethodName}
-use Rattle.linked_entries.specs.Emitted.{EmittedMethod}
 use Rattle.linked_entries.specs.Methods.{HaveTypes, KeepsRules}
 use Rattle.linked_entries.specs.Once.{NamesOnce}
 use Rattle.sj_trees.specs.Term.{Term}

@@ -13,7 +13,7 @@ use Rattle.helper_rules.specs.declared.kinds.Failure.TheVariants.{NullReceiver, 
 use Rattle.helper_rules.specs.declared.kinds.Helper.{Helper}
 use Rattle.helper_rules.specs.declared.kinds.Helper.TheVariants.{TestOf, CastTo, ConstantsOf, NotNull, IntQuotient, IntRemainder, LongQuotient, LongRemainder, ArrayClass, MakeArray, CheckIndex, Get, Set, Put, Fits, TestOfArray, CastToArray, Throws}
 use Rattle.ir_mean.specs.Meaning.{with_message, without_parameters}
-use Rattle.linked_entries.specs.Files.{HasFunction}
+use Rattle.linked_entries.specs.EmittedMethods.{EmittedMethod, HasFunction}
 use Rattle.linked_entries.specs.ReachRulesRules.{plain_constructor}
 use Rattle.linked_entries.proofs.Facts.{made_told}
 use Rattle.linked_entries.specs.Used.{used_of, is_among, makes, uses_helper, is_cast as is_cast_to}
@@ -26,7 +26,6 @@ use Rattle.sj_names.specs.Same.{is_same_text}
 use Rattle.sj_names.specs.WellKnown.{object}
 use Rattle.sj_names.specs.declared.entry_points.EntryPoint.{EntryPoint}
 use Rattle.sj_names.specs.declared.method_names.Namespace.TheVariants.{Constructor}
-use Rattle.linked_entries.specs.Emitted.{EmittedMethod}
 use Rattle.linked_entries.specs.Linked.{has_function}
 use Rattle.sj_trees.specs.declared.operators.BinaryOp.{BinaryOp}
 use Rattle.sj_trees.specs.declared.operators.BinaryOp.TheVariants.{IntDivide, IntRemainder as IntRest, LongDivide, LongRemainder as LongRest}

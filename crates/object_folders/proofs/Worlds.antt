@@ -28,7 +28,7 @@ use Rattle.sj_local.specs.Broken.{FirstBroken}
 use Rattle.sj_names.specs.declared.entry_points.EntryPoint.{EntryPoint}
 use Rattle.sj_names.specs.declared.folders.SourceFile.{SourceFile}
 use Rattle.sj_names.specs.declared.method_names.Member.{Member}
-use Rattle.linked_entries.specs.Emitted.{EmittedMethod}
+use Rattle.linked_entries.specs.EmittedMethods.{EmittedMethod}
 use Rattle.linked_entries.proofs.Same.{has_function-is}
 use Rattle.linked_entries.specs.Linked.{has_function}
 use Rattle.sj_trees.specs.declared.classes.ClassDef.{ClassDef}

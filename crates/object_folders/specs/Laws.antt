@@ -12,7 +12,7 @@ use Rattle.object_folders.specs.Running.{CanRun}
 use Rattle.sj_names.specs.declared.entry_points.EntryPoint.{EntryPoint}
 use Rattle.sj_names.specs.declared.folders.SourceFile.{SourceFile}
 use Rattle.sj_names.specs.declared.method_names.Member.{Member}
-use Rattle.linked_entries.specs.Emitted.{EmittedMethod}
+use Rattle.linked_entries.specs.EmittedMethods.{EmittedMethod}
 use Rattle.sj_world.specs.Known.{Name, Classes}
 use Rattle.sj_world.specs.declared.facts.Fact.{Fact}
 

@@ -6,7 +6,7 @@ pub use Rattle.linked_entries.specs.Entries
 pub use Rattle.linked_entries.specs.LinkedPiecesPieces as Pieces
 pub use Rattle.linked_entries.specs.Used
 pub use Rattle.linked_entries.specs.Reachable
-pub use Rattle.linked_entries.specs.Emitted
+pub use Rattle.linked_entries.specs.EmittedMethods
 pub use Rattle.linked_entries.specs.Standing
 pub use Rattle.linked_entries.specs.Built
 pub use Rattle.linked_entries.specs.Classes
@@ -21,7 +21,6 @@ pub use Rattle.linked_entries.specs.Settings
 pub use Rattle.linked_entries.specs.Verdicts
 pub use Rattle.linked_entries.specs.Refusals
 pub use Rattle.linked_entries.specs.LinkedPiecesLaws
-pub use Rattle.linked_entries.specs.Files
 pub use Rattle.linked_entries.specs.Once
 pub use Rattle.linked_entries.specs.Stages
 pub use Rattle.linked_entries.specs.TypingRulesRules

@@ -11,10 +11,9 @@ use Rattle.helper_rules.specs.declared.kinds.Helper.TheVariants.{Throws}
 use Rattle.linked_entries.specs.Used.{used_of, is_cast, is_loaded}
 use Rattle.linked_entries.specs.Reachable.{Reachable}
 use Rattle.linked_entries.specs.ReachRulesRules.{message_constructor, plain_constructor}
-use Rattle.linked_entries.specs.Files.{HasFunction}
+use Rattle.linked_entries.specs.EmittedMethods.{EmittedMethod, HasFunction}
 use Rattle.sj_names.specs.WellKnown.{object}
 use Rattle.sj_names.specs.declared.entry_points.EntryPoint.{EntryPoint}
-use Rattle.linked_entries.specs.Emitted.{EmittedMethod}
 use Rattle.sj_world.specs.Known.{Name, Classes}
 use Rattle.sj_world.specs.declared.facts.Fact.{Fact}
 use Rattle.sj_names.specs.declared.method_names.MethodName.{MethodName}

@@ -58,7 +58,7 @@ use Rattle.sj_names.specs.declared.method_names.MethodName.{MethodName}
 use Rattle.sj_names.specs.declared.method_names.Namespace.TheVariants.{Constructor}
 use Rattle.sj_names.specs.declared.references.BaseRef.{BaseRef}
 use Rattle.sj_emit_expr.specs.Templates.{member_name}
-use Rattle.body_uses.specs.Emitted.{EmittedMethod}
+use Rattle.body_uses.specs.EmittedMethods.{EmittedMethod}
 use Rattle.sj_split.proofs.Members.{from_map}
 use Rattle.sj_trees.specs.Term.{Term, load_module, store_module, apply, new_array, array_value, is_instance_of, as_instance_of}
 use Rattle.sj_trees.specs.declared.classes.FieldDef.{FieldDef}

@@ -5,8 +5,8 @@ pub use Rattle.body_uses.specs.Accepted
 pub use Rattle.body_uses.specs.Bodies
 pub use Rattle.body_uses.specs.Built
 pub use Rattle.proper_pieces.specs.Emitted
+pub use Rattle.proper_pieces.specs.EmittedMethods
 pub use Rattle.body_uses.specs.Entries
-pub use Rattle.body_uses.specs.Files
 pub use Rattle.body_uses.specs.Judged
 pub use Rattle.body_uses.specs.Linked
 pub use Rattle.body_uses.specs.LinkedPiecesLaws

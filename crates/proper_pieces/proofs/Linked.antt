@@ -25,7 +25,7 @@ use Rattle.sj_emit_expr.specs.Templates.{member_name}
 use Rattle.sj_names.proofs.Same.{impossible}
 use Rattle.sj_names.specs.Grammar.{is_class_name}
 use Rattle.sj_names.specs.WellKnown.{is_object}
-use Rattle.linked_pieces.specs.Emitted.{EmittedMethod}
+use Rattle.linked_pieces.specs.EmittedMethods.{EmittedMethod}
 use Rattle.sj_split.proofs.Members.{at_first, further, Mapped, from_map}
 use Rattle.sj_split.proofs.Unique.{never_both}
 use Rattle.sj_split.specs.Orders.{IsBefore}

@@ -16,7 +16,8 @@ use Rattle.proper_pieces.specs.Modules.{item_of, is_owned}
 use Rattle.sj_names.specs.WellKnown.{is_object}
 use Rattle.sj_names.specs.declared.entry_points.EntryPoint.{EntryPoint}
 use Rattle.linked_pieces.proofs.Modules.{calls_proper, calls_named}
-use Rattle.linked_pieces.specs.Emitted.{EmittedMethod, call_item_of}
+use Rattle.linked_pieces.specs.EmittedMethods.{EmittedMethod}
+use Rattle.linked_pieces.specs.Emitted.{call_item_of}
 use Rattle.linked_pieces.specs.Once.{DefinesOnce}
 use Rattle.sj_split.proofs.Members.{at_first, further, from_map, from_filter}
 use Rattle.sj_world.specs.Linked.{Linked}

@@ -12,7 +12,7 @@ use Rattle.sj_local.specs.Broken.{FirstBroken}
 use Rattle.sj_names.specs.Grammar.{is_class_name}
 use Rattle.sj_names.specs.declared.entry_points.EntryPoint.{EntryPoint}
 use Rattle.sj_names.specs.declared.method_names.MethodName.{MethodName}
-use Rattle.linked_pieces.specs.Emitted.{EmittedMethod}
+use Rattle.linked_pieces.specs.EmittedMethods.{EmittedMethod}
 use Rattle.linked_pieces.specs.Once.{DefinesOnce}
 use Rattle.sj_trees.specs.declared.classes.ClassDef.{ClassDef}
 use Rattle.sj_world.specs.Known.{Classes}

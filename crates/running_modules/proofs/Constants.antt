@@ -9,7 +9,7 @@ use Rattle.helper_rules.specs.declared.kinds.Helper.{Helper}
 use Rattle.helper_rules.specs.declared.kinds.Helper.TheVariants as helpers
 use Rattle.js_tree.specs.Terms.{Name, Property, object_item, Piece}
 use Rattle.declared_files.specs.Classes.{AreParts}
-use Rattle.sj_proper.specs.Emitted.{EmittedMethod}
+use Rattle.sj_proper.specs.EmittedMethods.{EmittedMethod}
 use Rattle.declared_files.specs.Pieces.{Parts, pieces, class_piece}
 use Rattle.module_files.specs.Pieces.{AreLinkedPieces}
 use Rattle.sj_proper.proofs.Plain.{class_found}

@@ -8,7 +8,7 @@ use Rattle.helper_rules.specs.declared.kinds.Helper.{Helper}
 use Rattle.helper_rules.specs.declared.kinds.Helper.TheVariants as helpers
 use Rattle.js_tree.specs.Terms.{Name, Item, Piece, subclass_item}
 use Rattle.js_tree.specs.declared.items.Binding.{Binding}
-use Rattle.sj_proper.specs.Emitted.{EmittedMethod}
+use Rattle.sj_proper.specs.EmittedMethods.{EmittedMethod}
 use Rattle.declared_files.specs.Pieces.{Parts, pieces, class_piece}
 use Rattle.module_files.specs.Pieces.{AreLinkedPieces}
 use Rattle.sj_split.proofs.Members.{at_first}

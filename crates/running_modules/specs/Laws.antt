@@ -14,7 +14,7 @@ use Rattle.module_names.specs.Names.{Key, Digest}
 use Rattle.module_rules.specs.Laws.{AreClosed, IsSource}
 use Rattle.module_rules.specs.Modules.{file_with, is_owned_in, item_of}
 use Rattle.closed_pieces.specs.Accepted.{IsAccepted}
-use Rattle.sj_proper.specs.Emitted.{EmittedMethod}
+use Rattle.sj_proper.specs.EmittedMethods.{EmittedMethod}
 use Rattle.module_files.specs.Pieces.{AreLinkedPieces}
 use Rattle.closed_pieces.specs.Reachable.{Reachable}
 use Rattle.plan_laws.specs.Laws.{KeepsNamesApart}

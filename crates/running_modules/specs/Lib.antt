@@ -3,6 +3,7 @@ pub use Rattle.declared_files.specs.Declared
 pub use Rattle.declared_files.specs.Placed
 pub use Rattle.sj_proper.specs.Built
 pub use Rattle.sj_proper.specs.Emitted
+pub use Rattle.sj_proper.specs.EmittedMethods
 pub use Rattle.closed_pieces.specs.Link
 pub use Rattle.closed_pieces.specs.Given
 pub use Rattle.closed_pieces.specs.BodyUsesLaws

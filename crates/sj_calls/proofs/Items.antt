@@ -12,7 +12,8 @@ use Rattle.dispatch_laws.specs.Templates.{member_name, parameter_names, body_tem
 use Rattle.sj_bodies.proofs.Lists.{nothing_in, in_front_or_behind}
 use Rattle.sj_bodies.proofs.Equal.{equals, is-equal}
 use Rattle.sj_names.proofs.Same.{impossible}
-use Rattle.sj_bodies.specs.Emitted.{EmittedMethod, function_item_of}
+use Rattle.sj_bodies.specs.EmittedMethods.{EmittedMethod}
+use Rattle.sj_bodies.specs.Emitted.{function_item_of}
 
 abbrev name_of : EmittedMethod → Name
 name_of e = member_name e.member

@@ -35,8 +35,9 @@ use Rattle.sj_bodies.specs.SjPlainStanding.{suits}
 use Rattle.sj_names.proofs.Same.{impossible}
 use Rattle.sj_trees.specs.declared.types.IrType.TheVariants.{Any, NoType}
 use Rattle.sj_bodies.proofs.Equal.{equals}
-use Rattle.sj_bodies.specs.Emitted.{EmittedMethod, function_item_of, initializer_member, call_item_of, module_with}
-use Rattle.sj_calls.specs.Files.{program_with, IsEmitted, HasFunction}
+use Rattle.sj_bodies.specs.EmittedMethods.{EmittedMethod, HasFunction}
+use Rattle.sj_bodies.specs.Emitted.{function_item_of, initializer_member, call_item_of, module_with}
+use Rattle.sj_calls.specs.Files.{program_with, IsEmitted}
 use Rattle.sj_calls.specs.Methods.{CallsAlone, CallsAgree, parameters_in, function_of, Linked, ir_call, js_call}
 use Rattle.sj_calls.specs.Names.{emitted_in}
 use Rattle.sj_calls.proofs.Items.{code_with, code_found, cell_found}

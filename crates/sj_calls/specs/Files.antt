@@ -1,12 +1,11 @@
 -- A file that has the functions of methods, and behind them the calls of initializers.
-use Rattle.sj_bodies.specs.Emitted.{EmittedMethod, module_with}
+use Rattle.sj_bodies.specs.EmittedMethods.{EmittedMethod}
+use Rattle.sj_bodies.specs.Emitted.{module_with}
 use Rattle.std.specs.Prelude.{◌≡◌, ℕ, List, [], ◌∷◌, Some}
-use Rattle.std.specs.List.{Contains}
 use Rattle.dispatch_laws.specs.World.{World, member_of}
 use Rattle.js_mean.specs.Shows.{file_of}
 use Rattle.js_mean.specs.States.{Program}
 use Rattle.sj_names.specs.declared.entry_points.EntryPoint.{EntryPoint}
-use Rattle.sj_names.specs.declared.method_names.Member.{Member}
 use Rattle.sj_bodies.specs.Methods.{KeepsRules, HaveTypes}
 use Rattle.sj_bodies.specs.Built.{Usable}
 use Rattle.sj_bodies.specs.Standing.{call_type}
@@ -24,9 +23,3 @@ pub record IsEmitted (w : World) (has : Usable) (e : EmittedMethod) : Type 0 whe
   pub result_is : e.definition.result ≡ call_type e.member.method.result
   pub rules : KeepsRules w has e.member.class e.definition e.its_body
   pub names : NamesOnce e.definition e.its_body
-
--- one of these methods is that of the member
-pub record HasFunction (fs : List EmittedMethod) (m : Member) : Type 0 where
-  pub method : EmittedMethod
-  pub listed : Contains fs method
-  pub is : method.member ≡ m

@@ -12,7 +12,7 @@ use Rattle.sj_names.specs.declared.entry_points.EntryPoint.{EntryPoint}
 use Rattle.sj_trees.specs.declared.classes.ClassDef.{ClassDef}
 use Rattle.sj_typed.specs.Rules.{HasListing, IsListedMethod, IsListedTree}
 use Rattle.file_listings.proofs.ListedClasses.{file_is_listed}
-use Rattle.sj_sound.specs.Emitted.{EmittedMethod, HaveOwnMembers}
+use Rattle.sj_sound.specs.EmittedMethods.{EmittedMethod, HaveOwnMembers}
 use Rattle.sj_sound.specs.Files.{program_with}
 use Rattle.sj_sound.specs.Linked.{have_functions, functions_of}
 use Rattle.sj_judged.specs.Programs.{IsAccepted}

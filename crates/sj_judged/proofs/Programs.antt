@@ -6,7 +6,7 @@ use Rattle.sj_agree.specs.World.{World}
 use Rattle.js_mean.specs.Shows.{js_shows}
 use Rattle.sj_names.specs.declared.entry_points.EntryPoint.{EntryPoint}
 use Rattle.sj_names.specs.declared.method_names.MethodName.{MethodName}
-use Rattle.sj_sound.specs.Emitted.{EmittedMethod, HaveOwnMembers}
+use Rattle.sj_sound.specs.EmittedMethods.{EmittedMethod, HaveOwnMembers}
 use Rattle.sj_sound.specs.Files.{program_with}
 use Rattle.sj_sound.specs.Linked.{have_functions, IsRight, IsWhole}
 use Rattle.sj_sound.specs.Methods.{HaveTypes}

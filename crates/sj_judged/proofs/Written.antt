@@ -9,8 +9,9 @@ use Rattle.js_tree.specs.Rules.{IsName, IsImport, IsItem, IsPiece, IsModule}
 use Rattle.js_tree.specs.Spelling.{Spells}
 use Rattle.js_tree.specs.Terms.{Item}
 use Rattle.sj_agree.specs.Agrees.{Agrees}
-use Rattle.sj_sound.specs.Emitted.{EmittedMethod, piece_of_method, function_item_of, initializer_member, call_item_of, module_with, HaveOwnMembers}
-use Rattle.sj_sound.specs.Files.{program_with, HasFunction}
+use Rattle.sj_sound.specs.EmittedMethods.{EmittedMethod, HasFunction, HaveOwnMembers}
+use Rattle.sj_sound.specs.Emitted.{piece_of_method, function_item_of, initializer_member, call_item_of, module_with}
+use Rattle.sj_sound.specs.Files.{program_with}
 use Rattle.sj_sound.proofs.Lists.{nothing_in, in_front_or_behind}
 use Rattle.sj_sound.specs.Templates.{member_name}
 use Rattle.sj_names.specs.declared.entry_points.EntryPoint.{EntryPoint}

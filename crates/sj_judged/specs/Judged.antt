@@ -5,7 +5,7 @@ use Rattle.file_listings.specs.Listed.{AreBytes}
 use Rattle.sj_format.specs.Files.{FileIs}
 use Rattle.sj_local.specs.Broken.{FirstBroken}
 use Rattle.sj_trees.specs.declared.classes.ClassDef.{ClassDef}
-use Rattle.sj_sound.specs.Emitted.{EmittedMethod}
+use Rattle.sj_sound.specs.EmittedMethods.{EmittedMethod}
 use Rattle.sj_sound.specs.Linked.{functions_of}
 use Rattle.sj_typed.specs.Typed.{IsTyped}
 use Rattle.sj_sound.specs.Typing.{is_built_with}

@@ -20,6 +20,7 @@ pub use Rattle.sj_agree.specs.Agrees
 pub use Rattle.sj_typed.specs.Desugar
 pub use Rattle.sj_typed.specs.Kept
 pub use Rattle.sj_sound.specs.Emitted
+pub use Rattle.sj_sound.specs.EmittedMethods
 pub use Rattle.sj_sound.specs.Methods
 pub use Rattle.sj_typed.specs.Once
 pub use Rattle.sj_sound.specs.Worked

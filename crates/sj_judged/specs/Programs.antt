@@ -6,7 +6,7 @@ use Rattle.sj_local.specs.Broken.{FirstBroken}
 use Rattle.sj_names.specs.Grammar.{is_class_name}
 use Rattle.sj_names.specs.MethodNames.{IsMethodName}
 use Rattle.sj_trees.specs.declared.classes.ClassDef.{ClassDef}
-use Rattle.sj_sound.specs.Emitted.{EmittedMethod}
+use Rattle.sj_sound.specs.EmittedMethods.{EmittedMethod}
 use Rattle.sj_sound.specs.Linked.{functions_of}
 use Rattle.sj_sound.specs.Methods.{KeepsRules}
 

@@ -25,7 +25,8 @@ use Rattle.body_rules.specs.Locals.{Own, IsParameter}
 use Rattle.body_rules.proofs.Equal.{differs}
 use Rattle.sj_proper.proofs.Declared.{Declares, declares-followed}
 use Rattle.sj_names.proofs.Same.{impossible}
-use Rattle.sj_proper.specs.Emitted.{EmittedMethod, function_item_of, call_item_of, module_with, HaveOwnMembers, IsNamed}
+use Rattle.sj_proper.specs.EmittedMethods.{EmittedMethod, HaveOwnMembers}
+use Rattle.sj_proper.specs.Emitted.{function_item_of, call_item_of, module_with, IsNamed}
 use Rattle.sj_proper.proofs.Core.{Distinct, Proper, distinct-followed, proper-followed, distinct-templates, proper-templates, not_again}
 use Rattle.sj_proper.proofs.Good.{Good}
 use Rattle.sj_proper.proofs.Trees.{good}

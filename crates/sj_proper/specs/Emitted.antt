@@ -1,6 +1,6 @@
--- Methods whose functions are emitted, and a module of these functions that calls initializers.
-use Rattle.std.specs.Prelude.{◌≡◌, List, [], ◌∷◌, ◌++◌, map, Some, IsTrue}
-use Rattle.std.specs.List.{Contains}
+-- The functions of methods that are emitted, and a module of these functions that calls initializers.
+use Rattle.std.specs.Prelude.{List, [], ◌++◌, map, Some, IsTrue}
+use Rattle.sj_proper.specs.EmittedMethods.{EmittedMethod}
 use Rattle.sj_proper.specs.Once.{DefinesOnce}
 use Rattle.js_mean.specs.Terms.{call_of, no_expressions, Item, expression_item, Piece, Module}
 use Rattle.body_rules.specs.Lookup.{own_targets}
@@ -13,14 +13,6 @@ use Rattle.sj_names.specs.declared.entry_points.EntryPoint.{EntryPoint}
 use Rattle.sj_names.specs.declared.method_names.Member.{Member}
 use Rattle.sj_names.specs.declared.method_names.Namespace.TheVariants.{PublicStatic}
 use Rattle.sj_names.specs.declared.references.TypeRef.TheVariants.{Void}
-use Rattle.sj_trees.specs.Term.{Term}
-use Rattle.sj_trees.specs.declared.classes.MethodDef.{MethodDef}
-
--- a member whose function is emitted, with its method and its body
-pub record EmittedMethod : Type 0 where
-  pub member : Member
-  pub definition : MethodDef
-  pub its_body : Term
 
 -- its piece, where each member that is called on a receiver is its own target, and the item in it
 abbrev pub piece_of_method : EmittedMethod → Piece
@@ -39,11 +31,6 @@ call_item_of e = expression_item (call_of (member_name (initializer_member e)) n
 -- the functions of these methods in this order, and the calls of these initializers
 abbrev pub module_with : List EmittedMethod → List EntryPoint → Module
 module_with fs es = record { imports = []; items = map function_item_of fs ++ map call_item_of es; exports = [] }
-
--- no two methods are those of one member
-abbrev pub HaveOwnMembers : List EmittedMethod → Type 0
-HaveOwnMembers [] = Unit {0}
-HaveOwnMembers (e ∷ es) = ((o : EmittedMethod) → Contains es o → e.member ≡ o.member → ⊥) × HaveOwnMembers es
 
 -- the locals and parameters of the method are defined once, and its class and name are in their grammar
 pub record IsNamed (e : EmittedMethod) : Type 0 where

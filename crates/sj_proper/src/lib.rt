@@ -9,7 +9,8 @@ ghost use Rattle.std.specs.List.{Contains};
 ghost use Rattle.sj_proper.specs.Once.{DefinesOnce};
 ghost use Rattle.js_mean.specs.Proper.{is_proper_item, is_proper_module};
 ghost use Rattle.sj_names.specs.declared.entry_points.EntryPoint.{EntryPoint};
-ghost use Rattle.sj_proper.specs.Emitted.{EmittedMethod, function_item_of, module_with, HaveOwnMembers, IsNamed};
+ghost use Rattle.sj_proper.specs.EmittedMethods.{EmittedMethod, HaveOwnMembers};
+ghost use Rattle.sj_proper.specs.Emitted.{function_item_of, module_with, IsNamed};
 
 /// The emitted function of a method has no early error: no list of statements declares a name twice, no label stands inside itself, and each
 /// break has a target. This is so where no two definitions of the body have one name, no parameter is defined again or stands twice, no

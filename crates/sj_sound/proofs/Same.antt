@@ -5,8 +5,7 @@ use Rattle.std.proofs.lemmas.List.Elements.{Contains-append_left, Contains-appen
 use Rattle.sj_names.specs.Same.{is_same_text, is_same_method, is_same_namespace}
 use Rattle.sj_names.specs.declared.method_names.Member.{Member}
 use Rattle.sj_names.proofs.Same.{impossible, text-same, method-same, namespace-same}
-use Rattle.body_soundness.specs.Emitted.{EmittedMethod}
-use Rattle.sj_calls.specs.Files.{HasFunction}
+use Rattle.body_soundness.specs.EmittedMethods.{EmittedMethod, HasFunction}
 use Rattle.sj_sound.specs.Linked.{is_same_member, has_function}
 
 pub member-same : (m k : Member) → is_same_member m k ≡ true → m ≡ k

@@ -14,7 +14,8 @@ use Rattle.sj_calls.specs.Files.{program_with}
 use Rattle.sj_names.specs.declared.entry_points.EntryPoint.{EntryPoint}
 use Rattle.sj_names.specs.declared.method_names.Member.{Member}
 use Rattle.body_soundness.proofs.SjProperModules.{module_proper}
-use Rattle.body_soundness.specs.Emitted.{EmittedMethod, initializer_member, module_with, HaveOwnMembers, IsNamed}
+use Rattle.body_soundness.specs.EmittedMethods.{EmittedMethod, HaveOwnMembers}
+use Rattle.body_soundness.specs.Emitted.{initializer_member, module_with, IsNamed}
 use Rattle.sj_sound.proofs.Same.{has_function-is}
 use Rattle.sj_sound.specs.Linked.{IsWhole, has_function, have_functions, IsRight, functions_of}
 use Rattle.body_soundness.specs.SjWorldLaws.{IsPlain}

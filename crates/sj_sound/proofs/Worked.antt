@@ -13,7 +13,7 @@ use Rattle.sj_trees.specs.declared.classes.ParamDef.{ParamDef}
 use Rattle.sj_trees.specs.declared.types.IrType.TheVariants.{Int}
 use Rattle.body_soundness.specs.Locals.{Own, local_of, HasValue}
 use Rattle.sj_names.proofs.Same.{impossible}
-use Rattle.body_soundness.specs.Emitted.{EmittedMethod}
+use Rattle.body_soundness.specs.EmittedMethods.{EmittedMethod}
 use Rattle.sj_calls.specs.Files.{program_with}
 use Rattle.body_soundness.proofs.Lists.{nothing_in, in_front_or_behind}
 use Rattle.sj_sound.specs.Linked.{IsRight, functions_of}

@@ -8,7 +8,7 @@ use Rattle.js_mean.specs.Shows.{js_shows}
 use Rattle.sj_names.specs.declared.method_names.Member.{Member}
 use Rattle.sj_names.specs.MethodNames.{IsParameter}
 use Rattle.sj_names.specs.declared.references.TypeRef.TheVariants.{Int}
-use Rattle.body_soundness.specs.Emitted.{EmittedMethod, HaveOwnMembers}
+use Rattle.body_soundness.specs.EmittedMethods.{EmittedMethod, HaveOwnMembers}
 use Rattle.sj_calls.specs.Files.{program_with}
 use Rattle.body_soundness.proofs.Lists.{nothing_in, in_front_or_behind}
 use Rattle.sj_sound.specs.Worked.{tests_it, main_method, tripling_method, worked_world, emitted, worked_methods}

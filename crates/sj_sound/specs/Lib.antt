@@ -10,6 +10,7 @@ pub use Rattle.body_soundness.specs.Standing
 pub use Rattle.body_soundness.specs.Typing
 pub use Rattle.body_soundness.specs.Templates
 pub use Rattle.body_soundness.specs.Emitted
+pub use Rattle.body_soundness.specs.EmittedMethods
 pub use Rattle.body_soundness.specs.Methods
 pub use Rattle.body_soundness.specs.Targets
 pub use Rattle.body_soundness.specs.Tests

@@ -7,7 +7,8 @@ use Rattle.sj_names.specs.Same.{is_same_text, is_same_namespace, is_same_method}
 use Rattle.body_soundness.specs.World.{World}
 use Rattle.sj_names.specs.declared.entry_points.EntryPoint.{EntryPoint}
 use Rattle.sj_names.specs.declared.method_names.Member.{Member}
-use Rattle.body_soundness.specs.Emitted.{EmittedMethod, initializer_member}
+use Rattle.body_soundness.specs.EmittedMethods.{EmittedMethod}
+use Rattle.body_soundness.specs.Emitted.{initializer_member}
 use Rattle.sj_calls.specs.Files.{IsEmitted}
 use Rattle.body_soundness.specs.Built.{Usable, members_alone}
 

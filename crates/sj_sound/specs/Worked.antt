@@ -6,7 +6,7 @@ use Rattle.sj_trees.specs.Term.{Term, if_then, int_literal, binary_op}
 use Rattle.sj_trees.specs.declared.classes.MethodDef.{MethodDef}
 use Rattle.sj_trees.specs.declared.operators.BinaryOp.TheVariants.{IntEqual}
 use Rattle.sj_trees.specs.declared.types.IrType.TheVariants.{NoType}
-use Rattle.body_soundness.specs.Emitted.{EmittedMethod}
+use Rattle.body_soundness.specs.EmittedMethods.{EmittedMethod}
 
 -- `if (f(1) == 27) log "yes" else log "no"`
 abbrev pub tests_it : Term

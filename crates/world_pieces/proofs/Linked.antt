@@ -19,7 +19,7 @@ use Rattle.linked_pieces.specs.Pieces.{piece_of_member, pieces_of_block, IsBlock
 use Rattle.linked_pieces.specs.Reflected.{AreToldPieces}
 use Rattle.sj_emit_expr.specs.Templates.{member_name}
 use Rattle.sj_names.specs.WellKnown.{is_object}
-use Rattle.sj_proper.specs.Emitted.{EmittedMethod, HaveOwnMembers}
+use Rattle.sj_proper.specs.EmittedMethods.{EmittedMethod, HaveOwnMembers}
 use Rattle.sj_split.proofs.Members.{at_first, further, into_filter, from_filter}
 use Rattle.sj_split.specs.Orders.{IsBefore}
 use Rattle.sj_world.specs.Known.{Name, Classes, is_same}

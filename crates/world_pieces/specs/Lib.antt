@@ -6,5 +6,5 @@ pub mod Names
 pub mod Places
 pub mod Same
 pub mod Told
-pub use Rattle.linked_pieces.specs.Files
 pub use Rattle.linked_pieces.specs.Pieces
+pub use Rattle.linked_pieces.specs.EmittedMethods
