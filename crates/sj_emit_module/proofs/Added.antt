@@ -6,20 +6,18 @@ use Rattle.std.proofs.lemmas.List.{take_more, map-append}
 use Rattle.std.proofs.lemmas.List.Concat.{flat_map-append}
 use Rattle.std.proofs.lemmas.List.Elements.{filter-append}
 use Rattle.std.proofs.lemmas.Option.{slice_get_within, get_or_from_slice_get}
-use Rattle.indexmap.specs.IndexSet.{insert_all}
 use Rattle.js_tree.specs.Terms.{Name, Piece}
 use Rattle.js_tree.specs.Views.{piece_view}
 use Rattle.js_tree.specs.declared.items.Binding.{Binding}
 use Rattle.js_tree.specs.declared.items.JsPiece.{JsPiece}
 use Rattle.module_rules.specs.Calls.{called}
-use Rattle.module_rules.specs.Modules.{is_this, is_another, initializers_of, called_in, called_elsewhere, uses_of, item_of, name_of, is_owned_in, is_owned_elsewhere, is_bound_in, is_bound_elsewhere}
+use Rattle.module_rules.specs.Modules.{is_this, initializers_of, called_in, uses_of, item_of, is_owned_in, is_bound_elsewhere}
 use Rattle.sj_emit_module.specs.Groups.{HoldNames}
-use Rattle.sj_emit_module.specs.Pieces.{pieces_import, pieces_export}
+use Rattle.sj_emit_module.specs.Shares.{crossing, crossing_calls}
 use Rattle.sj_emit_module.specs.declared.groups.NameGroups.{NameGroups}
 use Rattle.sj_split.specs.Modules.{file}
 use Rattle.sj_split.specs.Orders.{Bytes}
 use Rattle.sj_split.specs.declared.plans.PlannedModule.{PlannedModule}
-use Rattle.worklist.proofs.Inserted.{insert_all-append}
 
 pub more_taken : {X : Type 0} (xs : List X) (n : ℕ) (x : X) → slice_get xs n ≡ Some x → take (n + 1) xs ≡ take n xs ++ x ∷ []
 more_taken xs n x at = take_more xs n x (slice_get_within xs n x at) ∙ ap (λ y. take n xs ++ y ∷ []) (get_or_from_slice_get xs n x x at)
@@ -32,8 +30,8 @@ module _ {X Y : Type 0} (give : List X → List Y) (joins : Joins give) (xs : Li
   gives_more : give (take (n + 1) xs) ≡ give (take n xs) ++ give (x ∷ [])
   gives_more = ap give (more_taken xs n x at) ∙ joins (take n xs) (x ∷ [])
 
-  pub put_more : (eq : Y → Y → Bool) (old mid new : List Y) → mid ≡ insert_all eq old (give (take n xs)) → new ≡ insert_all eq mid (give (x ∷ [])) → new ≡ insert_all eq old (give (take (n + 1) xs))
-  put_more eq old mid new h e = e ∙ ap (λ m. insert_all eq m (give (x ∷ []))) h ∙ sym (insert_all-append eq old (give (take n xs)) (give (x ∷ []))) ∙ ap (insert_all eq old) (sym gives_more)
+  pub appended_more : (old mid new : List Y) → mid ≡ old ++ give (take n xs) → new ≡ mid ++ give (x ∷ []) → new ≡ old ++ give (take (n + 1) xs)
+  appended_more old mid new h e = e ∙ ap (λ m. m ++ give (x ∷ [])) h ∙ append_assoc old (give (take n xs)) (give (x ∷ [])) ∙ ap (λ m. old ++ m) (sym gives_more)
 
   pub pushed_more : (mid new : List Y) → mid ≡ give (take n xs) → new ≡ mid ++ give (x ∷ []) → new ≡ give (take (n + 1) xs)
   pushed_more mid new h e = e ∙ ap (λ m. m ++ give (x ∷ [])) h ∙ sym gives_more
@@ -43,26 +41,8 @@ pub held_more : {X : Type 0} (give : List X → List Binding) → Joins give →
 held_more give joins xs n x at file_of bs groups held = subst (λ (l : List Binding). HoldNames file_of l groups) (append_assoc bs (give (take n xs)) (give (x ∷ [])) ∙ ap (λ (l : List Binding). bs ++ l) (sym (gives_more give joins xs n x at))) held
 
 module _ (file_of : Name → Option Bytes) (f : Bytes) where
-  pub bound_join : Joins (λ bs. map name_of (filter (is_bound_in file_of f) bs))
-  bound_join xs ys = ap (map name_of) (filter-append (is_bound_in file_of f) xs ys) ∙ map-append name_of (filter (is_bound_in file_of f) xs) (filter (is_bound_in file_of f) ys)
-
   pub elsewhere_join : Joins (λ bs. filter (is_bound_elsewhere file_of f) bs)
   elsewhere_join xs ys = filter-append (is_bound_elsewhere file_of f) xs ys
-
-  chosen_join : (first : Piece → Bool) (second : Binding → Bool) (xs ys : List JsPiece) → filter second (flat_map uses_of (filter first (map piece_view (xs ++ ys)))) ≡ filter second (flat_map uses_of (filter first (map piece_view xs))) ++ filter second (flat_map uses_of (filter first (map piece_view ys)))
-  chosen_join first second xs ys =
-      let ps = map piece_view xs in
-      let qs = map piece_view ys in
-      ap (λ (l : List Piece). filter second (flat_map uses_of (filter first l))) (map-append piece_view xs ys)
-      ∙ ap (λ (l : List Piece). filter second (flat_map uses_of l)) (filter-append first ps qs)
-      ∙ ap (filter second) (flat_map-append uses_of (filter first ps) (filter first qs))
-      ∙ filter-append second (flat_map uses_of (filter first ps)) (flat_map uses_of (filter first qs))
-
-  pub imported_join : Joins (λ (ps : List JsPiece). pieces_import file_of f (map piece_view ps))
-  imported_join xs ys = chosen_join (is_owned_in file_of f) (is_bound_elsewhere file_of f) xs ys
-
-  pub exported_join : Joins (λ (ps : List JsPiece). map name_of (pieces_export file_of f (map piece_view ps)))
-  exported_join xs ys = ap (map name_of) (chosen_join (is_owned_elsewhere file_of f) (is_bound_in file_of f) xs ys) ∙ map-append name_of (pieces_export file_of f (map piece_view xs)) (pieces_export file_of f (map piece_view ys))
 
   pub items_join : Joins (λ (ps : List JsPiece). map item_of (filter (is_owned_in file_of f) (map piece_view ps)))
   items_join xs ys =
@@ -70,6 +50,20 @@ module _ (file_of : Name → Option Bytes) (f : Bytes) where
       ap (λ (l : List Piece). map item_of (filter test l)) (map-append piece_view xs ys)
       ∙ ap (map item_of) (filter-append test (map piece_view xs) (map piece_view ys))
       ∙ map-append item_of (filter test (map piece_view xs)) (filter test (map piece_view ys))
+
+  pub uses_join : Joins (λ (ps : List JsPiece). flat_map uses_of (filter (is_owned_in file_of f) (map piece_view ps)))
+  uses_join xs ys =
+      let test = is_owned_in file_of f in
+      ap (λ (l : List Piece). flat_map uses_of (filter test l)) (map-append piece_view xs ys)
+      ∙ ap (flat_map uses_of) (filter-append test (map piece_view xs) (map piece_view ys))
+      ∙ flat_map-append uses_of (filter test (map piece_view xs)) (filter test (map piece_view ys))
+
+module _ (file_of : Name → Option Bytes) where
+  pub crossing_join : Joins (λ (ps : List JsPiece). flat_map (crossing file_of) (map piece_view ps))
+  crossing_join xs ys = ap (flat_map (crossing file_of)) (map-append piece_view xs ys) ∙ flat_map-append (crossing file_of) (map piece_view xs) (map piece_view ys)
+
+  pub crossing_calls_join : Joins (λ (ms : List PlannedModule). flat_map (crossing_calls file_of) ms)
+  crossing_calls_join xs ys = flat_map-append (crossing_calls file_of) xs ys
 
 -- what the initializers of modules call
 module _ (f : Bytes) where
@@ -81,6 +75,3 @@ module _ (f : Bytes) where
 
   pub own_join : Joins (λ (ms : List PlannedModule). called_in ms f)
   own_join ms ns = called_join (λ m. is_this f (Some (file m))) ms ns
-
-  pub others_join : Joins (λ (ms : List PlannedModule). called_elsewhere ms f)
-  others_join ms ns = called_join (λ m. is_another f (Some (file m))) ms ns

@@ -1,3 +1,4 @@
 pub mod Files
 pub mod Groups
-pub mod Pieces
+pub mod Lists
+pub mod Shares

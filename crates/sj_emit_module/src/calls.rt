@@ -3,79 +3,15 @@ ghost use Rattle.std.specs.Prelude.{◌≡◌, ◌++◌, ◌∷◌, [], IfOk, On
 ghost use Rattle.js_tree.specs.Views.{item_view};
 ghost use Rattle.module_rules.specs.Calls as calls;
 ghost use Rattle.module_rules.specs.Calls.{call_item_of};
-ghost use Rattle.module_rules.specs.Modules as rules;
 
-use crate::files::file_name;
 use js_tree::{Binding, JsExpr, JsItem};
 use sj_mangling::function_name;
 use sj_names::{EntryPoint, Member, MethodName, Namespace, NoMemory, Shared, Text, TypeRef};
-use sj_split::PlannedModule;
 use std::alloc::Global;
 use std::rc::Rc;
 
-/// What the initializers of the modules with this file call.
-pub fn called_in(
-    alloc: Global,
-    modules: &[PlannedModule],
-    file: &Text,
-) -> Result<Vec<Binding>, NoMemory>
-    ensures { IfOk result (λ list. list.items ≡ rules.called_in modules.now file.now) }
-{
-    let mut list = Vec::new(alloc);
-    for planned in modules {
-        add_own(alloc, planned, file, &mut list)?;
-    }
-    Ok(list)
-}
-
-// Adds what the initializers of a module call, if it has this file.
-fn add_own(
-    alloc: Global,
-    planned: &PlannedModule,
-    file: &Text,
-    list: &mut Vec<Binding>,
-) -> Result<(), NoMemory>
-    ensures { OnOk result (list.new.items ≡ list.old.items ++ rules.called_in (planned.now ∷ []) file.now) }
-{
-    let other = file_name(alloc, planned.name.as_str())?;
-    if file.is_same(&other) {
-        add_called(alloc, planned.initializers.as_slice(), list)?;
-    }
-    Ok(())
-}
-
-/// What the initializers of the modules with other files call.
-pub fn called_elsewhere(
-    alloc: Global,
-    modules: &[PlannedModule],
-    file: &Text,
-) -> Result<Vec<Binding>, NoMemory>
-    ensures { IfOk result (λ list. list.items ≡ rules.called_elsewhere modules.now file.now) }
-{
-    let mut list = Vec::new(alloc);
-    for planned in modules {
-        add_other(alloc, planned, file, &mut list)?;
-    }
-    Ok(list)
-}
-
-// Adds what the initializers of a module call, if it has another file.
-fn add_other(
-    alloc: Global,
-    planned: &PlannedModule,
-    file: &Text,
-    list: &mut Vec<Binding>,
-) -> Result<(), NoMemory>
-    ensures { OnOk result (list.new.items ≡ list.old.items ++ rules.called_elsewhere (planned.now ∷ []) file.now) }
-{
-    let other = file_name(alloc, planned.name.as_str())?;
-    if !file.is_same(&other) {
-        add_called(alloc, planned.initializers.as_slice(), list)?;
-    }
-    Ok(())
-}
-
-fn add_called(
+/// Adds what initializers call.
+pub fn add_called(
     alloc: Global,
     initializers: &[EntryPoint],
     list: &mut Vec<Binding>,

@@ -1,7 +1,7 @@
 // The files in which classes stand.
 ghost use Rattle.std.specs.Prelude.{◌≡◌, ◌++◌, Some, None, IfOk, OnOk, codes, option_copied, if◌then◌else◌};
 ghost use Rattle.js_tree.specs.Terms.{Name};
-ghost use Rattle.module_rules.specs.Modules.{file_with, is_this, is_another};
+ghost use Rattle.module_rules.specs.Modules.{file_with};
 ghost use Rattle.sj_emit_module.specs.Files.{file_in, first_of};
 ghost use Rattle.sj_split.specs.Modules.{is_among};
 ghost use Rattle.sj_split.specs.Orders.{is_same};
@@ -57,26 +57,6 @@ impl ClassFiles {
         ensures { option_copied result ≡ file_in self.now class.now }
     {
         self.files.get(class)
-    }
-
-    /// Whether a class stands in this file.
-    pub fn is_in(&self, class: &ClassName, file: &Text) -> bool
-        ensures { result ≡ is_this file.now (file_in self.now class.now) }
-    {
-        match self.file(class) {
-            Some(other) => file.is_same(other),
-            None => false,
-        }
-    }
-
-    /// Whether a class stands in another file.
-    pub fn is_elsewhere(&self, class: &ClassName, file: &Text) -> bool
-        ensures { result ≡ is_another file.now (file_in self.now class.now) }
-    {
-        match self.file(class) {
-            Some(other) => !file.is_same(other),
-            None => false,
-        }
     }
 }
 

@@ -1,32 +1,30 @@
 // The import lines of a module.
 ghost use Rattle.std.specs.Prelude.{◌≡◌, ◌∷◌, ◌++◌, [], List, Option, IfOk, OnOk, map, filter};
 ghost use Rattle.js_tree.specs.Terms.{Name};
-ghost use Rattle.js_tree.specs.Views.{piece_view};
 ghost use Rattle.js_tree.specs.declared.items.Binding.{Binding as Bound};
 ghost use Rattle.module_rules.specs.Modules as rules;
-ghost use Rattle.module_rules.specs.Modules.{imported, is_bound_elsewhere, import_lines};
+ghost use Rattle.module_rules.specs.Modules.{is_bound_elsewhere, import_lines};
 ghost use Rattle.sj_emit_module.specs.Files.{file_in};
 ghost use Rattle.sj_emit_module.specs.Groups.{HoldNames};
-ghost use Rattle.sj_emit_module.specs.Pieces.{pieces_import};
 ghost use Rattle.sj_split.specs.Orders.{Bytes};
 
 use crate::files::ClassFiles;
 use crate::groups::NameGroups;
-use js_tree::{Binding, JsImport, JsPiece};
+use js_tree::{Binding, JsImport};
 use sj_names::{Items, NoMemory, Text};
 use std::alloc::Global;
 
-/// A line for each other file of which the pieces of this one use bindings, or these calls.
+/// A line for each other file of which these bindings are.
 pub fn imports(
     alloc: Global,
     files: &ClassFiles,
     file: &Text,
-    pieces: &[JsPiece],
-    calls: &[Binding],
+    uses: &[Binding],
 ) -> Result<Vec<JsImport>, NoMemory>
-    ensures { IfOk result (λ lines. lines.items ≡ import_lines (file_in files.now) (imported (file_in files.now) file.now (map piece_view pieces.now) calls.now)) }
+    ensures { IfOk result (λ lines. lines.items ≡ import_lines (file_in files.now) (filter (is_bound_elsewhere (file_in files.now) file.now) uses.now)) }
 {
-    let groups = used_names(alloc, files, file, pieces, calls)?;
+    let mut groups = NameGroups::new(alloc);
+    add_uses(alloc, files, file, uses, &mut groups)?;
     let sources = groups.files(alloc)?;
     lines(alloc, &groups, &sources)
 }
@@ -51,54 +49,8 @@ fn import_line(alloc: Global, groups: &NameGroups, source: &Text) -> Result<JsIm
     })
 }
 
-// The names of the bindings of other files that the pieces of this one use, or these calls.
-fn used_names(
-    alloc: Global,
-    files: &ClassFiles,
-    file: &Text,
-    pieces: &[JsPiece],
-    calls: &[Binding],
-) -> Result<NameGroups, NoMemory>
-    ensures { IfOk result (λ groups. HoldNames (file_in files.now) (imported (file_in files.now) file.now (map piece_view pieces.now) calls.now) groups) }
-{
-    let mut groups = names_of_pieces(alloc, files, file, pieces)?;
-    add_uses(alloc, files, file, calls, &mut groups)?;
-    Ok(groups)
-}
-
-fn names_of_pieces(
-    alloc: Global,
-    files: &ClassFiles,
-    file: &Text,
-    pieces: &[JsPiece],
-) -> Result<NameGroups, NoMemory>
-    ensures { IfOk result (λ groups. HoldNames (file_in files.now) (pieces_import (file_in files.now) file.now (map piece_view pieces.now)) groups) }
-{
-    let mut groups = NameGroups::new(alloc);
-    for piece in pieces {
-        add_piece(alloc, files, file, piece, &mut groups)?;
-    }
-    Ok(groups)
-}
-
-// Adds what a piece uses of other files, if it is one of this file.
-fn add_piece(
-    alloc: Global,
-    files: &ClassFiles,
-    file: &Text,
-    piece: &JsPiece,
-    groups: &mut NameGroups,
-) -> Result<(), NoMemory>
-    ensures { OnOk result ((bs : List Bound) → HoldNames (file_in files.now) bs groups.old → HoldNames (file_in files.now) (bs ++ pieces_import (file_in files.now) file.now (piece_view piece.now ∷ [])) groups.new) }
-{
-    if files.is_in(&piece.owner, file) {
-        add_uses(alloc, files, file, piece.uses.as_slice(), groups)?;
-    }
-    Ok(())
-}
-
-// Adds those of these bindings that are of other files.
-fn add_uses(
+/// Adds those of these bindings that are of other files.
+pub fn add_uses(
     alloc: Global,
     files: &ClassFiles,
     file: &Text,

@@ -1,42 +1,58 @@
-// The items of a module.
+// The items of modules.
 ghost use Rattle.std.specs.Prelude.{◌≡◌, ◌++◌, ◌∷◌, [], IfOk, OnOk, map, filter};
 ghost use Rattle.js_tree.specs.Views.{item_view, piece_view};
 ghost use Rattle.module_rules.specs.Modules.{is_owned_in, item_of};
 ghost use Rattle.sj_emit_module.specs.Files.{file_in};
+ghost use Rattle.sj_emit_module.specs.Lists.{items_at};
+ghost use Rattle.sj_split.specs.Orders.{Bytes};
 
 use crate::files::ClassFiles;
+use crate::lists::FileLists;
 use js_tree::{JsItem, JsPiece};
-use sj_names::{NoMemory, Text};
+use sj_names::NoMemory;
 use std::alloc::Global;
 use std::rc::Rc;
 
-/// The items of the pieces of a file.
-pub fn piece_items(
+/// The items of pieces, under the files of their classes.
+pub fn items_by_file(
     alloc: Global,
     files: &ClassFiles,
-    file: &Text,
     pieces: &[JsPiece],
-) -> Result<Vec<Rc<JsItem>>, NoMemory>
-    ensures { IfOk result (λ items. map (λ i. item_view i.value) items.items ≡ map item_of (filter (is_owned_in (file_in files.now) file.now) (map piece_view pieces.now))) }
+) -> Result<FileLists<Rc<JsItem>>, NoMemory>
+    ensures { IfOk result (λ lists. (f : Bytes) → map (λ i. item_view i.value) (items_at lists f) ≡ map item_of (filter (is_owned_in (file_in files.now) f) (map piece_view pieces.now))) }
 {
-    let mut items = Vec::new(alloc);
+    let mut lists = FileLists::new(alloc);
     for piece in pieces {
-        add_item(files, file, piece, &mut items)?;
+        put_item(alloc, files, piece, &mut lists)?;
     }
-    Ok(items)
+    Ok(lists)
 }
 
-// Adds the item of a piece, if it is one of the file.
-fn add_item(
+// Puts the item of a piece under the file of its class, if it stands in one.
+fn put_item(
+    alloc: Global,
     files: &ClassFiles,
-    file: &Text,
     piece: &JsPiece,
-    items: &mut Vec<Rc<JsItem>>,
+    lists: &mut FileLists<Rc<JsItem>>,
 ) -> Result<(), NoMemory>
-    ensures { OnOk result (map (λ i. item_view i.value) items.new.items ≡ map (λ i. item_view i.value) items.old.items ++ map item_of (filter (is_owned_in (file_in files.now) file.now) (piece_view piece.now ∷ []))) }
+    ensures { OnOk result ((f : Bytes) → map (λ i. item_view i.value) (items_at lists.new f) ≡ map (λ i. item_view i.value) (items_at lists.old f) ++ map item_of (filter (is_owned_in (file_in files.now) f) (piece_view piece.now ∷ []))) }
 {
-    if files.is_in(&piece.owner, file) {
-        items.push(piece.item.clone()?)?;
+    match files.file(&piece.owner) {
+        Some(file) => {
+            lists.put(alloc, file, piece.item.clone()?)?;
+            Ok(())
+        }
+        None => Ok(()),
     }
-    Ok(())
+}
+
+/// The same items, which are shared.
+pub fn shared(alloc: Global, items: &[Rc<JsItem>]) -> Result<Vec<Rc<JsItem>>, NoMemory>
+    ensures { IfOk result (λ list. map (λ i. item_view i.value) list.items ≡ map (λ i. item_view i.value) items.now) }
+{
+    let mut list = Vec::new(alloc);
+    for item in items {
+        list.push(item.clone()?)?;
+    }
+    Ok(list)
 }

@@ -1,0 +1,11 @@
+use Rattle.std.proofs.Common.{◌≡◌, map, take}
+use Rattle.std.specs.Prelude.{filter}
+use Rattle.js_tree.specs.Views.{item_view, piece_view}
+use Rattle.module_rules.specs.Modules.{is_owned_in, item_of}
+use Rattle.sj_emit_module.specs.Files.{file_in}
+use Rattle.sj_emit_module.specs.Lists.{items_at}
+use Rattle.sj_split.specs.Orders.{Bytes}
+use Rattle.sj_emit_module.proofs.items.items_by_file.Given as goal
+
+abbrev pub invariant-loop-piece : goal.invariant-loop-piece
+invariant-loop-piece l = (f : Bytes) → map (λ i. item_view i.value) (items_at l.lists f) ≡ map item_of (filter (is_owned_in (file_in l.files) f) (map piece_view (take l.piece-index l.pieces)))
