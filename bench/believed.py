@@ -10,6 +10,7 @@ CLAIMS = [
     ("sjslink::run, whole and front", ["sjslink.Output"]),
     ("judged_files_agree", ["sj_judged.Judged", "sj_agree.Agrees", "sj_calls.Files", "sj_sound.Linked", "sj_judged.Programs", "outcomes.Agreement", "ir_mean.Shows", "js_mean.Shows"]),
     ("accepted_files_agree", ["accepted_folders.Laws"]),
+    ("accepted_folders_are_never_wrong", ["folder_soundness.Laws"]),
     ("sjsir::run", ["sjsir.Output"]),
     ("read_class", ["sj_format.Answers"]),
     ("write_class", ["sj_written.Written"]),

@@ -7,4 +7,3 @@ pub mod Place
 pub mod Tops
 pub mod Whole
 pub mod Worked
-pub use Rattle.body_soundness.proofs.Modules as Soundness

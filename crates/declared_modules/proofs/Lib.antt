@@ -38,4 +38,3 @@ pub use Rattle.module_uses.proofs.One
 pub use Rattle.module_uses.proofs.There
 pub use Rattle.module_uses.proofs.ClosedPiecesUses
 pub use Rattle.module_uses.proofs.DeclaredFilesWhole
-pub use Rattle.module_uses.proofs.Soundness

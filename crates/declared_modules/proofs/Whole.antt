@@ -519,7 +519,7 @@ module _ (entries : List EntryPoint) (files : List SourceFile) (l : Linked) (all
       let k : Member = member owner Public m in
       record {
         owner = owner;
-        target = runs_target entries files l all written ps bytes a bodies p are exact owned d m owner target.is_target;
+        target = runs_target entries files w l.facts bytes a exact d m owner target.is_target;
         uses = and_from (there.received k) (uses_in modules ps (z.home t) (function_binding k)) (and_from (is_among written owner) (has_function all k) ((among written owner).1 here) (has_function-from all k ((bodies.exact k).1 (run.reached (Body k) target.reached)))) used;
       }
 
@@ -570,7 +570,7 @@ module _ (entries : List EntryPoint) (files : List SourceFile) (l : Linked) (all
     module _ (c : Name) (called : Contains l.facts (Called c m)) (free : is_hijacked c ≡ false) where
       case_for : (k : Kind) → is_told k ≡ true → is_ancestor w (kind_class k) c ≡ true → HasCase its_dispatch.cases k
       case_for k told below =
-          let t = target_of entries files l all written ps bytes a bodies p are exact owned (kind_class k) m (on_hijacked (kind_class k) c (run.reached (Called c m) called) (kind_hijacked k) (stands_above w (kind_class k) c below)) in
+          let t = target_of entries files w l.facts bytes a exact (kind_class k) m (on_hijacked (kind_class k) c (run.reached (Called c m) called) (kind_hijacked k) (stands_above w (kind_class k) c below)) in
           has_case w l.facts m its_dispatch.cases its_dispatch.are_told k told t.owner t.target
 
       -- with a case at least, since some hijacked class is told there or below
@@ -594,7 +594,7 @@ module _ (entries : List EntryPoint) (files : List SourceFile) (l : Linked) (all
       called = called_known l.facts c m (and_parts (list_any (calls_on c m) l.facts) (not (has_hijacked_in w c) || tells_apart w l.facts all written m) q.0).0
 
       free : is_hijacked c ≡ false
-      free = called_free entries files l all written ps bytes a bodies p are exact owned c m called
+      free = called_free entries files w l.facts bytes a exact c m called
 
       objects : (g d : Name) → (z.has g).made d ≡ true → is_ancestor w d c ≡ true → EntryDeclared z d m (chain_of w d)
       objects g d made below =
@@ -725,7 +725,7 @@ module _ (entries : List EntryPoint) (files : List SourceFile) (l : Linked) (all
         }
 
     kind_declared : (k : Kind) → is_told k ≡ true → ReflectedKind z m its_reflection.cases k
-    kind_declared k is = go (kind_reflected w l.facts m its_reflection.cases its_reflection.are_reflected k is (λ d e. kind_target entries files l all written ps bytes a bodies p are exact owned m its_reflection.called k d e))
+    kind_declared k is = go (kind_reflected w l.facts m its_reflection.cases its_reflection.are_reflected k is (λ d e. let its = kind_target entries files w l.facts bytes a exact m its_reflection.called k d e in (its.owner, its.target)))
       where
         go : (proxy_target w (kind_class k) m ≡ None) ⊎ HasReflected its_reflection.cases k → ReflectedKind z m its_reflection.cases k
         go (inl none) = no_case none

@@ -3,6 +3,7 @@ pub mod Blocks
 pub mod Cells
 pub mod Chains
 pub mod Covered
+pub mod Entered
 pub mod Fields
 pub mod Forms
 pub mod Live
@@ -10,6 +11,7 @@ pub mod Looked
 pub mod Named
 pub mod Order
 pub mod Parts
+pub mod Reached
 pub mod Whole
 pub use Rattle.object_helpers.proofs.Found
 pub use Rattle.object_helpers.proofs.Worlds

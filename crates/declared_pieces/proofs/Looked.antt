@@ -5,15 +5,16 @@ use Rattle.std.specs.List.{flat_map, list_all, list_any}
 use Rattle.std.proofs.lemmas.Bool.{and_parts}
 use Rattle.std.proofs.lemmas.List.Elements.{Contains-append_left, Contains-append_right, Contains-push_cases}
 use Rattle.std.proofs.lemmas.List.Folds.{Any-from_list_any}
-use Rattle.declared_pieces.proofs.Below.{known_class, kind_hijacked}
-use Rattle.object_helpers.proofs.Proxies.{proxy_below, proxy_right, proxy_params, proxy_resolves}
+use Rattle.declared_pieces.proofs.Below.{known_class}
+use Rattle.object_helpers.proofs.Proxies.{proxy_below, proxy_right, proxy_params}
 use Rattle.declared_pieces.proofs.Blocks.{OwnPieces, own_pieces, method_there, told_there, method_in_blocks}
 use Rattle.declared_pieces.proofs.Chains.{Stands, Chained, whole_chain}
 use Rattle.declared_pieces.proofs.Live.{next_is, live_next, classes_kept, live_free, live_there}
 use Rattle.declared_pieces.proofs.Named.{target_name, target_result, called_name, entry_names, reflective_name as reflective_name_is}
 use Rattle.object_helpers.proofs.LinkedEntriesOne.{one_method}
-use Rattle.object_helpers.proofs.Pieces.{name_asked}
 use Rattle.class_code.proofs.ProxyMembers.{no_proxy_member, some_proxy_member}
+pub use Rattle.declared_pieces.proofs.Reached.{target_of, runs_target, called_free, kind_target}
+use Rattle.declared_pieces.proofs.Reached.{made_lives, called_by, name_read}
 use Rattle.declared_pieces.proofs.Parts.{constants_there, class_there, in_once, uses_superclass}
 use Rattle.declared_pieces.specs.Closed.{IsClosed}
 use Rattle.declared_pieces.specs.Laws.{ClassThere, EntryThere, has_entry, has_none, FindsEntry, DispatchThere, ReflectionThere, ProxyThere, proxy_there, NoEntryThere, nothing_there, none_there, NamedThere, not_named, is_named}
@@ -38,18 +39,12 @@ use Rattle.js_tree.specs.Terms.{Piece}
 use Rattle.js_tree.specs.declared.items.Binding.{Binding}
 use Rattle.js_mean.specs.Proper.{are_distinct}
 use Rattle.object_helpers.proofs.Apart.{parameters_distinct, behind_receiver}
-use Rattle.object_helpers.proofs.Defined.{last}
 use Rattle.object_helpers.proofs.Derivations.{closed}
 use Rattle.object_helpers.proofs.Facts.{some_call_known}
 use Rattle.object_helpers.proofs.Made as made
 use Rattle.object_helpers.proofs.Members.{defined}
-use Rattle.object_helpers.proofs.Calls.{needed}
 use Rattle.entry_search.proofs.Reflective.{without_result}
-use Rattle.object_helpers.proofs.Plain.{class_found, plain_world}
-use Rattle.object_helpers.proofs.Resolves.{each_call_resolves}
-use Rattle.object_helpers.proofs.Running.{targets_run}
-use Rattle.object_helpers.proofs.Topped.{topped}
-use Rattle.object_helpers.proofs.WorkedOut.{targets_are_worked_out}
+use Rattle.object_helpers.proofs.Plain.{class_found}
 use Rattle.object_helpers.proofs.EachTyped.{in_all}
 use Rattle.object_helpers.specs.Accepted.{IsAccepted}
 use Rattle.object_helpers.specs.Bodies.{AreBodies}
@@ -57,19 +52,12 @@ use Rattle.object_helpers.specs.EmittedMethods.{EmittedMethod}
 use Rattle.object_helpers.specs.Entries.{AreEntries, IsLive, IsTarget, IsReflective, IsProxy, proxy}
 use Rattle.object_helpers.specs.Pieces.{piece_of_member, pieces_of_block, AreLinkedPieces, by_piece}
 use Rattle.object_helpers.specs.Reachable.{Reachable}
-use Rattle.object_helpers.specs.Refusals.{abstract_target, no_dispatched_body, no_dispatched_method, no_reflective_body}
-use Rattle.object_helpers.specs.Rules.{IsCalledOn, on_made, Rule, call, reflective, reflective_hijacked, dispatched, public_member, the_object, Reads}
-use Rattle.object_helpers.specs.Targets.{IsTargetOf, at_owner}
-use Rattle.object_helpers.specs.Used.{calls, uses_dispatch, tells_apart, is_among, is_reflective, is_called_by, uses_reflective, calls_by_name}
+use Rattle.object_helpers.specs.Rules.{on_made, reflective, public_member, the_object}
+use Rattle.object_helpers.specs.Used.{calls, uses_dispatch, tells_apart, is_among, is_called_by, uses_reflective, calls_by_name}
 use Rattle.object_helpers.specs.Worlds.{AreClassesKept}
 use Rattle.sj_emit_expr.specs.Templates.{member_name}
 use Rattle.sj_emit_expr.specs.Uses.{is_same_binding}
-use Rattle.sj_names.proofs.Same.{impossible, text-same, text-refl, method-same}
-use Rattle.sj_infos.specs.Forms.{forms_in, forms_by_body}
-use Rattle.sj_infos.specs.declared.forms.BodyForm.{BodyForm}
-use Rattle.sj_infos.specs.declared.forms.BodyForm.TheVariants as forms
-use Rattle.sj_infos.specs.declared.infos.Info.TheVariants as infos
-use Rattle.sj_trees.specs.Term.{Term}
+use Rattle.sj_names.proofs.Same.{impossible, text-same, text-refl}
 use Rattle.sj_trees.specs.declared.classes.MethodDef.{MethodDef}
 use Rattle.sj_world.specs.Calls.{IsProxyTarget}
 use Rattle.sj_names.specs.Same.{is_same_text}
@@ -86,9 +74,8 @@ use Rattle.sj_world.specs.Ancestors.{IsAncestor, IsNext, IsOnChain, by_path}
 use Rattle.sj_world.specs.Known.{Name, Classes, is_known, is_hijacked, is_same}
 use Rattle.sj_world.specs.Linked.{Linked}
 use Rattle.sj_world.specs.Paths.{stay, on as on_path}
-use Rattle.sj_world.specs.Resolution.{Answer, target, abstract, missing, Resolves}
 use Rattle.sj_world.specs.declared.facts.Fact.{Fact}
-use Rattle.sj_world.specs.declared.facts.Fact.TheVariants.{Body, Called, Made, Needed}
+use Rattle.sj_world.specs.declared.facts.Fact.TheVariants.{Called, Made, Needed}
 use Rattle.sj_world.specs.declared.linked.MethodEntry.{MethodEntry}
 use Rattle.worklist.proofs.Inserted.{nothing_in}
 
@@ -177,33 +164,6 @@ module _ (entries : List EntryPoint) (files : List SourceFile) (l : Linked) (all
 
   reached : (f : Fact) → Contains l.facts f → Reachable w entries f
   reached f = (exact f).0
-
-  -- what a call runs on values of a class on which the method is called
-  pub record HasTarget (d : Name) (m : MethodName) : Type 0 where
-    pub owner : Name
-    pub target : IsReachedTarget w l.facts d m owner
-
-  pub target_of : (d : Name) (m : MethodName) → IsCalledOn w entries (Reachable w entries) m d → HasTarget d m
-  target_of d m on = let its = each_call_resolves w a.world.sorted.in_order d m in go its.answer its.resolves
-    where
-      go : (r : Answer) → Resolves w d m r → HasTarget d m
-      go (target body owner) s = record { owner = owner; target = record { is_target = record { body = body; resolves = s }; reached = (exact (Body (public_member owner m))).1 (closed w entries (Body (public_member owner m)) (dispatched d m body owner on s)) } }
-      go abstract s = absurd (a.resolved (abstract_target (public_member d m)) (no_dispatched_body d m on s))
-      go missing s = absurd (a.resolved (abstract_target (public_member d m)) (no_dispatched_method d m on s))
-
-  pub runs_target : (d : Name) (m : MethodName) (owner : Name) → IsTarget w d m owner → IsTargetOf w (public_member d m) (public_member owner m)
-  runs_target d m owner t = subst (IsTargetOf w (public_member d m)) (ap (at_owner (public_member d m)) (targets_are_worked_out w a.world.sorted.in_order d m (target t.body owner) t.resolves)) (targets_run w (topped w (plain_world w kept.superclass kept.hijacked)) (public_member d m))
-
-  pub made_lives : (d : Name) → Contains l.facts (Made d) → IsLive w l.facts d
-  made_lives d i = record { made = d; is_made = i; on_chain = stay }
-
-  -- the class of a call that is looked up isn't hijacked
-  pub called_free : (c : Name) (m : MethodName) → Contains l.facts (Called c m) → is_hijacked c ≡ false
-  called_free c m i = go (last w entries (Called c m) (reached (Called c m) i))
-    where
-      go : Rule w entries (Reachable w entries) (Called c m) → is_hijacked c ≡ false
-      go (call _ _ reads free) = free
-      go (reflective _ p d owner reads is_made its) = live_free entries files w bytes a l.facts reached c (made_lives c ((exact (Made c)).1 is_made))
 
   -- a live class that is written
   pub record Stood (c : Name) : Type 0 where
@@ -304,11 +264,11 @@ module _ (entries : List EntryPoint) (files : List SourceFile) (l : Linked) (all
   -- an object of a class that is written finds the methods that are called on it
   pub finds : (c : Name) (m : MethodName) → Contains l.facts (Called c m) → (d : Name) → Contains written d → Contains l.facts (Made d) → IsAncestor w d c → FindsEntry l ps written d m
   finds c m called d here is_made below =
-      let t = target_of d m (on_made d c (reached (Called c m) called) (reached (Made d) is_made) below) in
+      let t = target_of entries files w l.facts bytes a exact d m (on_made d c (reached (Called c m) called) (reached (Made d) is_made) below) in
       let m_is = target_name entries files w bytes a d m t.owner t.target.is_target in
       let m_direct = target_result entries files w bytes a d m t.owner t.target.is_target in
-      let k = chain_stood d (record { lives = made_lives d is_made; here = here }) in
-      let search = search_finds_target w l.facts l.entries are spelled d (d ∷ k.above) k.classes.0 m t.owner m_is m_direct (made_lives d is_made) (record { receiver = c; called = called; below = below }) t.target in
+      let k = chain_stood d (record { lives = made_lives entries files w l.facts bytes a exact d is_made; here = here }) in
+      let search = search_finds_target w l.facts l.entries are spelled d (d ∷ k.above) k.classes.0 m t.owner m_is m_direct (made_lives entries files w l.facts bytes a exact d is_made) (record { receiver = c; called = called; below = below }) t.target in
       let entry = along m t.owner m_is m_direct (d ∷ k.above) k.classes.1 search in
       record { owner = t.owner; target = t.target; here = entry_written m t.owner m_is m_direct (d ∷ k.above) entry; entry = subst (EntryThere l ps written m t.owner) (sym k.is_chain) entry }
 
@@ -366,30 +326,10 @@ module _ (entries : List EntryPoint) (files : List SourceFile) (l : Linked) (all
       let b = Any-from_list_any (is_same_binding (helper (reflective_name m))) (piece_of_member w f.1).uses r.1 in
       record { method = f.1; listed = (f.0, f.2, f.3); here = (among written f.1.member.class).0 r.0; uses = subst (Contains (piece_of_member w f.1).uses) (same_binding (helper (reflective_name m)) b.1 b.4) (b.0, b.2, b.3) }
 
-  form_is : (m : MethodName) (f : BodyForm) → is_reflective m f ≡ true → f ≡ forms.Reflective m
-  form_is m (forms.Reflective n) h = ap forms.Reflective (sym (method-same m n h))
-  form_is m _ h = impossible h
-
-  -- a needed body calls by the name
-  called_by : (m : MethodName) → is_called_by all m ≡ true → IsReflective w l.facts m
-  called_by m h =
-      let f = Any-from_list_any (λ (e : EmittedMethod). list_any (is_reflective m) (forms_in e.its_body)) all h in
-      let e : EmittedMethod = f.1 in
-      let i : Contains all e = (f.0, f.2, f.3) in
-      let g = Any-from_list_any (is_reflective m) (forms_in e.its_body) f.4 in
-      let found = bodies.found e i in
-      record {
-        member = e.member;
-        needed = (exact (Body e.member)).1 (needed w entries all bodies e i);
-        definition = e.definition;
-        defined = defined w e.member e.definition found.found;
-        calls = subst (λ (o : Option Term). Contains (forms_by_body o) (forms.Reflective m)) (sym found.has_body) (subst (Contains (forms_in e.its_body)) (form_is m g.1 g.4) (g.0, g.2, g.3));
-      }
-
   pub reflection_there : (m : MethodName) → calls_by_name w all written m ≡ true → ReflectionThere l ps written p.helpers m
   reflection_there m h =
       let q = and_parts (is_called_by all m) (list_any (uses_reflective w written m) all) h in
-      let called = called_by m q.0 in
+      let called = called_by entries files w l.facts bytes a exact all bodies m q.0 in
       let user = name_user m q.1 in
       let of = defined w user.method.member user.method.definition (bodies.found user.method user.listed).found in
       let k = made.present w entries a.resolved kept object (closed w entries (Needed object) the_object) in
@@ -434,21 +374,6 @@ module _ (entries : List EntryPoint) (files : List SourceFile) (l : Linked) (all
     untargeted : (c owner : Name) → IsTarget w c m owner → ⊥
     untargeted c owner h = target_result entries files w bytes a c m owner h bare
 
-    pub name_read : Reads w entries (Reachable w entries) (infos.Reflective m)
-    name_read = record { member = r.member; needed = reached (Body r.member) r.needed; definition = r.definition; defined = r.defined; asked = name_asked m r.definition.body r.calls }
-
-    -- the target of a hijacked class
-    pub kind_target : (k : Kind) (t : MethodDef) → proxy_target w (kind_class k) m ≡ Some t → (owner : Name) × IsReachedTarget w l.facts (kind_class k) t.name owner
-    kind_target k t e = let its = each_call_resolves w a.world.sorted.in_order (kind_class k) t.name in go its.answer its.resolves
-      where
-        proxied : (owner : Name) × IsProxyTarget w (kind_class k) m t owner
-        proxied = proxy_right w (kind_class k) m t e
-
-        go : (o : Answer) → Resolves w (kind_class k) t.name o → (owner : Name) × IsReachedTarget w l.facts (kind_class k) t.name owner
-        go (target body owner) s = (owner, record { is_target = record { body = body; resolves = s }; reached = (exact (Body (public_member owner t.name))).1 (closed w entries (Body (public_member owner t.name)) (reflective_hijacked (kind_class k) m t body proxied.0 owner name_read (kind_hijacked k) proxied.1 s)) })
-        go abstract s = absurd (a.resolved (abstract_target (public_member (kind_class k) t.name)) (no_reflective_body (kind_class k) m t proxied.0 name_read (kind_hijacked k) proxied.1 s))
-        go missing s = absurd (proxy_resolves w (kind_class k) m t proxied.0 proxied.1 s)
-
     module _ (d : Name) (none : proxy_target w d m ≡ None) where
       never : (c : Name) → IsOnChain w d c → (t : MethodName) → IsProxy w l.facts c m t → ⊥
       never c path t h = let its = h.is_target in let there = proxy_below w d c m its.definition its.owner path its.is_target in none_is_some there.0 (sym none ∙ there.1)
@@ -481,7 +406,7 @@ module _ (entries : List EntryPoint) (files : List SourceFile) (l : Linked) (all
     answer_there d here is_made = go (proxy_target w d m) refl
       where
         s : Stood d
-        s = record { lives = made_lives d is_made; here = here }
+        s = record { lives = made_lives entries files w l.facts bytes a exact d is_made; here = here }
 
         known : is_known w d ≡ true
         known = let k = live_there entries files w bytes a l.facts reached d s.lives in known_class w d k.0 k.1
@@ -491,7 +416,7 @@ module _ (entries : List EntryPoint) (files : List SourceFile) (l : Linked) (all
         go (Some t) e =
             let k = chain_stood d s in
             let its = proxy_right w d m t e in
-            let called = (exact (Called d t.name)).1 (closed w entries (Called d t.name) (reflective d m t its.0 name_read (reached (Made d) is_made) its.1)) in
+            let called = (exact (Called d t.name)).1 (closed w entries (Called d t.name) (reflective d m t its.0 (name_read entries files w l.facts bytes a exact m r) (reached (Made d) is_made) its.1)) in
             is_named t e (proxy_params w d m t its.0 its.1) (subst (ProxyThere l ps written p.helpers m t.name) (sym k.is_chain) (hands_on d s is_made t its.0 its.1 k.above)) (finds d t.name called d here is_made (record { known = known; way = by_path stay }))
 
 -- parameters have names of their own, also behind a receiver

@@ -19,6 +19,7 @@ use Rattle.declared_pieces.proofs.HelperNames.{one_helper}
 use Rattle.declared_pieces.proofs.Below.{stands_above}
 use Rattle.declared_pieces.proofs.Live.{classes_kept}
 use Rattle.declared_pieces.proofs.Looked as looked
+use Rattle.declared_pieces.proofs.Reached.{made_lives}
 use Rattle.declared_pieces.proofs.Parts.{constants_among, statics_among, in_statics, is_reached, test_among, cast_among}
 use Rattle.declared_pieces.proofs.Forms.{body_tells, test_form, cast_form, base_form}
 use Rattle.declared_pieces.specs.Closed.{IsClosed}
@@ -209,7 +210,7 @@ module _ (entries : List EntryPoint) (files : List SourceFile) (l : Linked) (all
   pub made_is_live : (c : Name) → has.made c ≡ true → has.live c ≡ true
   made_is_live c h =
       let q = and_parts (is_among written c) (list_any (makes c) l.facts) h in
-      and_from (is_among written c) (is_among live c) q.0 ((among live c).1 ((are_live c).1 (looked.made_lives entries files l all written ps bytes a bodies p are exact owned c (made_known l.facts c q.1))))
+      and_from (is_among written c) (is_among live c) q.0 ((among live c).1 ((are_live c).1 (made_lives entries files w l.facts bytes a exact c (made_known l.facts c q.1))))
 
   -- methods that are looked up
 

@@ -1,17 +1,18 @@
 -- What is written of the pieces of an accepted folder can run.
-use Rattle.std.proofs.Common.{◌≡◌, ◌↔◌, ◌⊎◌, ◌∙◌, ℕ, Bool, true, false, List, [], ◌∷◌, Option, Some, None, inl, inr, refl, sym, subst, map, Contains, codes, if◌then◌else◌}
+use Rattle.std.proofs.Common.{◌≡◌, ◌↔◌, ◌⊎◌, ◌∙◌, Bool, true, false, List, [], ◌∷◌, Option, Some, None, inl, inr, refl, sym, subst, map, Contains, codes}
 use Rattle.std.specs.List.{flat_map, list_any}
 use Rattle.std.specs.Prelude.{not, ◌||◌}
 use Rattle.std.proofs.lemmas.Bool.{and_parts, and_from}
 use Rattle.std.proofs.lemmas.List.Elements.{Contains-append_left}
 use Rattle.declared_pieces.proofs.Calls.{needed, entry}
-use Rattle.declared_pieces.proofs.Members.{defined, has_function-from}
+use Rattle.declared_pieces.proofs.Members.{defined}
 use Rattle.declared_pieces.proofs.Below.{stands_above, known_class, kind_hijacked, some_below, class_below, told_kind}
 use Rattle.declared_pieces.proofs.Facts.{made_known, called_known}
-use Rattle.declared_pieces.proofs.Looked.{none_is_some, HasTarget, target_of, runs_target, made_lives, called_free, finds, dispatch_there, told_case, has_case, reflection_there, kind_target, answer_there}
+use Rattle.declared_pieces.proofs.Looked.{none_is_some, finds, dispatch_there, told_case, has_case, reflection_there, answer_there}
+pub use Rattle.declared_pieces.proofs.Entered.{initializers_among}
+use Rattle.declared_pieces.proofs.Reached.{HasTarget, target_of, made_lives, called_free, kind_target, listed, loaded, answered as target_answers, named as name_answers, unnamed}
 use Rattle.declared_pieces.proofs.LinkedEntriesOne.{one_method}
-use Rattle.declared_pieces.proofs.Proxies.{proxy_right, proxy_params}
-use Rattle.declared_pieces.proofs.Throwing.{exception_made}
+use Rattle.declared_pieces.proofs.Proxies.{proxy_right}
 use Rattle.declared_pieces.proofs.ReflectedCases.{kind_reflected, reflected_case}
 use Rattle.declared_pieces.specs.Reflected.{HasReflected}
 use Rattle.declared_pieces.specs.Laws.{ReflectionThere, NamedThere, not_named, is_named}
@@ -22,16 +23,16 @@ use Rattle.declared_pieces.specs.Bodies.{AreBodies}
 use Rattle.declared_pieces.specs.Written.{AreWrittenWith}
 use Rattle.declared_pieces.specs.Built.{Usable}
 use Rattle.declared_pieces.proofs.Blocks.{method_there, method_in_blocks, helper_there, own_pieces}
-use Rattle.declared_pieces.specs.BodySoundnessLaws.{IsClassBelow, made_below, kind_below, Answers, AnswersByName, no_method, has_method}
+use Rattle.declared_pieces.specs.BodySoundnessLaws.{IsClassBelow, made_below, kind_below, Answers, AnswersByName}
 use Rattle.declared_pieces.specs.ClassTestsKinds.{is_told}
 use Rattle.declared_pieces.specs.Dispatch.{IsReachedTarget, IsReflectedTarget}
 use Rattle.declared_pieces.specs.Targets.{has_hijacked_in}
-use Rattle.declared_pieces.proofs.Forms.{body_tells, cast_form, load_form}
+use Rattle.declared_pieces.proofs.Forms.{body_tells, cast_form}
 use Rattle.declared_pieces.proofs.Parts.{cast_among}
 use Rattle.declared_pieces.proofs.Plain.{class_found}
 use Rattle.declared_pieces.specs.Closed.{IsClosed}
 use Rattle.declared_pieces.specs.Entries.{AreEntries, IsLive}
-use Rattle.declared_pieces.specs.EmittedMethods.{EmittedMethod, HasFunction}
+use Rattle.declared_pieces.specs.EmittedMethods.{EmittedMethod}
 use Rattle.file_listings.specs.Listed.{AreBytes}
 use Rattle.helper_rules.specs.Helpers.{failure_class, helper_name, helper_piece, init_name, of, used_helpers}
 use Rattle.helper_rules.specs.Words.{bound, class_name, helper, kind_class}
@@ -42,25 +43,21 @@ use Rattle.helper_rules.specs.declared.kinds.Helper.TheVariants.{ArrayClass}
 use Rattle.linked_folders.proofs.AboveMade.{arrays_extend}
 use Rattle.helper_rules.specs.declared.kinds.Kind.{Kind}
 use Rattle.ir_mean.specs.Dispatch.{is_ancestor, proxy_target}
-use Rattle.ir_mean.specs.Meaning.{no_such_method}
-use Rattle.ir_mean.specs.Shows.{initializers}
 use Rattle.js_tree.specs.Terms.{Piece}
 use Rattle.declared_pieces.specs.Pieces.{piece_of_member, pieces_of_block, by_piece, by_helper, AreLinkedPieces}
-use Rattle.declared_pieces.specs.Used.{used_of, makes, calls_on, tells_apart, is_among, is_cast, is_loaded}
+use Rattle.declared_pieces.specs.Used.{used_of, makes, calls_on, tells_apart, is_among, is_cast}
 use Rattle.declared_pieces.proofs.Made as made
 use Rattle.declared_pieces.specs.Running.{CanBeThrown, CanRun}
 use Rattle.declared_pieces.proofs.Pieces.{reached}
 use Rattle.declared_pieces.specs.ProperPiecesLaws.{AreNamed}
 use Rattle.declared_pieces.proofs.Derivations.{closed}
 use Rattle.declared_pieces.specs.Reachable.{Reachable}
-use Rattle.declared_pieces.specs.Rules.{Reads, on_hijacked, public_member, message_constructor, plain_constructor, the_object, class_named as class_named_by, load_made, asked_body, of_load}
+use Rattle.declared_pieces.specs.Rules.{on_hijacked, message_constructor, the_object, class_named as class_named_by}
 use Rattle.declared_pieces.specs.PieceRulesPieces.{cast_piece}
 use Rattle.declared_pieces.proofs.Found.{OwnerOf, owner_of}
 use Rattle.declared_pieces.proofs.Classes.{class-keeps}
 use Rattle.declared_pieces.proofs.Methods.{body_keeps}
-use Rattle.sj_names.specs.Same.{is_same_text}
 use Rattle.sj_infos.specs.declared.forms.BodyForm.TheVariants as forms
-use Rattle.sj_infos.specs.declared.infos.Info.TheVariants.{Load}
 use Rattle.sj_mangling.specs.Bindings.{class_binding}
 use Rattle.sj_mangling.specs.declared.bindings.ClassBinding.TheVariants.{IsInstance}
 use Rattle.sj_names.specs.WellKnown.{object}
@@ -70,14 +67,13 @@ use Rattle.sj_names.specs.declared.method_names.MethodName.{MethodName}
 use Rattle.declared_pieces.specs.Emitted.{initializer_member}
 use Rattle.declared_pieces.specs.Once.{DefinesOnce}
 use Rattle.declared_pieces.specs.Linked.{has_function}
-use Rattle.sj_split.proofs.Members.{at_first, further, cons_cases}
+use Rattle.sj_split.proofs.Members.{at_first, further}
 use Rattle.sj_trees.specs.declared.classes.ClassDef.{ClassDef}
 use Rattle.sj_trees.specs.declared.classes.MethodDef.{MethodDef}
 use Rattle.sj_world.proofs.OnCycles.{among}
 use Rattle.sj_world.specs.Known.{Name, Classes, class_of, is_hijacked}
 use Rattle.sj_world.specs.Linked.{Linked}
 use Rattle.sj_world.specs.Subtypes.{to_any}
-use Rattle.worklist.proofs.Inserted.{nothing_in}
 use Rattle.sj_world.specs.declared.facts.Fact.{Fact}
 use Rattle.sj_world.specs.declared.facts.Fact.TheVariants.{Needed, Made, Body, Called}
 use Rattle.declared_pieces.proofs.Fields.{class_named}
@@ -85,18 +81,6 @@ use Rattle.declared_pieces.proofs.Live.{classes_kept}
 use Rattle.linked_folders.proofs.Live.{live, are_live}
 use Rattle.linked_folders.specs.Laws.{WrittenPiecesRun}
 use Rattle.declared_pieces.proofs.BodyForms.{accepted_bodies}
-
-pub initializers_among : (id : List ℕ) (es : List EntryPoint) (e : EntryPoint) → Contains (initializers es id) e → Contains es e
-initializers_among id [] e h = nothing_in e h
-initializers_among id (d ∷ es) e h = go (is_same_text id d.module) h (initializers_among id es e)
-  where
-    later : (d ≡ e) ⊎ Contains (initializers es id) e → (Contains (initializers es id) e → Contains es e) → Contains (d ∷ es) e
-    later (inl same) rest = subst (Contains (d ∷ es)) same (at_first d es)
-    later (inr i) rest = further d e es (rest i)
-
-    go : (b : Bool) → Contains (if b then (d ∷ initializers es id) else initializers es id) e → (Contains (initializers es id) e → Contains es e) → Contains (d ∷ es) e
-    go true i rest = later (cons_cases d e (initializers es id) i) rest
-    go false i rest = further d e es (rest i)
 
 module _ (entries : List EntryPoint) (files : List SourceFile) (l : Linked) (all : List EmittedMethod) (ps : List Piece) (bytes : (file : SourceFile) → Contains files file → AreBytes file.bytes) (a : IsAccepted entries files l.world) (bodies : AreBodies l.world entries all) (exact : (f : Fact) → Contains l.facts f ↔ Reachable l.world entries f) (p : AreLinkedPieces l all ps) (methods : AreEntries l.world l.facts l.entries) (written : List Name) (owned : IsClosed ps written) where
   abbrev w : Classes
@@ -156,13 +140,10 @@ module _ (entries : List EntryPoint) (files : List SourceFile) (l : Linked) (all
         constructor = (bodies.exact (message_constructor c)).1 r.1;
       }
 
-  abbrev listed : (e : EmittedMethod) → Contains all e → Contains l.facts (Body e.member)
-  listed e i = (exact (Body e.member)).1 (needed w entries all bodies e i)
-
   -- the cast of a written class uses what throws, which is a helper with `java.lang.Object` behind it
   cast_throws : (c : Name) → Contains written c → is_cast all c ≡ true → Contains written object × Contains p.helpers (helpers.Throws CastFails)
   cast_throws c here h =
-      let form = cast_form w entries l.facts all bodies listed c h in
+      let form = cast_form w entries l.facts all bodies (listed entries files w l.facts bytes a exact all bodies) c h in
       let k = made.present w entries a.resolved (classes_kept entries files w bytes a) c (closed w entries (Needed c) (class_named_by c (record { member = form.member; needed = (exact (Body form.member)).0 form.needed; definition = form.definition; defined = form.defined; asked = body_tells form.definition.body (forms.Cast c) form.has }))) in
       let its = own_pieces l all ps p c k.0 k.1 in
       let named : its.parts.class.name ≡ c = (class_found w c its.parts.class its.are.class_is).1 in
@@ -171,24 +152,11 @@ module _ (entries : List EntryPoint) (files : List SourceFile) (l : Linked) (all
       let used : Contains q.uses (helper (helper_name (helpers.Throws CastFails))) = further (bound its.parts.class.name (class_binding IsInstance its.parts.class.name)) (helper (codes "$cce")) (helper (codes "$cce") ∷ []) (at_first (helper (codes "$cce")) []) in
       (owned q (its.there q among_its) (subst (Contains written) (sym named) here) (helper (codes "$cce")) used, (p.are_helpers.exact (helpers.Throws CastFails)).1 (by_piece q (helpers.Throws CastFails) (Contains-append_left own_pieces_there p.told q (its.in_blocks q among_its)) used))
 
-  -- a module that bodies load is made, and so is its constructor
-  loaded : (c : Name) → is_loaded all c ≡ true → Contains l.facts (Made c) × HasFunction all (plain_constructor c)
-  loaded c h =
-      let form = load_form w entries l.facts all bodies listed c h in
-      let reads : Reads w entries (Reachable w entries) (Load c) = record { member = form.member; needed = holds (Body form.member) form.needed; definition = form.definition; defined = form.defined; asked = body_tells form.definition.body (forms.Load c) form.has } in
-      ((exact (Made c)).1 (closed w entries (Made c) (load_made c reads)), (bodies.exact (plain_constructor c)).1 (closed w entries (Body (plain_constructor c)) (asked_body (plain_constructor c) (of_load c reads))))
-
   abbrev Target : Name → MethodName → Type 0
-  Target d m = HasTarget entries files l all written ps bytes a bodies p methods exact owned d m
+  Target = HasTarget entries files w l.facts bytes a exact
 
-  -- a class has the target of a method that is called above it, where the function of that is written
   answered : (c : Name) (m : MethodName) (d : Name) → is_ancestor w d c ≡ true → (owner : Name) → IsReachedTarget w l.facts d m owner → Contains written owner → Answers w has c d m
-  answered c m d below owner target here = record {
-    below = below;
-    owner = owner;
-    received = and_from (is_among written owner) (has_function all (public_member owner m)) ((among written owner).1 here) (has_function-from all (public_member owner m) ((bodies.exact (public_member owner m)).1 (holds (Body (public_member owner m)) target.reached)));
-    target = runs_target entries files l all written ps bytes a bodies p methods exact owned d m owner target.is_target;
-  }
+  answered = target_answers entries files w l.facts bytes a exact all bodies its_live p.helpers written
 
   -- objects find it by the entries of their classes, and a primitive value has a case in the function that tells it apart
   answers : (c : Name) (m : MethodName) → has.looked_up c m ≡ true → (d : Name) → IsClassBelow w has c d → Answers w has c d m
@@ -201,14 +169,14 @@ module _ (entries : List EntryPoint) (files : List SourceFile) (l : Linked) (all
       called = called_known l.facts c m q.0
 
       free : is_hijacked c ≡ false
-      free = called_free entries files l all written ps bytes a bodies p methods exact owned c m called
+      free = called_free entries files w l.facts bytes a exact c m called
 
       told : has_hijacked_in w c ≡ true → tells_apart w l.facts all written m ≡ true
       told e = subst (λ (b : Bool). (not b || tells_apart w l.facts all written m) ≡ true) e q.1
 
       by_kind : (k : Kind) → is_told k ≡ true → is_ancestor w (kind_class k) c ≡ true → Answers w has c (kind_class k) m
       by_kind k is e =
-          let t : Target (kind_class k) m = target_of entries files l all written ps bytes a bodies p methods exact owned (kind_class k) m (on_hijacked (kind_class k) c (holds (Called c m) called) (kind_hijacked k) (stands_above w (kind_class k) c e)) in
+          let t : Target (kind_class k) m = target_of entries files w l.facts bytes a exact (kind_class k) m (on_hijacked (kind_class k) c (holds (Called c m) called) (kind_hijacked k) (stands_above w (kind_class k) c e)) in
           let there = dispatch_there entries files l all written ps bytes a bodies p methods exact owned m (told (some_below w c free k e)) in
           let case = has_case w l.facts m there.cases there.are_told k is t.owner t.target in
           let its = told_case w l.facts m there.cases there.are_told case.case case.among in
@@ -219,7 +187,7 @@ module _ (entries : List EntryPoint) (files : List SourceFile) (l : Linked) (all
       by _ (made_below d is_made sub) =
           let r = and_parts (is_among written d) (list_any (makes d) l.facts) is_made in
           let made_fact = made_known l.facts d r.1 in
-          let k = live_there d (made_lives entries files l all written ps bytes a bodies p methods exact owned d made_fact) in
+          let k = live_there d (made_lives entries files w l.facts bytes a exact d made_fact) in
           let e = class_below w c free d (known_class w d k.0 k.1) sub in
           let there = finds entries files l all written ps bytes a bodies p methods exact owned c m called d ((among written d).0 r.0) made_fact (stands_above w d c e) in
           answered c m d e there.owner there.target there.here
@@ -231,7 +199,7 @@ module _ (entries : List EntryPoint) (files : List SourceFile) (l : Linked) (all
       let r = and_parts (is_among written object) (list_any (makes object) l.facts) is_made in
       let called : Contains l.facts (Called object m) = called_known l.facts object m h in
       let made_fact : Contains l.facts (Made object) = made_known l.facts object r.1 in
-      let k = live_there object (made_lives entries files l all written ps bytes a bodies p methods exact owned object made_fact) in
+      let k = live_there object (made_lives entries files w l.facts bytes a exact object made_fact) in
       let e = class_below w object refl object (known_class w object k.0 k.1) (to_any refl (λ e. cc)) in
       let there = finds entries files l all written ps bytes a bodies p methods exact owned object m called object ((among written object).0 r.0) made_fact (stands_above w object object e) in
       answered object m object e there.owner there.target there.here
@@ -245,14 +213,10 @@ module _ (entries : List EntryPoint) (files : List SourceFile) (l : Linked) (all
       there = reflection_there entries files l all written ps bytes a bodies p methods exact owned m h
 
       nothing : (e : Name) → proxy_target w e m ≡ None → AnswersByName w has e m
-      nothing e none = let can = exception_made w l.facts all its_live p.helpers written no_such_method (thrown Method there.thrower there.here) in no_method none can.0 can.1
+      nothing = unnamed entries files w l.facts bytes a exact all bodies its_live p.helpers written (thrown Method there.thrower there.here) m
 
       named : (e : Name) (t : MethodDef) → proxy_target w e m ≡ Some t → (owner : Name) → IsReachedTarget w l.facts e t.name owner → Contains written owner → AnswersByName w has e m
-      named e t is owner target here =
-          let its = proxy_right w e m t is in
-          has_method t owner is (proxy_params w e m t its.0 its.1)
-          (and_from (is_among written owner) (has_function all (public_member owner t.name)) ((among written owner).1 here) (has_function-from all (public_member owner t.name) ((bodies.exact (public_member owner t.name)).1 (holds (Body (public_member owner t.name)) target.reached))))
-          (runs_target entries files l all written ps bytes a bodies p methods exact owned e t.name owner target.is_target)
+      named = name_answers entries files w l.facts bytes a exact all bodies its_live p.helpers written m
 
       by_object : (e : Name) → Contains written e → Contains l.facts (Made e) → AnswersByName w has e m
       by_object e here is_made = go (answer_there entries files l all written ps bytes a bodies p methods exact owned m there.called e here is_made)
@@ -271,7 +235,7 @@ module _ (entries : List EntryPoint) (files : List SourceFile) (l : Linked) (all
           go : (o : Option MethodDef) → proxy_target w (kind_class k) m ≡ o → AnswersByName w has (kind_class k) m
           go None e = nothing (kind_class k) e
           go (Some t) e =
-              let case = kind_case (kind_reflected w l.facts m there.cases there.are_reflected k is (λ d f. kind_target entries files l all written ps bytes a bodies p methods exact owned m there.called k d f)) e in
+              let case = kind_case (kind_reflected w l.facts m there.cases there.are_reflected k is (λ d f. let its = kind_target entries files w l.facts bytes a exact m there.called k d f in (its.owner, its.target))) e in
               let its = reflected_case w l.facts m there.cases there.are_reflected case.case case.among in
               let reached_case = subst (λ (x : Kind). IsReflectedTarget w l.facts (kind_class x) m case.case.method case.case.owner) case.kind_is its.target in
               let proxy = proxy_right w (kind_class k) m t e in
@@ -289,9 +253,9 @@ module _ (entries : List EntryPoint) (files : List SourceFile) (l : Linked) (all
     are_built = λ e i here. accepted_bodies entries files w l.facts all its_live p.helpers written bytes a bodies uses e i here;
     closed = λ h g i u. (p.are_helpers.exact g).1 (by_helper h g ((p.are_helpers.exact h).0 i) u);
     thrown = thrown;
-    listed = listed;
+    listed = listed entries files w l.facts bytes a exact all bodies;
     casts = cast_throws;
-    loads = loaded;
+    loads = loaded entries files w l.facts bytes a exact all bodies;
     on_arrays = on_arrays;
     looked = answers;
     reflected = named_answers;

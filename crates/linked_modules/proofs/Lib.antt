@@ -4,7 +4,6 @@ pub mod Whole
 pub mod Graphs
 pub mod One
 pub mod Edits
-pub mod Never
 pub use Rattle.declared_modules.proofs.Blocks
 pub use Rattle.declared_modules.proofs.Calls
 pub use Rattle.declared_modules.proofs.Edits as LinkedFoldersEdits

@@ -1,13 +1,9 @@
 -- Laws of links with several public modules.
-use Rattle.std.specs.Prelude.{◌≡◌, ℕ, List, map}
+use Rattle.std.specs.Prelude.{◌≡◌, List, map}
 use Rattle.std.specs.List.{Contains}
 use Rattle.declared_modules.specs.Accepted.{IsAccepted}
 use Rattle.file_listings.specs.Listed.{AreBytes}
-use Rattle.ir_mean.specs.Shows.{ir_shows}
 use Rattle.js_mean.specs.Shows.{File}
-use Rattle.js_tree.specs.Terms.{Piece}
-use Rattle.declared_modules.specs.Link.{ArePieces}
-use Rattle.outcomes.specs.Agreement.{IsNotWrong}
 use Rattle.plan_laws.specs.Laws.{AreCountable}
 use Rattle.sj_agree.specs.Agrees.{Agrees}
 use Rattle.sj_names.specs.EntryPoints.{AreEntries}
@@ -62,11 +58,3 @@ LinkedFoldersAgree = (entries : List EntryPoint) (files : List SourceFile) (styl
     → (linked : IsLinkOf entries files style links)
     → Contains (map module_of entries) id
     → Agrees linked.world entries links id
-
--- what the classes of an accepted folder show of a public module is wrong at no bound, where they have pieces
-abbrev pub AcceptedFoldersAreNeverWrong : Type 0
-AcceptedFoldersAreNeverWrong = (entries : List EntryPoint) (files : List SourceFile) (w : Classes) (ps : List Piece) (id : Id) (n : ℕ)
-    → ((file : SourceFile) → Contains files file → AreBytes file.bytes)
-    → IsAccepted entries files w
-    → ArePieces w entries ps
-    → IsNotWrong (ir_shows w entries id n).end

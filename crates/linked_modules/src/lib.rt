@@ -4,7 +4,7 @@
 //! their clauses are theorems.
 #![tactic(auto)]
 
-ghost use Rattle.linked_modules.specs.Laws.{AcceptedFoldersAreNeverWrong, FolderLinkIsOne, LinkIsOne, LinkedFoldersAgree, LinkedModulesAgree, WorkIsOne};
+ghost use Rattle.linked_modules.specs.Laws.{FolderLinkIsOne, LinkIsOne, LinkedFoldersAgree, LinkedModulesAgree, WorkIsOne};
 
 /// The theorem on links with several public modules. The files that an accepted folder is linked to, in either style, show of each public module
 /// what the folder's classes show: what the one shows within any bound the other shows within some bound, and the other way round, and neither is
@@ -31,9 +31,4 @@ pub fn work_is_one()
 /// The files that a folder is linked to show of each public module what the folder's classes show.
 pub fn linked_folders_agree()
     ensures { LinkedFoldersAgree }
-{}
-
-/// What the classes of an accepted folder show of a public module is wrong at no bound, where they have pieces, in however many modules these are put.
-pub fn accepted_folders_are_never_wrong()
-    ensures { AcceptedFoldersAreNeverWrong }
 {}

@@ -56,4 +56,3 @@ pub use Rattle.running_modules.proofs.ReflectedCases
 pub use Rattle.running_modules.proofs.Places
 pub use Rattle.running_modules.proofs.Each
 pub use Rattle.running_modules.proofs.Plain
-pub use Rattle.running_modules.proofs.Soundness

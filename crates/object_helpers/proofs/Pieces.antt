@@ -179,18 +179,18 @@ pub name_asked : (p : MethodName) (body : Option Term) → Contains (forms_by_bo
 name_asked p = calls_ask p (Reflective p) (λ names m e same. subst (λ (x : MethodName). Contains (asked_by_name names m e) (Reflective x)) same (here (Reflective m) (infos.of_receiver names e ++ infos.no_such_method)))
 
 module _ (entries : List EntryPoint) (files : List SourceFile) (l : Linked) (all : List EmittedMethod) (accepted : IsAccepted entries files l.world) (bodies : AreBodies l.world entries all) (reached : (f : Fact) → Contains l.facts f → Reachable l.world entries f) where
-  abbrev Asked : Name → Type 0
+  abbrev pub Asked : Name → Type 0
   Asked c = Reads l.world entries (Reachable l.world entries) (Throws c)
 
-  abbrev AskedArrays : Type 0
+  abbrev pub AskedArrays : Type 0
   AskedArrays = Reads l.world entries (Reachable l.world entries) ArrayForm
 
   -- the class of arrays is there by a form that asks for arrays, or by the exception of a store
-  abbrev Arrays : Type 0
+  abbrev pub Arrays : Type 0
   Arrays = AskedArrays ⊎ Asked (failure_class failures.Store)
 
   -- a helper that throws, or that uses one that does, is there only where a needed body asks for the exception, and one of arrays only where a body asks for arrays or sets an item
-  abbrev Good : Helper → Type 0
+  abbrev pub Good : Helper → Type 0
   Good helpers.NotNull = Asked (failure_class failures.NullReceiver)
   Good helpers.IntQuotient = Asked (failure_class failures.Division)
   Good helpers.IntRemainder = Asked (failure_class failures.Division)
@@ -325,6 +325,10 @@ module _ (entries : List EntryPoint) (files : List SourceFile) (l : Linked) (all
       weaken : (bs : List Binding) → All (Only (UsesIt (asked_in e.its_body))) bs → All Q bs
       weaken bs h = All-weaker (Only (UsesIt (asked_in e.its_body))) Q (λ b f k same. of_body e i k (f k same)) bs h
 
+  -- so each helper that it uses is
+  pub body_good : (e : EmittedMethod) → Contains all e → (h : Helper) → Contains (piece_of_member l.world e).uses (helper (helper_name h)) → Good h
+  body_good e i h u = All-contains Q (piece_of_member l.world e).uses (helper (helper_name h)) (method_good e i) u h refl
+
   methods_good : (es : List EmittedMethod) → ((e : EmittedMethod) → Contains es e → Contains all e) → EachGood (map (piece_of_member l.world) es)
   methods_good es h p i = let m = from_map (piece_of_member l.world) es p i in subst (λ (x : Piece). All Q x.uses) m.is (method_good m.item (h m.item m.among))
 
@@ -378,7 +382,7 @@ module _ (entries : List EntryPoint) (files : List SourceFile) (l : Linked) (all
   cast_good : (c : Name) → Asked (codes "java.lang.ClassCastException") → All Q (cast_piece c).uses
   cast_good c r = All-cons Q (bound c (class_binding IsInstance c)) (helper (codes "$cce") ∷ []) (λ h same. no_helper (bound c (class_binding IsInstance c)) 7 refl refl h same) (one (helper (codes "$cce")) (of_helper (helpers.Throws failures.Cast) r))
 
-  cast_read : (c : Name) → HasForm l.world l.facts (forms.Cast c) → Asked (codes "java.lang.ClassCastException")
+  pub cast_read : (c : Name) → HasForm l.world l.facts (forms.Cast c) → Asked (codes "java.lang.ClassCastException")
   cast_read c h = record { member = h.member; needed = reached (Body h.member) h.needed; definition = h.definition; defined = h.defined; asked = body_asks c h.definition.body h.has }
 
   own_good : (c : Name) (p : Parts) → AreParts l c p → EachGood (pieces p)
@@ -414,7 +418,7 @@ module _ (entries : List EntryPoint) (files : List SourceFile) (l : Linked) (all
   reflected_good [] = none
   reflected_good (t ∷ ts) = combine Q (reflected_uses t) (flat_map reflected_uses ts) (All-cons Q (test_binding t.kind) (box_uses t.method ++ bound t.owner (public_function t.owner t.method) ∷ []) (kind_good t.kind) (combine Q (box_uses t.method) (bound t.owner (public_function t.owner t.method) ∷ []) (box_good (is_char t.method.result)) (one (bound t.owner (public_function t.owner t.method)) (only_function Good (public_member t.owner t.method))))) (reflected_good ts)
 
-  call_read : (p : MethodName) → IsReflective l.world l.facts p → Asked (codes "java.lang.NoSuchMethodException")
+  pub call_read : (p : MethodName) → IsReflective l.world l.facts p → Asked (codes "java.lang.NoSuchMethodException")
   call_read p h = record { member = h.member; needed = reached (Body h.member) h.needed; definition = h.definition; defined = h.defined; asked = exception_asked p h.definition.body h.calls }
 
   names_good : (ps told : List Piece) → AreReflectivePieces l ps told → EachGood told
@@ -429,9 +433,13 @@ module _ (entries : List EntryPoint) (files : List SourceFile) (l : Linked) (all
   told_good : (ps told : List Piece) → AreToldPieces l ps told → EachGood told
   told_good ps told h = subst EachGood (sym h.told_are) (joined h.methods h.names (methods_told ps h.methods h.are_methods) (names_good ps h.names h.are_names))
 
+  -- and so is each that one uses which is
+  pub more_good : (g h : Helper) → Good g → Contains (used_helpers g) h → Good h
+  more_good g h r u = All-contains Good (used_helpers g) h (each_of_helper g r) u
+
   used_good : (ps : List Piece) → EachGood ps → (h : Helper) → IsUsed ps h → Good h
   used_good ps each _ (by_piece p h i u) = All-contains Q p.uses (helper (helper_name h)) (each p i) u h refl
-  used_good ps each _ (by_helper g h k u) = All-contains Good (used_helpers g) h (each_of_helper g (used_good ps each g k)) u
+  used_good ps each _ (by_helper g h k u) = more_good g h (used_good ps each g k) u
 
   pub linked_good : (ps : List Piece) (p : AreLinkedPieces l all ps) (h : Helper) → Contains p.helpers h → Good h
   linked_good ps p h i =

@@ -58,4 +58,3 @@ pub use Rattle.closed_pieces.proofs.Facts
 pub use Rattle.closed_pieces.proofs.LinkedEntriesOne
 pub use Rattle.closed_pieces.proofs.ReflectedCases
 pub use Rattle.sj_proper.proofs.Plain
-pub use Rattle.declared_files.proofs.Soundness
