@@ -9,8 +9,8 @@ use Rattle.js_tree.specs.declared.operators.HostOperation.{HostOperation}
 use Rattle.js_spelling.specs.declared.words.NewHead.TheVariants as news
 use Rattle.js_spelling.specs.declared.words.Infix.TheVariants as infixes
 use Rattle.js_spelling.specs.Expressions.{index_suffix, with_suffix, host_at, host_of_two_at, new_after_at, infix_after_at, unary_at}
-use Rattle.js_scan.specs.declared.stop.Stop.{Stop}
-use Rattle.js_scan.specs.Gives.{Fails}
+use Rattle.text_scan.specs.declared.stop.Stop.{Stop}
+use Rattle.text_scan.specs.Gives.{Fails}
 use Rattle.js_scan.specs.Parts.{before_at}
 use Rattle.js_scan.proofs.Parts.{before_read, before_missed, between_read, between_missed, fails_along}
 

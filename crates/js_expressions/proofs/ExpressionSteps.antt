@@ -7,9 +7,9 @@ use Rattle.js_spelling.specs.declared.words.Head.{Head}
 use Rattle.js_spelling.specs.Words.{is_word_start}
 use Rattle.js_spelling.specs.Tokens.{head_at, number_at}
 use Rattle.js_spelling.specs.Expressions.{expression_level, wordless_level, expression_at, wordless_at, expression_after_at, bracketed_at, suffixes_at}
-use Rattle.js_scan.specs.declared.stop.Stop.{Stop}
-use Rattle.js_scan.specs.declared.stop.Stop.TheVariants as stops
-use Rattle.js_scan.specs.Gives.{Fails}
+use Rattle.text_scan.specs.declared.stop.Stop.{Stop}
+use Rattle.text_scan.specs.declared.stop.Stop.TheVariants as stops
+use Rattle.text_scan.specs.Gives.{Fails}
 
 pub expression_none : (n : ℕ) (bytes : List ℕ) → n ≡ 0 → expression_at n bytes ≡ Err (length bytes)
 unfolding expression_at

@@ -4,9 +4,9 @@ use Rattle.exact_place.specs.Reading.{Reading, ◌>>=◌, passes, list_at}
 use Rattle.exact_place.proofs.Steps.{good_is}
 use Rattle.js_tree.specs.Terms.{Expression}
 use Rattle.js_spelling.specs.Expressions.{Suffix, with_suffix, with_suffixes}
-use Rattle.js_scan.specs.declared.stop.Stop.{Stop}
-use Rattle.js_scan.specs.declared.stop.Stop.TheVariants as stops
-use Rattle.js_scan.specs.Gives.{Fails}
+use Rattle.text_scan.specs.declared.stop.Stop.{Stop}
+use Rattle.text_scan.specs.declared.stop.Stop.TheVariants as stops
+use Rattle.text_scan.specs.Gives.{Fails}
 
 -- what one suffix makes of an expression, and what the suffixes that are still read make of it
 abbrev pub one_more : Expression → Reading Suffix → Reading Expression

@@ -2,19 +2,20 @@
 ghost use Rattle.std.specs.Prelude.{◌≡◌, ◌==◌, codes, map};
 ghost use Rattle.exact_place.specs.Reading.{after_at, either_at, lead_at, literal_at, map_at, value_at};
 ghost use Rattle.js_tree.specs.Views.{expression_view, expressions_view};
-ghost use Rattle.js_scan.specs.Gives.{Gives};
+ghost use Rattle.text_scan.specs.Gives.{Gives};
 ghost use Rattle.js_scan.specs.Parts.{before_at};
 ghost use Rattle.js_spelling.specs.Expressions as reading;
 ghost use Rattle.js_spelling.specs.Tokens.{new_head_at, property_at};
 ghost use Rattle.js_spelling.specs.declared.words.Infix.TheVariants as infixes;
 
 use js_scan::{
-    Stop, below_of, head_of, in_front, infix_of, literal, new_head_of, next_is, next_is_digit,
-    next_is_suffix, next_is_word_start, number_of, parenthesis_head_of, property_of, string_of,
+    below_of, head_of, infix_of, new_head_of, next_is_suffix, next_is_word_start, number_of,
+    parenthesis_head_of, property_of, string_of,
 };
 use js_spelling::{Head, Infix, NewHead, ParenthesisHead};
 use js_tree::{BinaryOperator, HostFunction, HostOperation, JsExpr, UnaryOperator};
 use std::alloc::Global;
+use text_scan::{Stop, in_front, literal, next_is, next_is_digit};
 
 // What a reader of expressions gives: the expression and the rest.
 type Read<'a> = Result<(JsExpr, &'a [u8]), Stop>;

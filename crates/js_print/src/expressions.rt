@@ -4,9 +4,10 @@ ghost use Rattle.js_tree.specs.Written.{put, ◌▸◌};
 ghost use Rattle.js_tree.specs.Texts.{put_name, put_property, put_expression, put_expressions};
 ghost use Rattle.js_tree.specs.Views.{expression_view, expressions_view};
 
-use crate::writing::{append, append_big, append_boolean, append_number, append_text};
+use crate::writing::{append_big, append_boolean, append_number};
 use js_tree::JsExpr;
 use sj_names::{NoMemory, Text};
+use text_print::{append, append_text};
 
 // Appends an expression.
 #[cycle(expression)]

@@ -6,10 +6,11 @@ ghost use Rattle.js_tree.specs.Views.{property_view, member_view, item_view, bod
 
 use crate::expressions::append_expression;
 use crate::statements::{append_assignment, append_block, append_value};
-use crate::writing::{append, append_names, append_parameters};
+use crate::writing::{append_names, append_parameters};
 use js_tree::{ClassMember, JsBody, JsImport, JsItem, ObjectProperty};
 use sj_names::{NoMemory, Text};
 use std::rc::Rc;
+use text_print::append;
 
 // Appends a property of an object literal.
 fn append_property(out: &mut Vec<u8>, property: &ObjectProperty) -> Result<(), NoMemory>

@@ -5,9 +5,10 @@ ghost use Rattle.js_tree.specs.Texts.{put_name, put_expression, put_statement, p
 ghost use Rattle.js_tree.specs.Views.{expression_view, statement_view, statements_view, cases_view};
 
 use crate::expressions::{append_access, append_before, append_between};
-use crate::writing::{append, append_indent, append_keys};
+use crate::writing::{append_indent, append_keys};
 use js_tree::{JsExpr, JsStmt, SwitchCase};
 use sj_names::{NoMemory, Text};
+use text_print::append;
 
 // The level inside a block of this level. Where there is none, the spaces in front of its lines would be more than memory holds.
 fn level_inside(level: usize) -> Result<usize, NoMemory>

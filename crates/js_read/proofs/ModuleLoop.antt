@@ -6,12 +6,12 @@ use Rattle.js_tree.specs.declared.items.JsImport.{JsImport}
 use Rattle.js_spelling.specs.declared.words.Stage.{Stage}
 use Rattle.js_spelling.specs.declared.words.Stage.TheVariants as stages
 use Rattle.js_spelling.specs.Modules.{Line, import_line, item_line, export_line, line_at, is_imports, goes_on, stage_after, module_of, module_lines_at, module_at}
-use Rattle.js_scan.specs.declared.stop.Stop.{Stop}
-use Rattle.js_scan.specs.declared.stop.Stop.TheVariants as stops
+use Rattle.text_scan.specs.declared.stop.Stop.{Stop}
+use Rattle.text_scan.specs.declared.stop.Stop.TheVariants as stops
 use Rattle.js_read.specs.declared.modules.Reached.{Reached}
 use Rattle.js_read.specs.declared.modules.Reached.TheVariants as reached
 use Rattle.js_read.specs.Fronts.{stage_of, exports_onto}
-use Rattle.js_scan.specs.Gives.{Fails}
+use Rattle.text_scan.specs.Gives.{Fails}
 
 abbrev pub onto : List JsImport → List Item → Reached → Module → Module
 onto is ts r m = record { imports = is ++ m.imports; items = ts ++ m.items; exports = exports_onto r m.exports }

@@ -3,21 +3,19 @@ ghost use Rattle.std.specs.Prelude.{◌≡◌, ◌∷◌, ◌<◌, ◌==◌, cod
 ghost use Rattle.exact_place.specs.Reading.{after_at, either_at, lead_at, list_at, literal_at, map_at, value_at};
 ghost use Rattle.js_tree.specs.Terms as terms;
 ghost use Rattle.js_tree.specs.Views as views;
-ghost use Rattle.js_scan.specs.Gives.{Gives};
+ghost use Rattle.text_scan.specs.Gives.{Gives};
 ghost use Rattle.js_spelling.specs.Tokens.{name_at};
 ghost use Rattle.js_spelling.specs.Modules as reading;
 ghost use Rattle.js_spelling.specs.declared.words.ItemHead.TheVariants as heads;
 
 use js_expressions::{expression_after, expression_before, expression_between, expression_of};
-use js_scan::{
-    Item, Stop, in_front, list_of, literal, member_head_of, name_behind, name_of, next_is,
-    property_of,
-};
+use js_scan::{member_head_of, name_behind, name_of, property_of};
 use js_spelling::{Head, ItemHead, MemberHead};
 use js_statements::block_of;
 use js_tree::{ClassMember, JsBody, JsItem, ObjectProperty};
 use sj_names::{Items, Text};
 use std::alloc::Global;
+use text_scan::{Item, Stop, in_front, list_of, literal, next_is};
 
 // What a reader of items gives: the item and the rest.
 type Read<'a> = Result<(JsItem, &'a [u8]), Stop>;

@@ -1,18 +1,19 @@
 //! Lines of a module.
 ghost use Rattle.std.specs.Prelude.{◌≡◌, codes};
 ghost use Rattle.exact_place.specs.Reading.{after_at, lead_at, value_at};
-ghost use Rattle.js_scan.specs.Gives.{Gives};
+ghost use Rattle.text_scan.specs.Gives.{Gives};
 ghost use Rattle.js_read.specs.Lines.{line_view};
 ghost use Rattle.js_spelling.specs.Modules as reading;
 ghost use Rattle.js_spelling.specs.declared.words.LineHead.TheVariants as heads;
 
 use crate::items::{item_after, names_of};
-use js_scan::{Stop, file_of, line_head_of, literal, next_is_word_start};
+use js_scan::{file_of, line_head_of, next_is_word_start};
 use js_spelling::{ItemHead, LineHead};
 use js_statements::wordless_of;
 use js_tree::{JsImport, JsItem};
 use sj_names::{Items, Text};
 use std::alloc::Global;
+use text_scan::{Stop, literal};
 
 /// A line of a module, or an item on its lines.
 #[derive(Drop)]

@@ -5,7 +5,7 @@ ghost use Rattle.exact_place.specs.Reading.{passes, map_at, end_at};
 ghost use Rattle.js_tree.specs.Terms.{Module};
 ghost use Rattle.js_tree.specs.Spelling.{Spells};
 ghost use Rattle.js_tree.specs.Views.{module_view};
-ghost use Rattle.js_scan.specs.Gives.{Fails, Gives};
+ghost use Rattle.text_scan.specs.Gives.{Fails, Gives};
 ghost use Rattle.js_read.specs.Lines.{line_view};
 ghost use Rattle.js_read.specs.Fronts.{stage_of, exports_onto, module_onto};
 ghost use Rattle.js_read.specs.declared.lines.Line.TheVariants as lines;
@@ -13,11 +13,11 @@ ghost use Rattle.js_spelling.specs.Modules as reading;
 
 use crate::errors::JsError;
 use crate::lines::{Line, line_of};
-use js_scan::Stop;
 use js_tree::{JsImport, JsItem, JsModule};
 use sj_names::{Items, NoMemory, Text};
 use std::alloc::Global;
 use std::rc::Rc;
+use text_scan::Stop;
 
 /// How far a module is read: before its first item, behind it, or behind its export line.
 #[derive(Drop)]

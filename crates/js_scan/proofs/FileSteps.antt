@@ -6,8 +6,8 @@ use Rattle.exact_place.proofs.Words.{both}
 use Rattle.js_tree.specs.Names.{is_file_character, is_empty}
 use Rattle.js_spelling.specs.Words.{no_keyword}
 use Rattle.js_spelling.specs.Modules.{begins_file, is_file_front, file_front_at}
-use Rattle.js_scan.specs.Runs.{IsSplit}
-use Rattle.js_scan.proofs.Runs.{run_split}
+use Rattle.text_scan.specs.Runs.{IsSplit}
+use Rattle.text_scan.proofs.Runs.{run_split}
 
 closed : (front : List ℕ) (c : ℕ) (more : List ℕ) → begins_file (front ++ c ∷ more) ≡ true → begins_file (front ++ c ∷ []) ≡ true
 closed [] c more h = rw (both (is_file_character c) (begins_file more) h).0 refl

@@ -5,8 +5,8 @@ use Rattle.js_tree.specs.Names.{is_name, is_property}
 use Rattle.js_spelling.specs.declared.words.Head.{Head}
 use Rattle.js_spelling.specs.Words.{begins_name, begins_property, head_of, name_of, property_name_of}
 use Rattle.js_spelling.specs.Tokens.{name_at, property_at, head_at}
-use Rattle.js_scan.specs.Runs.{IsSplit}
-use Rattle.js_scan.proofs.Runs.{run_split}
+use Rattle.text_scan.specs.Runs.{IsSplit}
+use Rattle.text_scan.proofs.Runs.{run_split}
 use Rattle.js_spelling.proofs.WordLaws.{names, properties}
 
 pub name_read : (bytes word rest : List ℕ) → IsSplit begins_name bytes word rest → is_name word ≡ true → name_at bytes ≡ Ok (word, rest)

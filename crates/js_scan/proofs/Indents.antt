@@ -4,9 +4,9 @@ use Rattle.std.proofs.Math.ListN.{replicate}
 use Rattle.exact_place.specs.Reading.{Reading, ◌>>=◌, literal_at, stopped}
 use Rattle.exact_place.proofs.Steps.{good_is}
 use Rattle.js_tree.specs.Written.{indent}
-use Rattle.js_scan.specs.declared.stop.Stop.{Stop}
-use Rattle.js_scan.specs.declared.stop.Stop.TheVariants as stops
-use Rattle.js_scan.specs.Gives.{Fails}
+use Rattle.text_scan.specs.declared.stop.Stop.{Stop}
+use Rattle.text_scan.specs.declared.stop.Stop.TheVariants as stops
+use Rattle.text_scan.specs.Gives.{Fails}
 
 indent_next : (k : ℕ) → indent (suc k) ≡ 32 ∷ 32 ∷ indent k
 indent_next k = let two : 2 * suc k ≡ suc (suc (2 * k)) = omega arith in ap (λ (n : ℕ). replicate n 32) two

@@ -1,5 +1,5 @@
--- Keywords: the words of a table, gone through one after the other, as a loop does, and those that stand in the tables of several places.
-use Rattle.std.proofs.Common.{◌≡◌, ℕ, suc, ◌+◌, ◌<◌, ◌≤◌, Bool, true, false, cond, List, [], ◌∷◌, ◌++◌, length, get_or, drop, map, Option, Some, None, refl, sym, ap, ◌∙◌, drop-cons, add-one, drop_of_length-le, codes}
+-- Keywords that stand in the tables of several places.
+use Rattle.std.proofs.Common.{◌≡◌, ℕ, Bool, true, false, cond, List, [], ◌∷◌, ◌++◌, Option, Some, None, refl, sym, ap, ◌∙◌, codes}
 use Rattle.exact_place.specs.Tokens.{Entry, entry_of, is_text}
 use Rattle.js_spelling.specs.declared.words.Head.{Head}
 use Rattle.js_spelling.specs.declared.words.StatementHead.{StatementHead}
@@ -13,23 +13,8 @@ use Rattle.js_scan.specs.declared.keywords.StatementWord.{StatementWord}
 use Rattle.js_scan.specs.declared.keywords.StatementWord.TheVariants as statement_keywords
 use Rattle.js_scan.specs.declared.keywords.ItemWord.{ItemWord}
 use Rattle.js_scan.specs.declared.keywords.ItemWord.TheVariants as item_keywords
+use Rattle.text_scan.proofs.TableWords.{moved, moved_entries, moved_of}
 use Rattle.js_scan.specs.Keywords.{expression_head, statement_head, item_head}
-
-abbrev pub moved : {A B : Type 0} → (A → B) → Option A → Option B
-moved f None = None
-moved f (Some x) = Some (f x)
-
-abbrev pub moved_entries : {A B : Type 0} → (A → B) → List (Entry A) → List (Entry B)
-moved_entries f [] = []
-moved_entries f (e ∷ es) = entry e.word (f e.value) ∷ moved_entries f es
-
-moved_of : {A B : Type 0} (f : A → B) (es : List (Entry A)) (u : List ℕ) → entry_of (moved_entries f es) u ≡ moved f (entry_of es u)
-moved_of f [] u = refl
-moved_of {A} {B} f (e ∷ es) u = by (is_text u e.word) (moved_of f es u)
-  where
-    by : (b : Bool) → entry_of (moved_entries f es) u ≡ moved f (entry_of es u) → cond b (Some (f e.value)) (entry_of (moved_entries f es) u) ≡ moved f (cond b (Some e.value) (entry_of es u))
-    by true more = refl
-    by false more = more
 
 pub expression_word : {A : Type 0} (f : Head → A) (u : List ℕ) → entry_of (expression_words f) u ≡ moved f (entry_of (expression_words (λ h. h)) u)
 expression_word f u = moved_of f (expression_words (λ h. h)) u
@@ -38,21 +23,6 @@ pub item_word : {A : Type 0} (f : ItemHead → A) (u : List ℕ) → entry_of (i
 item_word f u = moved_of f (item_words (λ h. h)) u
 
 pub ruleset keyword_steps = (expression_word, item_word)
-
--- ---- one word of a table after the other
-
-module _ {X T : Type 0} (f : X → Entry T) (xs : List X) (i : ℕ) (word : List ℕ) (total : Option T) where
-  next : (x : X) → i < length xs → x ≡ get_or xs i x → entry_of (map f (drop i xs)) word ≡ cond (is_text word (f x).word) (Some (f x).value) (entry_of (map f (drop (i + 1) xs)) word)
-  next x lt is = ap (λ (ys : List X). entry_of (map f ys) word) (drop-cons xs i x lt) ∙ ap (λ (y : X). entry_of (f y ∷ map f (drop (suc i) xs)) word) (sym is) ∙ ap (λ (k : ℕ). entry_of (f x ∷ map f (drop k xs)) word) (sym (add-one i))
-
-  pub word_goes : (x : X) → i < length xs → x ≡ get_or xs i x → is_text word (f x).word ≡ false → entry_of (map f (drop i xs)) word ≡ total → entry_of (map f (drop (i + 1) xs)) word ≡ total
-  word_goes x lt is off so_far = sym (next x lt is ∙ ap (λ (b : Bool). cond b (Some (f x).value) (entry_of (map f (drop (i + 1) xs)) word)) off) ∙ so_far
-
-  pub word_here : (x : X) → i < length xs → x ≡ get_or xs i x → is_text word (f x).word ≡ true → entry_of (map f (drop i xs)) word ≡ total → Some (f x).value ≡ total
-  word_here x lt is on so_far = sym (next x lt is ∙ ap (λ (b : Bool). cond b (Some (f x).value) (entry_of (map f (drop (i + 1) xs)) word)) on) ∙ so_far
-
-  pub word_out : length xs ≤ i → entry_of (map f (drop i xs)) word ≡ total → None ≡ total
-  word_out le so_far = sym (ap (λ (ys : List X). entry_of (map f ys) word) (drop_of_length-le xs le)) ∙ so_far
 
 -- ---- the tables
 

@@ -2,10 +2,6 @@ pub mod Ascii
 pub mod FileSteps
 pub mod HeadSteps
 pub mod Indents
-pub mod Infixes
 pub mod KeywordTables
-pub mod Literals
-pub mod Loops
-pub mod NumberSteps
 pub mod Parts
 pub mod Runs

@@ -2,9 +2,9 @@
 use Rattle.std.proofs.Common.{◌≡◌, ℕ, List, Result, Ok, Err, refl, ◌∙◌}
 use Rattle.exact_place.specs.Reading.{Reading, ◌>>=◌, literal_at, after_at, lead_at, map_at}
 use Rattle.exact_place.proofs.Steps.{good_is}
-use Rattle.js_scan.specs.declared.stop.Stop.{Stop}
-use Rattle.js_scan.specs.declared.stop.Stop.TheVariants as stops
-use Rattle.js_scan.specs.Gives.{Fails}
+use Rattle.text_scan.specs.declared.stop.Stop.{Stop}
+use Rattle.text_scan.specs.declared.stop.Stop.TheVariants as stops
+use Rattle.text_scan.specs.Gives.{Fails}
 use Rattle.js_scan.specs.Parts.{before_at}
 
 on : {A B C : Type 0} (m : Result A ℕ) (f : A → Result B ℕ) (g : B → Result C ℕ) (y : B) → (m >>= f) ≡ Ok y → (m >>= λ x. f x >>= g) ≡ g y

@@ -1,4 +1,3 @@
-pub mod Gives
 pub mod Keywords
 pub mod Parts
 pub mod Runs

@@ -1,21 +1,9 @@
--- Where a run of bytes ends.
-use Rattle.exact_place.specs.Tokens.{is_digit, one_more}
-use Rattle.std.specs.Prelude.{◌≡◌, ℕ, ◌≤◌, ◌&&◌, nat_lt, cond, Bool, true, false, List, [], ◌∷◌, ◌++◌, length, take, drop}
+-- How long a run of bytes is.
+use Rattle.std.specs.Prelude.{◌≡◌, ℕ, ◌≤◌, Bool, true, false, List, ◌∷◌, length, take, drop}
 use Rattle.std.specs.List.{list_all}
-
--- the longest front that is alive, and the rest
-pub record IsSplit (alive : List ℕ → Bool) (bytes word rest : List ℕ) : Type 0 where
-  pub parts : bytes ≡ word ++ rest
-  pub whole : alive word ≡ true
-  pub over : (c : ℕ) (back : List ℕ) → rest ≡ c ∷ back → alive (word ++ c ∷ []) ≡ false
 
 -- how many of the first bytes pass the test
 pub record IsLongest (test : ℕ → Bool) (bytes : List ℕ) (n : ℕ) : Type 0 where
   pub within : n ≤ length bytes
   pub all : list_all test (take n bytes) ≡ true
   pub over : (c : ℕ) (back : List ℕ) → drop n bytes ≡ c ∷ back → test c ≡ false
-
--- the number that digits give behind the number v, as long as it stays below the limit, and the rest
-unfoldable pub number_run : ℕ → ℕ → List ℕ → ℕ × List ℕ
-number_run limit v [] = (v, [])
-number_run limit v (c ∷ cs) = cond (is_digit c && nat_lt (one_more v c) limit) (number_run limit (one_more v c) cs) (v, c ∷ cs)

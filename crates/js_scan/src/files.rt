@@ -2,14 +2,13 @@
 ghost use Rattle.std.specs.Prelude.{◌≡◌, IfOk, true};
 ghost use Rattle.std.specs.List.{list_all};
 ghost use Rattle.js_tree.specs.Names.{is_file_character};
-ghost use Rattle.js_scan.specs.Gives.{Gives};
+ghost use Rattle.text_scan.specs.Gives.{Gives};
 ghost use Rattle.js_spelling.specs.Modules as reading;
 
-use crate::bytes::literal;
 use crate::names::{file_text, has_nothing, split_file};
-use crate::stop::Stop;
 use sj_names::Text;
 use std::alloc::Global;
+use text_scan::{Stop, literal};
 
 // The characters of a file's name before `.js`.
 #[tactic(auto, using(crate::proofs::FileSteps::file_steps))]

@@ -1,22 +1,19 @@
-//! First words: names and the keywords that may stand in their place.
-ghost use Rattle.std.specs.Prelude.{◌≡◌, ◌≤◌, IfOk, length, take, drop};
+//! First words: names and the keywords that may stand in their place, and operators.
+ghost use Rattle.std.specs.Prelude.{◌≡◌, IfOk};
 ghost use Rattle.exact_place.specs.Reading.{lead_at};
-ghost use Rattle.exact_place.specs.Tokens.{is_front, begins_entry, entry_of};
-ghost use Rattle.js_scan.specs.Runs.{IsSplit};
-ghost use Rattle.js_scan.specs.Gives.{Gives};
+ghost use Rattle.text_scan.specs.Gives.{Gives};
 ghost use Rattle.js_spelling.specs.Tokens.{name_at, property_at, head_at, new_head_at, parenthesis_head_at, statement_head_at, line_head_at, member_head_at, infix_at};
 ghost use Rattle.js_spelling.specs.Words as words;
 
-use crate::bytes::literal;
 use crate::keywords::{expression_keyword, line_keyword, parenthesis_keyword, statement_keyword};
 use crate::names::{is_binding_name, is_property_name, split_name, split_property, text_of};
-use crate::stop::Stop;
 use js_spelling::{
     Head, Infix, ItemHead, LineHead, MemberHead, NewHead, ParenthesisHead, StatementHead,
 };
 use js_tree::BinaryOperator;
 use sj_names::{NoMemory, Text};
 use std::alloc::Global;
+use text_scan::{Stop, literal, word_of};
 
 fn head_word(alloc: Global, word: &[u8]) -> Result<Option<Head>, NoMemory>
     ensures { IfOk result (λ h. h ≡ words.head_of word.now) }
@@ -198,93 +195,34 @@ pub fn member_head_of<'a>(alloc: Global, bytes: &'a [u8]) -> Result<(MemberHead,
     }
 }
 
-// The operators between two expressions.
-const OPERATORS: [BinaryOperator; 21] = [
-    BinaryOperator::Add,
-    BinaryOperator::Subtract,
-    BinaryOperator::Multiply,
-    BinaryOperator::Divide,
-    BinaryOperator::Remainder,
-    BinaryOperator::BitAnd,
-    BinaryOperator::BitOr,
-    BinaryOperator::BitXor,
-    BinaryOperator::ShiftLeft,
-    BinaryOperator::ShiftRight,
-    BinaryOperator::ShiftRightUnsigned,
-    BinaryOperator::StrictEqual,
-    BinaryOperator::StrictNotEqual,
-    BinaryOperator::Less,
-    BinaryOperator::LessOrEqual,
-    BinaryOperator::Greater,
-    BinaryOperator::GreaterOrEqual,
-    BinaryOperator::And,
-    BinaryOperator::Or,
-    BinaryOperator::In,
-    BinaryOperator::InstanceOf,
+const INFIXES: [(&str, Infix); 22] = [
+    ("+", Infix::Operator(BinaryOperator::Add)),
+    ("-", Infix::Operator(BinaryOperator::Subtract)),
+    ("*", Infix::Operator(BinaryOperator::Multiply)),
+    ("/", Infix::Operator(BinaryOperator::Divide)),
+    ("%", Infix::Operator(BinaryOperator::Remainder)),
+    ("&", Infix::Operator(BinaryOperator::BitAnd)),
+    ("|", Infix::Operator(BinaryOperator::BitOr)),
+    ("^", Infix::Operator(BinaryOperator::BitXor)),
+    ("<<", Infix::Operator(BinaryOperator::ShiftLeft)),
+    (">>", Infix::Operator(BinaryOperator::ShiftRight)),
+    (">>>", Infix::Operator(BinaryOperator::ShiftRightUnsigned)),
+    ("===", Infix::Operator(BinaryOperator::StrictEqual)),
+    ("!==", Infix::Operator(BinaryOperator::StrictNotEqual)),
+    ("<", Infix::Operator(BinaryOperator::Less)),
+    ("<=", Infix::Operator(BinaryOperator::LessOrEqual)),
+    (">", Infix::Operator(BinaryOperator::Greater)),
+    (">=", Infix::Operator(BinaryOperator::GreaterOrEqual)),
+    ("&&", Infix::Operator(BinaryOperator::And)),
+    ("||", Infix::Operator(BinaryOperator::Or)),
+    ("in", Infix::Operator(BinaryOperator::In)),
+    ("instanceof", Infix::Operator(BinaryOperator::InstanceOf)),
+    ("?", Infix::Question),
 ];
-
-// Whether the text begins so.
-#[tactic(auto, using(crate::proofs::Infixes::front_prefix))]
-fn begins(word: &[u8], text: &[u8]) -> bool
-    ensures { result ≡ is_front word.now text.now }
-{
-    text.starts_with(word)
-}
-
-// Whether an operator or `?` begins so.
-fn begins_infix(word: &[u8]) -> bool
-    ensures { result ≡ begins_entry words.infix_words word.now }
-{
-    for operator in &OPERATORS {
-        if begins(word, operator.text().as_bytes()) {
-            return true;
-        }
-    }
-    begins(word, b"?")
-}
-
-fn infix_word(word: &[u8]) -> Option<Infix>
-    ensures { result ≡ entry_of words.infix_words word.now }
-{
-    for operator in &OPERATORS {
-        if word == operator.text().as_bytes() {
-            return Some(Infix::Operator(*operator));
-        }
-    }
-    if word == b"?".as_slice() {
-        Some(Infix::Question)
-    } else {
-        None
-    }
-}
-
-// How many of the first bytes an operator or `?` begins with.
-fn infix_length(bytes: &[u8]) -> usize
-    ensures within { result ≤ length bytes.now }
-    ensures split { IsSplit (begins_entry words.infix_words) bytes.now (take result bytes.now) (drop result bytes.now) }
-{
-    for i in 0..bytes.len() {
-        if !begins_infix(&bytes[..i + 1]) {
-            return i;
-        }
-    }
-    bytes.len()
-}
-
-// The longest front that an operator or `?` begins with, and the rest.
-fn split_infix(bytes: &[u8]) -> (&[u8], &[u8])
-    ensures { IsSplit (begins_entry words.infix_words) bytes.now result.0.now result.1.now }
-{
-    bytes.split_at(infix_length(bytes))
-}
 
 /// The operator between two expressions, or `?`.
 pub fn infix_of(bytes: &[u8]) -> Result<(Infix, &[u8]), Stop>
     ensures { Gives (λ x. (x.0, x.1.now)) result (infix_at bytes.now) }
 {
-    let (word, rest) = split_infix(bytes);
-    match infix_word(word) {
-        Some(infix) => Ok((infix, rest)),
-        None => Err(Stop::Bad(rest.len())),
-    }
+    word_of(INFIXES.as_slice(), bytes)
 }

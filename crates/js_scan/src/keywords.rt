@@ -1,9 +1,10 @@
 //! Keywords: the words of fixed tables.
-ghost use Rattle.std.specs.Prelude.{◌≡◌, map};
+ghost use Rattle.std.specs.Prelude.{◌≡◌};
 ghost use Rattle.exact_place.specs.Tokens.{entry_of};
 ghost use Rattle.js_spelling.specs.Words as words;
 
 use js_spelling::{Head, ItemHead, LineHead, ParenthesisHead, StatementHead};
+use text_scan::value_of;
 
 // A keyword that an expression begins with.
 #[derive(Clone, Copy)]
@@ -135,18 +136,6 @@ impl ItemWord {
             ItemWord::Class => ItemHead::Class,
         }
     }
-}
-
-// The value of a word of the table.
-fn value_of<T: Copy>(table: &[(&str, T)], word: &[u8]) -> Option<T>
-    ensures { result ≡ entry_of (map (λ e. words.entry e.0.now e.1) table.now) word.now }
-{
-    for line in table {
-        if word == line.0.as_bytes() {
-            return Some(line.1);
-        }
-    }
-    None
 }
 
 /// The keyword that an expression may begin with.

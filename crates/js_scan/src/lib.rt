@@ -9,19 +9,15 @@ mod bytes;
 mod files;
 mod heads;
 mod keywords;
-mod lists;
 mod names;
 mod numbers;
-mod stop;
 mod strings;
 
-pub use bytes::{indentation, literal, next_is, next_is_digit, next_is_suffix, next_is_word_start};
+pub use bytes::{indentation, next_is_suffix, next_is_word_start};
 pub use files::file_of;
 pub use heads::{
     head_of, infix_of, line_head_of, member_head_of, name_behind, name_of, new_head_of,
     parenthesis_head_of, property_of, statement_head_of,
 };
-pub use lists::{Item, in_front, list_of};
 pub use numbers::{below_of, key_of, number_of};
-pub use stop::Stop;
 pub use strings::string_of;

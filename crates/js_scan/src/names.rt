@@ -4,7 +4,8 @@ ghost use Rattle.std.specs.List.{list_all, list_any};
 ghost use Rattle.js_tree.specs.Names.{is_name_character, is_digit, is_mark, is_empty, is_name, is_dunder, is_property, is_file_character};
 ghost use Rattle.js_spelling.specs.Words.{begins_name, begins_property};
 ghost use Rattle.js_spelling.specs.Modules.{begins_file};
-ghost use Rattle.js_scan.specs.Runs.{IsSplit, IsLongest};
+ghost use Rattle.text_scan.specs.Runs.{IsSplit};
+ghost use Rattle.js_scan.specs.Runs.{IsLongest};
 
 use crate::bytes::{is_name_byte, next_is_word_start};
 use sj_names::{NoMemory, Text};

@@ -7,9 +7,9 @@ use Rattle.js_spelling.specs.Words.{is_word_start}
 use Rattle.js_spelling.specs.Tokens.{statement_head_at}
 use Rattle.js_spelling.specs.Expressions.{wordless_at}
 use Rattle.js_spelling.specs.Statements.{statement_at, statement_level, statement_after_at, target_at}
-use Rattle.js_scan.specs.declared.stop.Stop.{Stop}
-use Rattle.js_scan.specs.declared.stop.Stop.TheVariants as stops
-use Rattle.js_scan.specs.Gives.{Fails}
+use Rattle.text_scan.specs.declared.stop.Stop.{Stop}
+use Rattle.text_scan.specs.declared.stop.Stop.TheVariants as stops
+use Rattle.text_scan.specs.Gives.{Fails}
 
 pub statement_none : (n level : ℕ) (bytes : List ℕ) → n ≡ 0 → statement_at n level bytes ≡ Err (length bytes)
 unfolding statement_at

@@ -3,15 +3,16 @@ ghost use Rattle.std.specs.Prelude.{◌≡◌, ◌==◌, codes};
 ghost use Rattle.exact_place.specs.Reading.{after_at, either_at, lead_at, map_at, literal_at, value_at};
 ghost use Rattle.js_tree.specs.Terms as terms;
 ghost use Rattle.js_tree.specs.Views as views;
-ghost use Rattle.js_scan.specs.Gives.{Gives};
+ghost use Rattle.text_scan.specs.Gives.{Gives};
 ghost use Rattle.js_spelling.specs.Statements as reading;
 ghost use Rattle.js_spelling.specs.Tokens.{name_at};
 
 use js_expressions::expression_between;
-use js_scan::{Stop, literal, name_behind, next_is};
+use js_scan::name_behind;
 use js_tree::{JsExpr, JsStmt};
 use sj_names::Text;
 use std::alloc::Global;
+use text_scan::{Stop, literal, next_is};
 
 /// What a reader of statements gives: the statement and the rest.
 pub type Read<'a> = Result<(JsStmt, &'a [u8]), Stop>;

@@ -7,7 +7,7 @@ ghost use Rattle.js_spelling.specs.declared.words.StatementHead.TheVariants as h
 ghost use Rattle.js_tree.specs.Terms as terms;
 ghost use Rattle.js_tree.specs.Views as views;
 ghost use Rattle.js_tree.specs.Written.{indent};
-ghost use Rattle.js_scan.specs.Gives.{Gives};
+ghost use Rattle.text_scan.specs.Gives.{Gives};
 ghost use Rattle.js_scan.specs.Parts.{before_at};
 ghost use Rattle.js_spelling.specs.Statements as reading;
 
@@ -16,14 +16,12 @@ use crate::simple_statements::{
     name_target_of, property_target_of, return_after, super_after, throw_after,
 };
 use js_expressions::{expression_after, expression_between, wordless_of};
-use js_scan::{
-    Item, Stop, in_front, indentation, key_of, list_of, literal, name_behind, next_is,
-    next_is_word_start, statement_head_of,
-};
+use js_scan::{indentation, key_of, name_behind, next_is_word_start, statement_head_of};
 use js_spelling::StatementHead;
 use js_tree::{JsExpr, JsStmt, JsTarget, SwitchCase};
 use sj_names::{Items, Text};
 use std::alloc::Global;
+use text_scan::{Item, Stop, in_front, list_of, literal, next_is};
 
 // `case K:`
 #[tactic(auto, unfolding(js_spelling::specs::Statements::case_key_at))]

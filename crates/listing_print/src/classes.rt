@@ -8,11 +8,12 @@ ghost use Rattle.listing_spelling.specs.Texts.{put_bracketed, put_list, put_name
 use crate::literals::append_name;
 use crate::parts::{kind_part, mark_part, method_part, name_part, namespace_part, type_part};
 use crate::trees::append_tree;
-use crate::writing::{append, open};
+use crate::writing::open;
 use listing_spelling::each_has_one_listing;
 use sj_names::{ClassName, NoMemory};
 use sj_trees::{Body, ClassDef, FieldDef, MethodDef, ParamDef};
 use std::alloc::Global;
+use text_print::append;
 
 /// Appends a parameter.
 fn append_param(out: &mut Vec<u8>, alloc: Global, param: &ParamDef) -> Result<(), NoMemory>

@@ -4,12 +4,13 @@ ghost use Rattle.js_tree.specs.Written.{put, ◌▸◌};
 ghost use Rattle.js_tree.specs.Texts.{put_text};
 ghost use Rattle.listing_spelling.specs.Texts.{put_name, put_method_name, put_array, put_mark, put_natural, put_integer, put_unary_op, put_binary_op, put_namespace, put_kind, put_type};
 
-use crate::literals::{append_array, append_method_name, append_name, append_text};
-use crate::writing::{append, append_integer, append_mark, append_natural};
+use crate::literals::{append_array, append_method_name, append_name};
+use crate::writing::{append_integer, append_mark};
 use sj_names::{ArrayRef, MethodName, Namespace, NoMemory};
 use sj_trees::{BinaryOp, ClassKind, IrType, UnaryOp};
 use sj_units::Units;
 use std::alloc::Global;
+use text_print::{append, append_decimal, append_text};
 
 pub(crate) fn name_part(out: &mut Vec<u8>, name: &str) -> Result<(), NoMemory>
     ensures { OnOk result (out.new.items ≡ (put (codes " ") ▸ put_name name.now) out.old.items) }
@@ -54,7 +55,7 @@ pub(crate) fn natural_part(out: &mut Vec<u8>, number: u64) -> Result<(), NoMemor
     ensures { OnOk result (out.new.items ≡ (put (codes " ") ▸ put_natural number) out.old.items) }
 {
     append(out, " ")?;
-    append_natural(out, number)
+    append_decimal(out, number)
 }
 
 pub(crate) fn integer_part(out: &mut Vec<u8>, number: i64) -> Result<(), NoMemory>
@@ -68,7 +69,7 @@ pub(crate) fn unary_part(out: &mut Vec<u8>, operator: UnaryOp) -> Result<(), NoM
     ensures { OnOk result (out.new.items ≡ (put (codes " ") ▸ put_unary_op operator) out.old.items) }
 {
     append(out, " ")?;
-    append_natural(out, u64::from(operator.code()))
+    append_decimal(out, u64::from(operator.code()))
 }
 
 pub(crate) fn binary_part(out: &mut Vec<u8>, operator: BinaryOp) -> Result<(), NoMemory>

@@ -11,10 +11,11 @@ use crate::parts::{
     natural_part, text_part, type_part, unary_part,
 };
 use crate::words::word_of;
-use crate::writing::{append, append_integer, open};
+use crate::writing::{append_integer, open};
 use sj_names::NoMemory;
 use sj_trees::{MatchCase, Tree};
 use std::alloc::Global;
+use text_print::append;
 use tree_fields::{Field, fields_in};
 
 /// Appends numbers with a space in front of each.

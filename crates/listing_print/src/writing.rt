@@ -1,27 +1,10 @@
 // What puts words and numbers behind the bytes that are there.
-ghost use Rattle.std.specs.Prelude.{◌≡◌, OnOk, codes, decimal};
+ghost use Rattle.std.specs.Prelude.{◌≡◌, OnOk, codes};
 ghost use Rattle.js_tree.specs.Written.{put, ◌▸◌};
-ghost use Rattle.listing_spelling.specs.Texts.{put_natural, put_integer, put_mark};
+ghost use Rattle.listing_spelling.specs.Texts.{put_integer, put_mark};
 
-use itoa::Buffer;
 use sj_names::NoMemory;
-
-/// Appends a text.
-#[tactic(auto, unfolding(js_tree::specs::Written::put))]
-pub(crate) fn append(out: &mut Vec<u8>, text: &str) -> Result<(), NoMemory>
-    ensures { OnOk result (out.new.items ≡ put text.now out.old.items) }
-{
-    out.extend_from_slice(text.as_bytes())?;
-    Ok(())
-}
-
-/// Appends the digits of a number.
-pub(crate) fn append_natural(out: &mut Vec<u8>, number: u64) -> Result<(), NoMemory>
-    ensures { OnOk result (out.new.items ≡ put_natural number out.old.items) }
-{
-    let mut buffer = Buffer::new();
-    append(out, buffer.format(number))
-}
+use text_print::{append, append_decimal};
 
 /// Appends a number with `-` in front where it is negative.
 pub(crate) fn append_integer(out: &mut Vec<u8>, integer: i64) -> Result<(), NoMemory>
@@ -30,7 +13,7 @@ pub(crate) fn append_integer(out: &mut Vec<u8>, integer: i64) -> Result<(), NoMe
     if integer < 0 {
         append(out, "-")?;
     }
-    append_natural(out, integer.unsigned_abs())
+    append_decimal(out, integer.unsigned_abs())
 }
 
 /// Appends the mark 1 or 0.

@@ -1,3 +1,1 @@
-pub mod Loops
-pub mod Runs
-pub mod TableWords
+pub mod TypeTable

@@ -1,21 +1,22 @@
 // Parts behind a space.
 ghost use Rattle.std.specs.Prelude.{◌≡◌, ◌^◌, codes};
 ghost use Rattle.exact_place.specs.Reading.{lead_at};
-ghost use Rattle.listing_scan.specs.Gives.{Gives};
+ghost use Rattle.text_scan.specs.Gives.{Gives};
 ghost use Rattle.listing_spelling.specs.Names as names;
 ghost use Rattle.listing_spelling.specs.Reading as reading;
 
 use crate::tables::{kind_of, namespace_of};
-use crate::texts::units_of;
+use crate::texts::text_of;
 use crate::types::type_of;
 use listing_scan::{
-    Stop, array_of, binary_op_of, byte_of, class_name_of, field_name_of, int_of, label_name_of,
-    literal, local_name_of, long_of, mark_of, method_name_of, short_of, unary_op_of, unit_of,
+    array_of, binary_op_of, byte_of, class_name_of, field_name_of, int_of, label_name_of,
+    local_name_of, long_of, mark_of, method_name_of, short_of, unary_op_of, unit_of,
 };
 use sj_names::{ArrayRef, ClassName, FieldName, LabelName, LocalName, MethodName, Namespace};
 use sj_trees::{BinaryOp, ClassKind, IrType, UnaryOp};
 use sj_units::Units;
 use std::alloc::Global;
+use text_scan::{Stop, literal};
 
 /// The name of a local behind a space.
 pub fn name_field<'a>(
@@ -102,7 +103,7 @@ pub fn string_field<'a>(
 ) -> Result<(Units, &'a [u8]), Stop>
     ensures { Gives (λ x. (x.0, x.1.now)) result (lead_at (codes " ") (reading.text_at fuel) bytes.now) }
 {
-    units_of(alloc, fuel, literal(b" ", bytes)?)
+    text_of(alloc, fuel, literal(b" ", bytes)?)
 }
 
 /// A mark behind a space.

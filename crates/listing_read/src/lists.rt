@@ -1,63 +1,11 @@
-// Lists of parts that hold no list of the same kind.
-ghost use Rattle.std.specs.Prelude.{◌≡◌, ◌∷◌, ◌==◌, List, ℕ, Bool, map, IfOk, codes};
-ghost use Rattle.exact_place.specs.Reading.{Reading, passes, list_at, lead_at};
+// Lists of parts in brackets.
+ghost use Rattle.std.specs.Prelude.{◌≡◌, List, ℕ, map};
+ghost use Rattle.exact_place.specs.Reading.{Reading};
 ghost use Rattle.listing_spelling.specs.Reading.{bracketed_at};
-ghost use Rattle.listing_scan.specs.Gives.{Gives};
+ghost use Rattle.text_scan.specs.Gives.{Gives};
 
-use listing_scan::{Stop, literal, next_is};
-use sj_names::NoMemory;
 use std::alloc::Global;
-
-/// A part of which several may follow each other.
-pub trait Item {
-    type Value: Drop;
-
-    ghost Seen: { Type 0 };
-
-    ghost seen: { Self.Value → Seen };
-
-    ghost test: { Self → ℕ → Bool };
-
-    ghost reading: { Self → List ℕ → Reading Seen };
-
-    /// Whether one more part begins here.
-    fn starts(&self, bytes: &[u8]) -> bool
-        ensures { result ≡ passes (test self.now) bytes.now };
-
-    fn read<'a>(&self, alloc: Global, bytes: &'a [u8]) -> Result<(Self::Value, &'a [u8]), Stop>
-        ensures { Gives (λ x. (seen x.0, x.1.now)) result (reading self.now bytes.now) };
-}
-
-/// The parts, as long as one more begins, and the rest.
-pub fn list_of<'a, I: Item>(
-    alloc: Global,
-    fuel: usize,
-    item: &I,
-    bytes: &'a [u8],
-) -> Result<(Vec<I::Value>, &'a [u8]), Stop>
-    ensures { Gives (λ x. (map I.seen x.0.items, x.1.now)) result (list_at fuel (I.test item.now) (I.reading item.now) bytes.now) }
-{
-    let mut items = Vec::new(alloc);
-    let mut rest = bytes;
-    for _ in 0..fuel {
-        if !item.starts(rest) {
-            return Ok((items, rest));
-        }
-        let (value, after) = item.read(alloc, rest)?;
-        items.push(value)?;
-        rest = after;
-    }
-    Err(Stop::Bad(rest.len()))
-}
-
-/// The list with one more part in front.
-fn in_front<T: Drop>(first: T, others: Vec<T>) -> Result<Vec<T>, NoMemory>
-    ensures { IfOk result (λ all. all.items ≡ first ∷ others.items) }
-{
-    let mut all = others;
-    all.insert(0, first)?;
-    Ok(all)
-}
+use text_scan::{Item, Stop, in_front, list_of, literal, next_is};
 
 /// A part that stands in brackets with others.
 pub trait Part {
@@ -74,36 +22,32 @@ pub trait Part {
 }
 
 /// A part behind a space.
-fn spaced_part<'a, P: Part>(
-    alloc: Global,
-    part: &P,
-    bytes: &'a [u8],
-) -> Result<(P::Value, &'a [u8]), Stop>
-    ensures { Gives (λ x. (P.seen x.0, x.1.now)) result (lead_at (codes " ") (P.reading part.now) bytes.now) }
-{
-    part.read(alloc, literal(b" ", bytes)?)
+#[derive(Drop)]
+struct Spaced<'p, P: Part> {
+    part: &'p P,
 }
 
-/// The second and later parts in brackets, each behind a space.
-fn spaced_of<'a, P: Part>(
-    alloc: Global,
-    fuel: usize,
-    part: &P,
-    bytes: &'a [u8],
-) -> Result<(Vec<P::Value>, &'a [u8]), Stop>
-    ensures { Gives (λ x. (map P.seen x.0.items, x.1.now)) result (list_at fuel (λ c. c == 32) (lead_at (codes " ") (P.reading part.now)) bytes.now) }
-{
-    let mut parts = Vec::new(alloc);
-    let mut rest = bytes;
-    for _ in 0..fuel {
-        if !next_is(b' ', rest) {
-            return Ok((parts, rest));
-        }
-        let (value, after) = spaced_part(alloc, part, rest)?;
-        parts.push(value)?;
-        rest = after;
+impl<'p, P: Part> Item for Spaced<'p, P> {
+    ghost use Rattle.std.specs.Prelude.{codes, ◌==◌};
+    ghost use Rattle.exact_place.specs.Reading.{lead_at};
+
+    type Value = P::Value;
+
+    ghost Seen = { P.Seen };
+
+    ghost seen = { P.seen };
+
+    ghost test = { λ s c. c == 32 };
+
+    ghost reading = { λ s. lead_at (codes " ") (P.reading s.part.now) };
+
+    fn starts(&self, bytes: &[u8]) -> bool {
+        next_is(b' ', bytes)
     }
-    Err(Stop::Bad(rest.len()))
+
+    fn read<'a>(&self, alloc: Global, bytes: &'a [u8]) -> Result<(P::Value, &'a [u8]), Stop> {
+        self.part.read(alloc, literal(b" ", bytes)?)
+    }
 }
 
 /// Parts in brackets, with a space between each two.
@@ -122,7 +66,7 @@ pub fn bracketed_of<'a, P: Part>(
         return Ok((Vec::new(alloc), rest));
     }
     let (first, rest) = part.read(alloc, rest)?;
-    let (others, rest) = spaced_of(alloc, fuel, part, rest)?;
+    let (others, rest) = list_of(alloc, fuel, &Spaced { part }, rest)?;
     let rest = literal(b"]", rest)?;
     Ok((in_front(first, others)?, rest))
 }

@@ -1,189 +1,19 @@
 // Texts of 16-bit units.
-ghost use Rattle.std.specs.Prelude.{◌≡◌, ◌<◌, ◌==◌, not, IfOk};
-ghost use Rattle.listing_scan.specs.Gives.{Gives};
-ghost use Rattle.js_spelling.specs.Tokens as tokens;
-ghost use Rattle.exact_place.specs.Reading.{one_at};
+ghost use Rattle.std.specs.Prelude.{◌≡◌};
+ghost use Rattle.text_scan.specs.Gives.{Gives};
 ghost use Rattle.listing_spelling.specs.Reading.{text_at};
 
-use crate::lists::{Item, list_of};
-use listing_scan::{Stop, literal, next_is, next_other};
-use sj_names::NoMemory;
 use sj_units::Units;
 use std::alloc::Global;
-
-/// The value of a hexadecimal digit, lower case.
-fn hex_value(byte: u8) -> Option<u16>
-    ensures value { result ≡ tokens.hex_of byte }
-{
-    if byte >= b'0' && byte <= b'9' {
-        Some(u16::from(byte - 48))
-    } else if byte >= b'a' && byte <= b'f' {
-        Some(u16::from(byte - 87))
-    } else {
-        None
-    }
-}
-
-fn hex_digit(bytes: &[u8]) -> Result<(u16, &[u8]), Stop>
-    ensures gives { Gives (λ x. (x.0, x.1.now)) result (one_at tokens.hex_of bytes.now) }
-    ensures below { IfOk result (λ x. x.0 < 16) }
-{
-    match bytes {
-        [first, rest @ ..] => match hex_value(*first) {
-            Some(value) => Ok((value, rest)),
-            None => Err(Stop::Bad(bytes.len())),
-        },
-        [] => Err(Stop::Bad(0)),
-    }
-}
-
-/// The third digit behind the number of the first two.
-fn third_digit(high: u16, bytes: &[u8]) -> Result<(u16, &[u8]), Stop>
-    requires { high < 256 }
-    ensures gives { Gives (λ x. (x.0, x.1.now)) result (one_at (tokens.third_of high) bytes.now) }
-    ensures below { IfOk result (λ x. x.0 < 4096) }
-{
-    match bytes {
-        [first, rest @ ..] => match hex_value(*first) {
-            Some(value) => {
-                if value >= 2 && value <= 6 && high == 0 {
-                    Err(Stop::Bad(bytes.len()))
-                } else {
-                    Ok((high * 16 + value, rest))
-                }
-            }
-            None => Err(Stop::Bad(bytes.len())),
-        },
-        [] => Err(Stop::Bad(0)),
-    }
-}
-
-/// The fourth digit behind the number of the first three.
-fn fourth_digit(high: u16, bytes: &[u8]) -> Result<(u16, &[u8]), Stop>
-    requires { high < 4096 }
-    ensures { Gives (λ x. (x.0, x.1.now)) result (one_at (tokens.fourth_of high) bytes.now) }
-{
-    match bytes {
-        [first, rest @ ..] => match hex_value(*first) {
-            Some(value) => {
-                if value != 15 && high == 7 {
-                    Err(Stop::Bad(bytes.len()))
-                } else {
-                    Ok((high * 16 + value, rest))
-                }
-            }
-            None => Err(Stop::Bad(bytes.len())),
-        },
-        [] => Err(Stop::Bad(0)),
-    }
-}
-
-#[tactic(auto, unfolding(js_spelling::specs::Tokens::hex_at))]
-fn hex_of_four(bytes: &[u8]) -> Result<(u16, &[u8]), Stop>
-    ensures { Gives (λ x. (x.0, x.1.now)) result (tokens.hex_at bytes.now) }
-{
-    let (first, rest) = hex_digit(bytes)?;
-    let (second, rest) = hex_digit(rest)?;
-    let (third, rest) = third_digit(first * 16 + second, rest)?;
-    fourth_digit(third, rest)
-}
-
-/// The quote or the backslash, behind a backslash.
-fn simple_escape(bytes: &[u8]) -> Result<(u16, &[u8]), Stop>
-    ensures { Gives (λ x. (x.0, x.1.now)) result (one_at tokens.simple_escape bytes.now) }
-{
-    match bytes {
-        [first, rest @ ..] => {
-            if *first == b'"' || *first == b'\\' {
-                Ok((u16::from(*first), rest))
-            } else {
-                Err(Stop::Bad(bytes.len()))
-            }
-        }
-        [] => Err(Stop::Bad(0)),
-    }
-}
-
-/// A character that stands as it is.
-fn plain_unit(bytes: &[u8]) -> Result<(u16, &[u8]), Stop>
-    ensures { Gives (λ x. (x.0, x.1.now)) result (one_at tokens.plain_unit bytes.now) }
-{
-    match bytes {
-        [first, rest @ ..] => {
-            if *first >= b' ' && *first <= b'~' && (*first != b'"' && *first != b'\\') {
-                Ok((u16::from(*first), rest))
-            } else {
-                Err(Stop::Bad(bytes.len()))
-            }
-        }
-        [] => Err(Stop::Bad(0)),
-    }
-}
-
-#[tactic(auto, unfolding(js_spelling::specs::Tokens::escape_at))]
-fn escape_of(bytes: &[u8]) -> Result<(u16, &[u8]), Stop>
-    ensures { Gives (λ x. (x.0, x.1.now)) result (tokens.escape_at bytes.now) }
-{
-    if next_is(b'u', bytes) {
-        let rest = literal(b"u", bytes)?;
-        hex_of_four(rest)
-    } else {
-        simple_escape(bytes)
-    }
-}
-
-#[tactic(auto, unfolding(js_spelling::specs::Tokens::unit_at))]
-fn unit_of(bytes: &[u8]) -> Result<(u16, &[u8]), Stop>
-    ensures { Gives (λ x. (x.0, x.1.now)) result (tokens.unit_at bytes.now) }
-{
-    if next_is(b'\\', bytes) {
-        let rest = literal(b"\\", bytes)?;
-        escape_of(rest)
-    } else {
-        plain_unit(bytes)
-    }
-}
-
-#[derive(Drop)]
-struct UnitItem;
-
-impl Item for UnitItem {
-    ghost use Rattle.std.specs.Prelude.{ℕ, ◌==◌, not};
-    ghost use Rattle.js_spelling.specs.Tokens.{unit_at};
-
-    type Value = u16;
-
-    ghost Seen = { ℕ };
-
-    ghost seen = { λ u. u };
-
-    ghost test = { λ s c. not (c == 34) };
-
-    ghost reading = { λ s. unit_at };
-
-    fn starts(&self, bytes: &[u8]) -> bool {
-        next_other(34, bytes)
-    }
-
-    fn read<'a>(&self, _alloc: Global, bytes: &'a [u8]) -> Result<(u16, &'a [u8]), Stop> {
-        unit_of(bytes)
-    }
-}
-
-/// The text of these units.
-fn text_of_units(units: Vec<u16>) -> Result<Units, NoMemory>
-    ensures { IfOk result (λ u. u ≡ units.items) }
-{
-    Ok(Units::from_vec(units)?)
-}
+use text_scan::{Stop, literal, units_of};
 
 /// A text.
 #[tactic(auto, unfolding(listing_spelling::specs::Reading::text_at))]
-pub fn units_of<'a>(alloc: Global, fuel: usize, bytes: &'a [u8]) -> Result<(Units, &'a [u8]), Stop>
+pub fn text_of<'a>(alloc: Global, fuel: usize, bytes: &'a [u8]) -> Result<(Units, &'a [u8]), Stop>
     ensures { Gives (λ x. (x.0, x.1.now)) result (text_at fuel bytes.now) }
 {
     let rest = literal(b"\"", bytes)?;
-    let (units, rest) = list_of(alloc, fuel, &UnitItem, rest)?;
+    let (units, rest) = units_of(alloc, fuel, rest)?;
     let rest = literal(b"\"", rest)?;
-    Ok((text_of_units(units)?, rest))
+    Ok((units, rest))
 }

@@ -1,12 +1,13 @@
 // Types.
 ghost use Rattle.std.specs.Prelude.{◌≡◌};
-ghost use Rattle.listing_scan.specs.Gives.{Gives};
+ghost use Rattle.text_scan.specs.Gives.{Gives};
 ghost use Rattle.listing_spelling.specs.Reading as reading;
 
 use crate::tables::{TypeWord, type_word_of};
-use listing_scan::{Stop, array_of, literal, next_is, type_class_of};
+use listing_scan::{array_of, type_class_of};
 use sj_trees::IrType;
 use std::alloc::Global;
+use text_scan::{Stop, literal, next_is};
 
 /// A type of one word.
 #[tactic(auto, unfolding(listing_spelling::specs::Reading::type_word_at))]

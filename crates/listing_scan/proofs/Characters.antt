@@ -9,9 +9,9 @@ use Rattle.exact_place.proofs.Words.{both}
 use Rattle.listing_spelling.specs.declared.words.Spot.{Spot}
 use Rattle.listing_spelling.specs.Names.{step, moved, is_open, is_simple, plain_of, escape_at, character_at, characters_at}
 use Rattle.listing_spelling.proofs.Escapes.{law_escape}
-use Rattle.listing_scan.specs.declared.stop.Stop.{Stop}
-use Rattle.listing_scan.specs.declared.stop.Stop.TheVariants as stops
-use Rattle.listing_scan.specs.Gives.{Fails}
+use Rattle.text_scan.specs.declared.stop.Stop.{Stop}
+use Rattle.text_scan.specs.declared.stop.Stop.TheVariants as stops
+use Rattle.text_scan.specs.Gives.{Fails}
 
 -- ---- each character that is read is one
 

@@ -1,39 +1,21 @@
 // One character of a name, as it stands or by an escape.
 ghost use Rattle.std.specs.Prelude.{◌≡◌, ◌<◌, ◌≤◌, ◌+◌, ◌*◌, ◌==◌, IfOk};
 ghost use Rattle.exact_place.specs.Reading.{one_at};
-ghost use Rattle.listing_scan.specs.Gives.{Gives};
+ghost use Rattle.text_scan.specs.Gives.{Gives};
 ghost use Rattle.js_spelling.specs.Tokens.{hex_of};
 ghost use Rattle.listing_spelling.specs.Names as names;
 
-use crate::bytes::{literal, next_is};
 use crate::spots::{is_open, step};
-use crate::stop::Stop;
 use listing_spelling::Spot;
+use text_scan::{Stop, hex_digit, hex_value, literal, next_is, simple_escape};
 
-/// The value of a hexadecimal digit, lower case.
-fn hex_value(byte: u8) -> Option<u32>
-    ensures { result ≡ hex_of byte }
-{
-    if byte >= b'0' && byte <= b'9' {
-        Some(u32::from(byte - 48))
-    } else if byte >= b'a' && byte <= b'f' {
-        Some(u32::from(byte - 87))
-    } else {
-        None
-    }
-}
-
+/// The first digit.
 fn first_digit(bytes: &[u8]) -> Result<(u32, &[u8]), Stop>
     ensures gives { Gives (λ x. (x.0, x.1.now)) result (one_at hex_of bytes.now) }
     ensures below { IfOk result (λ x. x.0 < 16) }
 {
-    match bytes {
-        [first, rest @ ..] => match hex_value(*first) {
-            Some(value) => Ok((value, rest)),
-            None => Err(Stop::Bad(bytes.len())),
-        },
-        [] => Err(Stop::Bad(0)),
-    }
+    let (value, rest) = hex_digit(bytes)?;
+    Ok((u32::from(value), rest))
 }
 
 /// The second digit: a pair begins with its high unit.
@@ -48,7 +30,7 @@ fn second_digit(high: u32, bytes: &[u8]) -> Result<(u32, &[u8]), Stop>
                 if high == 13 && value >= 12 {
                     Err(Stop::Bad(bytes.len()))
                 } else {
-                    Ok((high * 16 + value, rest))
+                    Ok((high * 16 + u32::from(value), rest))
                 }
             }
             None => Err(Stop::Bad(bytes.len())),
@@ -69,7 +51,7 @@ fn third_digit(high: u32, bytes: &[u8]) -> Result<(u32, &[u8]), Stop>
                 if high == 0 && value < 8 {
                     Err(Stop::Bad(bytes.len()))
                 } else {
-                    Ok((high * 16 + value, rest))
+                    Ok((high * 16 + u32::from(value), rest))
                 }
             }
             None => Err(Stop::Bad(bytes.len())),
@@ -85,7 +67,7 @@ fn next_digit(high: u32, bytes: &[u8]) -> Result<(u32, &[u8]), Stop>
 {
     match bytes {
         [first, rest @ ..] => match hex_value(*first) {
-            Some(value) => Ok((high * 16 + value, rest)),
+            Some(value) => Ok((high * 16 + u32::from(value), rest)),
             None => Err(Stop::Bad(bytes.len())),
         },
         [] => Err(Stop::Bad(0)),
@@ -101,7 +83,7 @@ fn low_digit(bytes: &[u8]) -> Result<(u32, &[u8]), Stop>
         [first, rest @ ..] => match hex_value(*first) {
             Some(value) => {
                 if value >= 12 {
-                    Ok((208 + value, rest))
+                    Ok((208 + u32::from(value), rest))
                 } else {
                     Err(Stop::Bad(bytes.len()))
                 }
@@ -150,22 +132,6 @@ fn pair_of(unit: u32, bytes: &[u8]) -> Result<(u32, &[u8]), Stop>
     }
 }
 
-/// The quote or the backslash, behind a backslash.
-fn simple_escape(bytes: &[u8]) -> Result<(u32, &[u8]), Stop>
-    ensures { Gives (λ x. (x.0, x.1.now)) result (one_at names.simple_escape bytes.now) }
-{
-    match bytes {
-        [first, rest @ ..] => {
-            if *first == b'"' || *first == b'\\' {
-                Ok((u32::from(*first), rest))
-            } else {
-                Err(Stop::Bad(bytes.len()))
-            }
-        }
-        [] => Err(Stop::Bad(0)),
-    }
-}
-
 #[tactic(auto, unfolding(listing_spelling::specs::Names::escape_at))]
 fn escape_of(bytes: &[u8]) -> Result<(u32, &[u8]), Stop>
     ensures { Gives (λ x. (x.0, x.1.now)) result (names.escape_at bytes.now) }
@@ -175,7 +141,8 @@ fn escape_of(bytes: &[u8]) -> Result<(u32, &[u8]), Stop>
         let (unit, rest) = unit_of(rest)?;
         pair_of(unit, rest)
     } else {
-        simple_escape(bytes)
+        let (unit, rest) = simple_escape(bytes)?;
+        Ok((u32::from(unit), rest))
     }
 }
 

@@ -4,14 +4,11 @@
 //! A reader gives what it read and the bytes that are left, or says how many were left where no text of its grammar goes on.
 #![tactic(auto)]
 
-mod bytes;
 mod escapes;
 mod names;
 mod numbers;
 mod spots;
-mod stop;
 
-pub use bytes::{literal, next_is, next_other};
 pub use names::{
     array_of, class_name_of, field_name_of, label_name_of, local_name_of, method_name_of,
     type_class_of,
@@ -19,4 +16,3 @@ pub use names::{
 pub use numbers::{
     binary_op_of, byte_of, int_of, long_of, mark_of, short_of, unary_op_of, unit_of,
 };
-pub use stop::Stop;

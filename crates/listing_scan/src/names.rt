@@ -2,19 +2,18 @@
 ghost use Rattle.std.specs.Prelude.{◌≡◌, [], ◌==◌, IfOk, IsTrue, string_bytes};
 ghost use Rattle.std.specs.Char.{IsScalar};
 ghost use Rattle.sj_names.specs.Grammar as grammar;
-ghost use Rattle.listing_scan.specs.Gives.{Gives};
+ghost use Rattle.text_scan.specs.Gives.{Gives};
 ghost use Rattle.listing_spelling.specs.Names as names;
 
-use crate::bytes::{literal, next_is};
 use crate::escapes::character_of;
 use crate::spots::moved;
-use crate::stop::Stop;
 use listing_spelling::Spot;
 use sj_names::{
     ArrayRef, ClassName, FieldName, LabelName, LocalName, MethodName, NameError, Text, TypeRef,
     is_class_name, is_plain_name,
 };
 use std::alloc::Global;
+use text_scan::{Stop, literal, next_is};
 
 const OBJECT: &str = "java.lang.Object";
 

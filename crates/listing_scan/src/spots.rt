@@ -93,7 +93,7 @@ pub fn step(spot: Spot, c: u32) -> Option<Spot>
                 on_name(c, Spot::Part)
             }
         }
-        Spot::ArrayStart => on(91, c, Spot::ArrayBase(1)),
+        Spot::ArrayStart => on('[' as u32, c, Spot::ArrayBase(1)),
         Spot::ArrayBase(dimensions) => array_step(dimensions, c),
         Spot::MethodStart => {
             if c == '<' as u32 {
@@ -102,12 +102,12 @@ pub fn step(spot: Spot, c: u32) -> Option<Spot>
                 on_name(c, Spot::Simple)
             }
         }
-        Spot::Less => on(105, c, Spot::LessI),
-        Spot::LessI => on(110, c, Spot::LessIn),
-        Spot::LessIn => on(105, c, Spot::LessIni),
-        Spot::LessIni => on(116, c, Spot::LessInit),
-        Spot::LessInit => on(62, c, Spot::InitEnd),
-        Spot::InitEnd | Spot::TypeEnd => on(59, c, Spot::TypeStart),
+        Spot::Less => on('i' as u32, c, Spot::LessI),
+        Spot::LessI => on('n' as u32, c, Spot::LessIn),
+        Spot::LessIn => on('i' as u32, c, Spot::LessIni),
+        Spot::LessIni => on('t' as u32, c, Spot::LessInit),
+        Spot::LessInit => on('>' as u32, c, Spot::InitEnd),
+        Spot::InitEnd | Spot::TypeEnd => on(';' as u32, c, Spot::TypeStart),
         Spot::Simple => {
             if c == ';' as u32 {
                 Some(Spot::TypeStart)
@@ -148,5 +148,5 @@ pub fn moved(spot: Spot, c: u32) -> Spot
 pub fn is_open(spot: Spot) -> bool
     ensures { result ≡ names.is_open spot }
 {
-    step(spot, 97).is_some()
+    step(spot, 'a' as u32).is_some()
 }

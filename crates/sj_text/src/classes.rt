@@ -1,7 +1,7 @@
 // Classes and their members.
 ghost use Rattle.std.specs.Prelude.{◌≡◌, ◌∷◌, [], None, Some, IfOk, IfErr, codes};
 ghost use Rattle.exact_place.specs.Reading.{lead_at, map_at, value_at};
-ghost use Rattle.listing_scan.specs.Gives.{Gives};
+ghost use Rattle.text_scan.specs.Gives.{Gives};
 ghost use Rattle.listing_spelling.specs.Names as names;
 ghost use Rattle.listing_spelling.specs.Reading as reading;
 
@@ -11,10 +11,11 @@ use listing_read::{
     Part, bracketed_of, class_field, field_field, kind_field, mark_field, method_field, name_field,
     namespace_field, type_field,
 };
-use listing_scan::{Stop, class_name_of, literal, next_is};
+use listing_scan::class_name_of;
 use sj_names::{ClassName, Shared, Text};
 use sj_trees::{Body, ClassDef, FieldDef, MethodDef, ParamDef};
 use std::alloc::Global;
+use text_scan::{Stop, literal, next_is};
 
 // The name of an interface.
 #[derive(Drop)]

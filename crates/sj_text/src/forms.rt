@@ -2,7 +2,7 @@
 ghost use Rattle.std.specs.Prelude.{◌≡◌, ◌==◌, codes, map};
 ghost use Rattle.exact_place.specs.Reading.{lead_at};
 ghost use Rattle.sj_trees.specs.View.{view, view_case, terms_view, cases_view};
-ghost use Rattle.listing_scan.specs.Gives.{Gives};
+ghost use Rattle.text_scan.specs.Gives.{Gives};
 ghost use Rattle.listing_spelling.specs.Reading as reading;
 ghost use Rattle.sj_trees.specs.declared.forms.LeafForm.TheVariants as leaves;
 
@@ -10,9 +10,9 @@ use listing_read::{
     byte_field, char_field, class_field, field_field, int_field, long_field, mark_field,
     name_field, short_field, string_field, type_field,
 };
-use listing_scan::{Stop, literal};
 use sj_trees::{LeafForm, Position, Tree};
 use std::alloc::Global;
+use text_scan::{Stop, literal};
 
 /// What a reader of trees gives: the tree and the rest.
 pub type Read<'a> = Result<(Tree, &'a [u8]), Stop>;

@@ -2,7 +2,7 @@
 ghost use Rattle.std.specs.Prelude.{◌≡◌, [], ◌∷◌, ◌++◌, ◌==◌, IfOk, IfErr, codes, map};
 ghost use Rattle.exact_place.specs.Reading.{after_at, lead_at, list_at, literal_at, value_at};
 ghost use Rattle.sj_trees.specs.View.{view, view_case, terms_view, cases_view};
-ghost use Rattle.listing_scan.specs.Gives.{Gives};
+ghost use Rattle.text_scan.specs.Gives.{Gives};
 ghost use Rattle.listing_spelling.specs.Reading as reading;
 ghost use Rattle.sj_trees.specs.declared.forms.StatementForm.TheVariants as statements;
 ghost use Rattle.sj_trees.specs.declared.forms.BranchForm.TheVariants as branches;
@@ -14,10 +14,11 @@ use listing_read::{
     Part, array_field, binary_field, bracketed_of, class_field, field_field, form_of, label_field,
     mark_field, method_field, name_field, namespace_field, type_field, unary_field,
 };
-use listing_scan::{Stop, int_of, literal, next_is};
+use listing_scan::int_of;
 use sj_names::Items;
 use sj_trees::{BranchForm, CallForm, Form, MatchCase, OperationForm, StatementForm, Tree};
 use std::alloc::Global;
+use text_scan::{Stop, literal, next_is};
 
 /// A list of this alone.
 fn one<T: Drop>(alloc: Global, value: T) -> Result<Vec<T>, Stop>

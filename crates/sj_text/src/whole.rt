@@ -4,13 +4,13 @@ ghost use Rattle.exact_place.specs.Place.{Place};
 ghost use Rattle.sj_trees.specs.declared.classes.ClassDef.{ClassDef};
 ghost use Rattle.listing_spelling.specs.Spelling.{Lists};
 ghost use Rattle.listing_spelling.specs.Reading as reading;
-ghost use Rattle.listing_scan.specs.Gives.{Gives, Fails};
+ghost use Rattle.text_scan.specs.Gives.{Gives, Fails};
 
 use crate::classes::class_of;
 use crate::error::ListingError;
-use listing_scan::Stop;
 use sj_trees::ClassDef;
 use std::alloc::Global;
+use text_scan::Stop;
 
 /// The class that the bytes list, all of them.
 #[tactic(auto, unfolding(listing_spelling::specs::Reading::listing_at))]

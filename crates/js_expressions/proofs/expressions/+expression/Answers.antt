@@ -8,7 +8,7 @@ use Rattle.js_tree.specs.declared.expressions.JsExpr.TheOpen.{JsExpr-F}
 use Rattle.js_tree.specs.declared.expressions.JsExpr.TheFolds.{fold-roll-JsExpr}
 use Rattle.js_tree.specs.declared.expressions.JsExpr.TheVariants.{rolls-Index, rolls-NewArray, rolls-Binary, rolls-Unary, rolls-Conditional, rolls-Host, rolls-HostOfTwo}
 use Rattle.js_spelling.specs.Expressions.{is_comma, is_suffix, expression_at, more_at, suffix_at, suffixes_at}
-use Rattle.js_scan.proofs.Loops.{list_goes, list_fails, list_stops, list_out}
+use Rattle.text_scan.proofs.Loops.{list_goes, list_fails, list_stops, list_out}
 use Rattle.js_expressions.proofs.BetweenSteps.{host_read, host_of_two_read, unary_read, array_read, array_missed, operator_read, choice_read, index_read, index_missed}
 use Rattle.js_expressions.proofs.SuffixLoop.{suffix_goes, suffix_fails, suffix_stops, suffix_out}
 use Rattle.js_expressions.proofs.ExpressionSteps.{expression_word, expression_word_fails, expression_wordless, wordless_number, wordless_object, wordless_fails}

@@ -2,7 +2,7 @@ use Rattle.std.proofs.Common.{◌≡◌, ◌-◌, ◌*◌, ◌+◌, codes, map}
 use Rattle.exact_place.specs.Reading.{list_at, lead_at, map_at}
 use Rattle.js_tree.specs.Views.{expression_view}
 use Rattle.js_spelling.specs.Expressions.{is_comma, is_suffix, with_suffixes, expression_at, more_at, suffix_at, suffixes_at}
-use Rattle.js_scan.proofs.Loops.{with_front}
+use Rattle.text_scan.proofs.Loops.{with_front}
 use Rattle.js_expressions.proofs.expressions.+expression.Given as goal
 
 abbrev pub decreases-wordless_of : goal.decreases-wordless_of

@@ -1,4 +1,4 @@
-use Rattle.std.proofs.Common.{◌≡◌, Option, Some, None, sym, refl, ◌∙◌}
+use Rattle.std.proofs.Common.{◌≡◌, Option, Some, sym, refl, ◌∙◌}
 use Rattle.exact_place.specs.Tokens.{entry_of}
 use Rattle.js_scan.specs.declared.keywords.StatementWord.{StatementWord}
 use Rattle.js_spelling.specs.Words.{expression_words}

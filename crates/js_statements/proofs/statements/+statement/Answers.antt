@@ -3,7 +3,7 @@ use Rattle.std.proofs.lemmas.Result.{err_from_is_err_and}
 use Rattle.std.proofs.lemmas.List.{map_push}
 use Rattle.js_tree.specs.Views.{expression_view, statement_view, case_view}
 use Rattle.js_spelling.specs.Statements.{statement_at, line_at, lines_at, case_at, cases_at}
-use Rattle.js_scan.proofs.Loops.{list_goes, list_fails, list_stops, list_out}
+use Rattle.text_scan.proofs.Loops.{list_goes, list_fails, list_stops, list_out}
 use Rattle.js_statements.proofs.StatementSteps.{statement_word, statement_word_fails, statement_wordless, statement_wordless_fails}
 use Rattle.js_statements.proofs.statements.+statement.Goals as goal
 

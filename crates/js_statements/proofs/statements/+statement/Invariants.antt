@@ -2,7 +2,7 @@ use Rattle.std.proofs.Common.{◌≡◌, ◌-◌, ◌*◌, ◌+◌, map, eqb}
 use Rattle.exact_place.specs.Reading.{list_at}
 use Rattle.js_tree.specs.Views.{statement_view, case_view}
 use Rattle.js_spelling.specs.Statements.{statement_at, line_at, lines_at, case_at, cases_at}
-use Rattle.js_scan.proofs.Loops.{with_front}
+use Rattle.text_scan.proofs.Loops.{with_front}
 use Rattle.js_statements.proofs.statements.+statement.Given as goal
 
 abbrev pub decreases-statement_of : goal.decreases-statement_of

@@ -2,9 +2,10 @@ use Rattle.std.proofs.Common.{[]}
 use Rattle.exact_place.specs.Reading.{run_at}
 use Rattle.exact_place.specs.Tokens.{begins_entry, entry_of}
 use Rattle.listing_spelling.specs.Reading as reading
-use Rattle.listing_scan.specs.Gives.{Gives}
+use Rattle.text_scan.specs.Gives.{Gives}
 use Rattle.listing_read.specs.TypeWords.{type_of_word}
-use Rattle.listing_read.proofs.TableWords.{gives_moved, type_table}
+use Rattle.text_scan.proofs.TableWords.{gives_moved}
+use Rattle.listing_read.proofs.TypeTable.{type_table}
 use Rattle.listing_read.proofs.tables.type_word_of.Goals as goal
 
 pub returns : goal.returns

@@ -1,0 +1,5 @@
+pub mod Literals
+pub mod Loops
+pub mod NumberSteps
+pub mod Runs
+pub mod TableWords
