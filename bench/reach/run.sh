@@ -4,7 +4,7 @@ set -eu
 
 . "$(dirname "$0")/../program.sh"
 
-begin reach_bench 'anyhow class_lists indexmap reach_rules sj_infos sj_names sj_reach sj_trees sj_world' sj_names sj_units sj_trees tree_parts tree_sameness worklist sj_world sj_ask sj_infos reach_rules class_lists proxy_targets sj_reach
+begin reach_bench 'anyhow class_lists indexmap sj_reach_spec sj_infos sj_names sj_reach sj_trees sj_world' sj_names sj_units sj_trees tree_parts tree_sameness worklist sj_world sj_ask sj_infos sj_reach_spec class_lists proxy_targets sj_reach
 
 cat > "$main" <<'PROGRAM'
 //! The time of reach over two folders: a chain of calls, and classes below one interface on which methods are called.

@@ -1,5 +1,5 @@
 -- Files of accepted folders agree with their classes.
-use Rattle.sj_judged.proofs.Written.{files_agree}
+use Rattle.agree_classes.proofs.Written.{files_agree}
 use Rattle.accepted_folders.specs.Laws.{AcceptedFilesAgree}
 use Rattle.accepted_folders.proofs.Calls.{needed, calls_among, initializers_among}
 use Rattle.accepted_folders.proofs.Members.{defined}

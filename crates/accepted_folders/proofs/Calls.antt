@@ -7,27 +7,27 @@ use Rattle.std.proofs.lemmas.List.Elements.{All-nil, All-cons, All-head, All-tai
 use Rattle.ir_mean.specs.Shows.{initializers}
 use Rattle.sj_core.specs.declared.callees.Callee.{Callee}
 use Rattle.sj_core.specs.declared.callees.Callee.TheVariants as callees
-use Rattle.sj_judged.specs.EmittedMethods.{EmittedMethod}
-use Rattle.sj_judged.specs.Emitted.{initializer_member}
-use Rattle.sj_judged.specs.Desugar.{member, callee_of}
+use Rattle.agree_classes.specs.EmittedMethods.{EmittedMethod}
+use Rattle.agree_classes.specs.Emitted.{initializer_member}
+use Rattle.agree_classes.specs.Desugar.{member, callee_of}
 use Rattle.sj_infos.specs.Infos.{asks, asked_by_body}
 use Rattle.sj_infos.specs.Sure.{sure_among}
 use Rattle.sj_infos.specs.Trees.{trees, below, all_below, cases_below}
 use Rattle.sj_infos.specs.declared.infos.Info.TheVariants.{Static}
-use Rattle.sj_judged.proofs.Found.{here, there}
+use Rattle.agree_classes.proofs.Found.{here, there}
 use Rattle.sj_names.proofs.Same.{impossible}
 use Rattle.sj_names.specs.Same.{is_same_text}
 use Rattle.sj_names.specs.declared.entry_points.EntryPoint.{EntryPoint}
 use Rattle.sj_names.specs.declared.method_names.Member.{Member}
-use Rattle.sj_judged.specs.Built.{Usable}
-use Rattle.sj_judged.specs.Linked.{has_function, have_functions, functions_of}
+use Rattle.agree_classes.specs.Built.{Usable}
+use Rattle.agree_classes.specs.Linked.{has_function, have_functions, functions_of}
 use Rattle.sj_trees.specs.Term.{Term, Terms, no_terms, more_terms, Cases, no_cases, more_cases, var_def, skip, block_of, labeled, assign, return_to, if_then, while_loop, do_while, try_finally, match_on, apply_statically, apply_static, unary_op, binary_op, as_instance_of, undefined_literal, null_literal, boolean_literal, char_literal, byte_literal, short_literal, int_literal, long_literal, string_literal, var_ref, log_line, apply}
 use Rattle.sj_trees.specs.TypeOf.{type_of_term}
 use Rattle.sj_trees.specs.declared.types.IrType.{IrType}
 use Rattle.sj_trees.specs.declared.types.IrType.TheVariants.{Any, NoType}
-use Rattle.sj_judged.specs.Built.{can_call, is_operation, is_based, can_cast, is_built, are_built, are_built_cases, anything, body_boxes, is_built_body}
-use Rattle.sj_judged.proofs.RulesGive.{operation_kept}
-use Rattle.sj_judged.specs.Typing.{may_check, is_built_with}
+use Rattle.agree_classes.specs.Built.{can_call, is_operation, is_based, can_cast, is_built, are_built, are_built_cases, anything, body_boxes, is_built_body}
+use Rattle.agree_classes.proofs.RulesGive.{operation_kept}
+use Rattle.agree_classes.specs.Typing.{may_check, is_built_with}
 use Rattle.sure_receivers.specs.Sure.{sure_locals}
 use Rattle.sj_names.specs.declared.method_names.MethodName.{MethodName}
 use Rattle.sj_names.specs.declared.method_names.Namespace.{Namespace}
@@ -35,10 +35,10 @@ use Rattle.sj_trees.specs.declared.positions.Position.{Position}
 use Rattle.sj_names.specs.declared.method_names.Namespace.TheVariants.{Public, Private, Constructor}
 use Rattle.sj_world.specs.Known.{Classes}
 use Rattle.sj_world.specs.declared.facts.Fact.TheVariants.{Body}
-use Rattle.folder_verdicts.proofs.Derivations.{closed}
-use Rattle.folder_verdicts.specs.Reachable.{Reachable}
-use Rattle.folder_verdicts.specs.Rules.{entry_member, of_call, of_entry, asked_body}
-use Rattle.folder_verdicts.proofs.EachTyped.{in_all}
+use Rattle.folder_judging_spec.proofs.Derivations.{closed}
+use Rattle.folder_judging_spec.specs.Reachable.{Reachable}
+use Rattle.folder_judging_spec.specs.Rules.{entry_member, of_call, of_entry, asked_body}
+use Rattle.folder_judging_spec.proofs.EachTyped.{in_all}
 use Rattle.accepted_folders.specs.Bodies.{AreBodies}
 use Rattle.accepted_folders.specs.Laws.{CallsAreAmongBodies, InitializersAreAmongBodies}
 use Rattle.accepted_folders.proofs.Members.{has_function-from, defined}

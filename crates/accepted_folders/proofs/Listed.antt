@@ -2,14 +2,14 @@
 use Rattle.std.proofs.Common.{◌≡◌, Bool, true, false, List, [], ◌∷◌, Option, Some, None, refl, sym, ap, subst, ◌∙◌, ⊎_elim, Contains, inl, inr}
 use Rattle.std.specs.Prelude.{◌⊎◌}
 use Rattle.std.proofs.lemmas.List.Sorted.{Contains-permutation, IsPermutation-sym}
-use Rattle.sj_judged.specs.EmittedMethods.{EmittedMethod, HasFunction, HaveOwnMembers}
-use Rattle.sj_judged.proofs.Found.{here, there}
+use Rattle.agree_classes.specs.EmittedMethods.{EmittedMethod, HasFunction, HaveOwnMembers}
+use Rattle.agree_classes.proofs.Found.{here, there}
 use Rattle.sj_local.specs.Broken.{FirstBroken}
 use Rattle.sj_names.proofs.Same.{impossible}
 use Rattle.sj_names.specs.declared.entry_points.EntryPoint.{EntryPoint}
 use Rattle.sj_names.specs.declared.method_names.Member.{Member}
-use Rattle.sj_judged.proofs.Same.{has_function-is}
-use Rattle.sj_judged.specs.Linked.{has_function}
+use Rattle.agree_classes.proofs.Same.{has_function-is}
+use Rattle.agree_classes.specs.Linked.{has_function}
 use Rattle.sj_trees.specs.Term.{Term}
 use Rattle.sj_trees.specs.declared.classes.ClassDef.{ClassDef}
 use Rattle.sj_trees.specs.declared.classes.MethodDef.{MethodDef}
@@ -17,11 +17,11 @@ use Rattle.sj_world.specs.Known.{Classes}
 use Rattle.sj_world.specs.Members.{IsMethodOf}
 use Rattle.sj_world.specs.declared.facts.Fact.{Fact}
 use Rattle.sj_world.specs.declared.facts.Fact.TheVariants.{Body}
-use Rattle.folder_verdicts.specs.Reachable.{Reachable, Unresolved}
-use Rattle.folder_verdicts.specs.Refusals.{Refusal}
-use Rattle.folder_verdicts.proofs.Defined.{reached_is_defined, has_body}
-use Rattle.folder_verdicts.proofs.EachTyped.{Candidate, candidates, listed}
-use Rattle.folder_verdicts.proofs.Undenied.{Undenied, granted, and_so, decided, first_or_later}
+use Rattle.folder_judging_spec.specs.Reachable.{Reachable, Unresolved}
+use Rattle.folder_judging_spec.specs.Refusals.{Refusal}
+use Rattle.folder_judging_spec.proofs.Defined.{reached_is_defined, has_body}
+use Rattle.folder_judging_spec.proofs.EachTyped.{Candidate, candidates, listed}
+use Rattle.folder_judging_spec.proofs.Undenied.{Undenied, granted, and_so, decided, first_or_later}
 use Rattle.worklist.proofs.Inserted.{nothing_in}
 use Rattle.accepted_folders.specs.Bodies.{IsFound, AreBodies}
 use Rattle.accepted_folders.specs.Laws.{AcceptedFoldersHaveBodies}

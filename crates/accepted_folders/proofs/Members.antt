@@ -15,9 +15,9 @@ use Rattle.ir_mean.specs.World as ir
 use Rattle.sj_world.specs.Known.{Name, Classes, class_of}
 use Rattle.sj_world.specs.Members.{IsMethod, IsMethodOf}
 use Rattle.sj_world.specs.Paths.{IsFirst}
-use Rattle.sj_judged.specs.EmittedMethods.{EmittedMethod, HasFunction}
-use Rattle.folder_verdicts.proofs.Firsts.{same_first}
-use Rattle.sj_judged.specs.Linked.{is_same_member, has_function}
+use Rattle.agree_classes.specs.EmittedMethods.{EmittedMethod, HasFunction}
+use Rattle.folder_judging_spec.proofs.Firsts.{same_first}
+use Rattle.agree_classes.specs.Linked.{is_same_member, has_function}
 
 reference-refl : (r : TypeRef) → is_same_reference r r ≡ true
 reference-refl TypeRef.Void = refl

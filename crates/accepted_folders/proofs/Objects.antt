@@ -2,13 +2,13 @@
 -- is one.
 use Rattle.std.proofs.Common.{◌≡◌, Bool, true, false, List, [], Option, Some, None, refl, sym, subst, ⊎_elim, if◌then◌else◌, Contains}
 use Rattle.std.specs.Prelude.{codes, ◌||◌}
-use Rattle.sj_judged.proofs.Lists.{nothing_in, in_front_or_behind, from_filter}
-use Rattle.sj_judged.specs.Worlds.{WritesInterfaces}
-use Rattle.folder_verdicts.proofs.Derivations.{closed}
-use Rattle.folder_verdicts.specs.Reachable.{Reachable, Unresolved}
-use Rattle.folder_verdicts.specs.Refusals.{Refusal, wrong_kind, HasNeededParents, needed, hijacked, no_interface_above}
-use Rattle.folder_verdicts.specs.Rules.{the_object, above, above_hijacked}
-use Rattle.sj_judged.proofs.Classes.{keeps-superclass, keeps-hijacked}
+use Rattle.agree_classes.proofs.Lists.{nothing_in, in_front_or_behind, from_filter}
+use Rattle.agree_classes.specs.Worlds.{WritesInterfaces}
+use Rattle.folder_judging_spec.proofs.Derivations.{closed}
+use Rattle.folder_judging_spec.specs.Reachable.{Reachable, Unresolved}
+use Rattle.folder_judging_spec.specs.Refusals.{Refusal, wrong_kind, HasNeededParents, needed, hijacked, no_interface_above}
+use Rattle.folder_judging_spec.specs.Rules.{the_object, above, above_hijacked}
+use Rattle.agree_classes.proofs.Classes.{keeps-superclass, keeps-hijacked}
 use Rattle.sj_local.specs.ClassRules.{is_interface}
 use Rattle.sj_names.proofs.Same.{impossible}
 use Rattle.sj_names.specs.declared.entry_points.EntryPoint.{EntryPoint}

@@ -5,23 +5,23 @@ use Rattle.std.proofs.Math.Dec.{ltb}
 use Rattle.std.proofs.lemmas.Bool.{ltb-true, ltb-false}
 use Rattle.std.proofs.lemmas.Option.{slice_get-get_or, slice_get-map}
 use Rattle.std.specs.Prelude.{option_map}
-use Rattle.sj_judged.specs.Listed.{AreBytes}
+use Rattle.agree_classes.specs.Listed.{AreBytes}
 use Rattle.sj_names.specs.declared.entry_points.EntryPoint.{EntryPoint}
 use Rattle.sj_names.specs.declared.folders.SourceFile.{SourceFile}
 use Rattle.sj_trees.specs.declared.classes.ClassDef.{ClassDef}
-use Rattle.sj_judged.specs.Judged.{IsJudgedClass}
+use Rattle.agree_classes.specs.Judged.{IsJudgedClass}
 use Rattle.sj_world.proofs.Searches.{contains_at}
 use Rattle.sj_world.specs.Known.{Classes}
 use Rattle.sj_world.specs.Refusals.{IsWorldOf}
-use Rattle.folder_verdicts.specs.Reachable.{Unresolved}
-use Rattle.folder_verdicts.specs.Refusals.{Refusal}
-use Rattle.folder_verdicts.specs.Stages.{AreTyped}
-use Rattle.folder_verdicts.specs.Verdicts as verdicts
-use Rattle.folder_verdicts.specs.Verdicts.{Verdict, accepted, refused, ByTypes, ByReferences, ByCycles, IsVerdict}
+use Rattle.folder_judging_spec.specs.Reachable.{Unresolved}
+use Rattle.folder_judging_spec.specs.Refusals.{Refusal}
+use Rattle.folder_judging_spec.specs.Stages.{AreTyped}
+use Rattle.folder_judging_spec.specs.Verdicts as verdicts
+use Rattle.folder_judging_spec.specs.Verdicts.{Verdict, accepted, refused, ByTypes, ByReferences, ByCycles, IsVerdict}
 use Rattle.folder_sizes.specs.Files.{size_of}
 use Rattle.folder_sizes.specs.Sizes.{largest_file}
-use Rattle.sj_format.specs.Files.{FileIs}
-use Rattle.folder_verdicts.proofs.Firsts.{standing}
+use Rattle.sj_read_spec.specs.Files.{FileIs}
+use Rattle.folder_judging_spec.proofs.Firsts.{standing}
 use Rattle.accepted_folders.specs.Accepted.{IsAccepted}
 use Rattle.accepted_folders.specs.Laws.{AcceptedFoldersHaveAWorld}
 

@@ -6,8 +6,8 @@ use Rattle.sj_names.specs.declared.entry_points.EntryPoint.{EntryPoint}
 use Rattle.sj_names.specs.declared.method_names.Member.{Member}
 use Rattle.sj_world.specs.Known.{Classes}
 use Rattle.sj_world.specs.declared.facts.Fact.TheVariants.{Body}
-use Rattle.folder_verdicts.specs.Reachable.{Reachable}
-use Rattle.sj_judged.specs.EmittedMethods.{EmittedMethod, HasFunction, HaveOwnMembers}
+use Rattle.folder_judging_spec.specs.Reachable.{Reachable}
+use Rattle.agree_classes.specs.EmittedMethods.{EmittedMethod, HasFunction, HaveOwnMembers}
 
 -- the definition is that of its member in the classes, and the body is its body
 pub record IsFound (w : Classes) (e : EmittedMethod) : Type 0 where

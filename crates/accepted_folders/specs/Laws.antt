@@ -1,20 +1,20 @@
 -- Laws of folders that are accepted.
 use Rattle.std.specs.Prelude.{◌≡◌, ◌↔◌, ℕ, true, List, [], ◌∷◌}
 use Rattle.std.specs.List.{Contains}
-use Rattle.sj_judged.specs.Listed.{AreBytes}
+use Rattle.agree_classes.specs.Listed.{AreBytes}
 use Rattle.ir_mean.specs.Shows.{initializers}
 use Rattle.js_mean.specs.Shows.{file_of}
 use Rattle.js_tree.specs.Spelling.{Spells}
-use Rattle.sj_judged.specs.Agrees.{Agrees}
-use Rattle.sj_judged.specs.EmittedMethods.{EmittedMethod}
-use Rattle.sj_judged.specs.Emitted.{module_with}
+use Rattle.agree_classes.specs.Agrees.{Agrees}
+use Rattle.agree_classes.specs.EmittedMethods.{EmittedMethod}
+use Rattle.agree_classes.specs.Emitted.{module_with}
 use Rattle.sj_names.specs.declared.entry_points.EntryPoint.{EntryPoint}
 use Rattle.sj_names.specs.declared.folders.SourceFile.{SourceFile}
-use Rattle.sj_judged.specs.Linked.{functions_of, have_functions}
-use Rattle.sj_judged.specs.Built.{is_built_body}
-use Rattle.sj_judged.specs.Typing.{is_built_with}
+use Rattle.agree_classes.specs.Linked.{functions_of, have_functions}
+use Rattle.agree_classes.specs.Built.{is_built_body}
+use Rattle.agree_classes.specs.Typing.{is_built_with}
 use Rattle.sj_world.specs.Known.{Classes}
-use Rattle.folder_verdicts.specs.Verdicts.{IsVerdict, accepted}
+use Rattle.folder_judging_spec.specs.Verdicts.{IsVerdict, accepted}
 use Rattle.accepted_folders.specs.Accepted.{IsAccepted}
 use Rattle.accepted_folders.specs.Bodies.{AreBodies}
 

@@ -2,30 +2,30 @@ pub mod Accepted
 pub mod Bodies
 pub mod Laws
 pub mod Objects
-pub use Rattle.sj_judged.specs.Entries
-pub use Rattle.folder_verdicts.specs.Reachable
-pub use Rattle.sj_judged.specs.Typing
-pub use Rattle.sj_judged.specs.Built
-pub use Rattle.sj_judged.specs.Boxes
-pub use Rattle.folder_verdicts.specs.Label
-pub use Rattle.folder_verdicts.specs.Rules
-pub use Rattle.sj_judged.specs.Linked
-pub use Rattle.folder_verdicts.specs.TypingRulesRules
-pub use Rattle.folder_verdicts.specs.Typed
-pub use Rattle.folder_verdicts.specs.Nodes
-pub use Rattle.folder_verdicts.specs.Labels
-pub use Rattle.sj_judged.specs.Rules as BodySoundnessRules
-pub use Rattle.sj_judged.specs.Worlds
-pub use Rattle.sj_judged.specs.Standing
-pub use Rattle.sj_judged.specs.Judged
-pub use Rattle.sj_judged.specs.Methods
-pub use Rattle.sj_judged.specs.Once
-pub use Rattle.folder_verdicts.specs.Refusals
-pub use Rattle.sj_judged.specs.Locals
-pub use Rattle.sj_judged.specs.Laws as BodySoundnessLaws
-pub use Rattle.sj_judged.specs.Kept
-pub use Rattle.sj_judged.specs.Classes
-pub use Rattle.sj_judged.specs.Pieces
-pub use Rattle.sj_judged.specs.Settings
-pub use Rattle.folder_verdicts.specs.Verdicts
-pub use Rattle.folder_verdicts.specs.Stages
+pub use Rattle.agree_classes.specs.Entries
+pub use Rattle.folder_judging_spec.specs.Reachable
+pub use Rattle.agree_classes.specs.Typing
+pub use Rattle.agree_classes.specs.Built
+pub use Rattle.agree_classes.specs.Boxes
+pub use Rattle.folder_judging_spec.specs.Label
+pub use Rattle.folder_judging_spec.specs.Rules
+pub use Rattle.agree_classes.specs.Linked
+pub use Rattle.folder_judging_spec.specs.SjTypingSpecRules
+pub use Rattle.folder_judging_spec.specs.Typed
+pub use Rattle.folder_judging_spec.specs.Nodes
+pub use Rattle.folder_judging_spec.specs.Labels
+pub use Rattle.agree_classes.specs.Rules as AgreeSoundnessRules
+pub use Rattle.agree_classes.specs.Worlds
+pub use Rattle.agree_classes.specs.Standing
+pub use Rattle.agree_classes.specs.Judged
+pub use Rattle.agree_classes.specs.Methods
+pub use Rattle.agree_classes.specs.Once
+pub use Rattle.folder_judging_spec.specs.Refusals
+pub use Rattle.agree_classes.specs.Locals
+pub use Rattle.agree_classes.specs.Laws as AgreeSoundnessLaws
+pub use Rattle.agree_classes.specs.Kept
+pub use Rattle.agree_classes.specs.Classes
+pub use Rattle.agree_classes.specs.Pieces
+pub use Rattle.agree_classes.specs.Settings
+pub use Rattle.folder_judging_spec.specs.Verdicts
+pub use Rattle.folder_judging_spec.specs.Stages

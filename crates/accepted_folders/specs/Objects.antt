@@ -1,10 +1,10 @@
 -- What the laws on objects ask of a world, in the world of an accepted folder.
 use Rattle.std.specs.Prelude.{List}
 use Rattle.std.specs.List.{Contains}
-use Rattle.sj_judged.specs.Worlds.{AreClassesKept, WritesInterfaces}
-use Rattle.sj_judged.specs.Listed.{AreBytes}
-use Rattle.folder_verdicts.specs.Reachable.{Reachable}
-use Rattle.folder_verdicts.specs.Refusals.{HasNeededParents}
+use Rattle.agree_classes.specs.Worlds.{AreClassesKept, WritesInterfaces}
+use Rattle.agree_classes.specs.Listed.{AreBytes}
+use Rattle.folder_judging_spec.specs.Reachable.{Reachable}
+use Rattle.folder_judging_spec.specs.Refusals.{HasNeededParents}
 use Rattle.sj_names.specs.declared.entry_points.EntryPoint.{EntryPoint}
 use Rattle.sj_names.specs.declared.folders.SourceFile.{SourceFile}
 use Rattle.sj_world.specs.Known.{Name, Classes}

@@ -3,7 +3,7 @@ use Rattle.std.specs.Prelude.{◌≡◌, ℕ, Bool, true, false, List, [], Some}
 use Rattle.js_tree.specs.Terms.{Name, Member, Item, function_item, class_item, subclass_item}
 use Rattle.js_tree.specs.Views.{statements_of}
 use Rattle.outcomes.specs.Outcome.{End, Done, Out}
-use Rattle.helper_rules.specs.declared.kinds.Helper.{Helper}
+use Rattle.sj_emit_help_spec.specs.declared.kinds.Helper.{Helper}
 use Rattle.js_mean.specs.States.{Value, State, ExpressionEnd, gives, Program}
 use Rattle.js_mean.specs.Meaning.{Code, below, code_of, code_call}
 use Rattle.class_casts.specs.Bridges.{IsTopFunction}

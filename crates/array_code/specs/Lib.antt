@@ -20,7 +20,7 @@ pub use Rattle.class_casts.specs.FailureVariants
 pub use Rattle.class_casts.specs.HelperVariants
 pub use Rattle.class_casts.specs.Kind
 pub use Rattle.class_casts.specs.KindVariants
-pub use Rattle.class_casts.specs.PieceRulesClasses
+pub use Rattle.class_casts.specs.SjEmitClassSpecClasses
 pub use Rattle.class_casts.specs.Pieces
 pub use Rattle.class_casts.specs.Calls
 pub use Rattle.class_casts.specs.Bridges

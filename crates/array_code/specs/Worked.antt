@@ -1,7 +1,7 @@
 -- Programs made of helpers, whose meanings are worked out.
 use Rattle.std.specs.Prelude.{ℕ, false, true, List, [], ◌∷◌, ◌++◌, Option, Some, None, map, pos, negsuc, codes}
-use Rattle.helper_rules.specs.declared.kinds.Failure.{Failure}
-use Rattle.helper_rules.specs.declared.kinds.Helper.{Helper}
+use Rattle.sj_emit_help_spec.specs.declared.kinds.Failure.{Failure}
+use Rattle.sj_emit_help_spec.specs.declared.kinds.Helper.{Helper}
 use Rattle.class_casts.specs.FailureVariants.{Cast, Index, Size, Store}
 use Rattle.class_casts.specs.Helpers.{calls, failure_class, helper_item, init_name, num, var, word}
 use Rattle.class_casts.specs.HelperVariants.{ArrayClass, CastToArray, CheckIndex, ClassOf, ConstantsOf, Covers, Fits, Get, MakeArray, Put, Set, TestOf, TestOfArray, Throws}

@@ -12,14 +12,14 @@ use Rattle.js_tree.specs.declared.items.Binding.{Binding}
 use Rattle.sj_core.specs.Terms as core
 use Rattle.sj_core.specs.Terms.{Expression, boxed_char, checked_value, followed}
 use Rattle.sj_core.specs.Views.{expressions_of}
-use Rattle.sj_desugar.specs.Coercions.{is_char, coerced, coerced_arguments, coerced_items, coerced_receiver}
-use Rattle.sj_desugar.specs.Desugar.{operand, receiver, received, received_text, into, block, operands, cases, finish, target_of, Targets, expression_of, all_expressions, wrapped, break_unless, first_of, second_of, third_of, rest_of, member, types_of, callee_of}
-use Rattle.sj_desugar.specs.Finalizers.{kept, keep_all, finalizer_code}
-use Rattle.sj_desugar.specs.Plain.{is_no_type, is_plain, are_plain}
-use Rattle.sj_desugar.specs.Spill.{Destination, discard, to_variable, to_result, Code, one, put_first, Operand, Spilled, spill, then_use}
-use Rattle.sj_desugar.specs.Texts.{operand_of}
-use Rattle.sj_emit_expr.specs.Templates.{check_name, element_setter, is_nonzero_literal, called_member}
-use Rattle.sj_emit_expr.specs.Uses.{object_binding, function_binding, class_use, setter_use, store_use, helper_of, test_uses, cast_uses, base_uses, type_uses, uses_in, uses_in_all, uses_of, uses_of_all, uses_of_cases, call_uses}
+use Rattle.sj_desugar_spec.specs.Coercions.{is_char, coerced, coerced_arguments, coerced_items, coerced_receiver}
+use Rattle.sj_desugar_spec.specs.Desugar.{operand, receiver, received, received_text, into, block, operands, cases, finish, target_of, Targets, expression_of, all_expressions, wrapped, break_unless, first_of, second_of, third_of, rest_of, member, types_of, callee_of}
+use Rattle.sj_desugar_spec.specs.Finalizers.{kept, keep_all, finalizer_code}
+use Rattle.sj_desugar_spec.specs.Plain.{is_no_type, is_plain, are_plain}
+use Rattle.sj_desugar_spec.specs.Spill.{Destination, discard, to_variable, to_result, Code, one, put_first, Operand, Spilled, spill, then_use}
+use Rattle.sj_desugar_spec.specs.Texts.{operand_of}
+use Rattle.sj_emit_expr_spec.specs.Templates.{check_name, element_setter, is_nonzero_literal, called_member}
+use Rattle.sj_emit_expr_spec.specs.Uses.{object_binding, function_binding, class_use, setter_use, store_use, helper_of, test_uses, cast_uses, base_uses, type_uses, uses_in, uses_in_all, uses_of, uses_of_all, uses_of_cases, call_uses}
 use Rattle.sj_names.proofs.Same.{impossible}
 use Rattle.sj_names.specs.declared.method_names.Namespace.TheVariants.{Constructor}
 use Rattle.sj_names.specs.declared.references.ArrayRef.{ArrayRef}

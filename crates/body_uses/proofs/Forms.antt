@@ -3,14 +3,14 @@ use Rattle.std.proofs.Common.{arith, ◌≡◌, ◌≤◌, ◌^◌, length, Bool
 use Rattle.std.specs.List.{All}
 use Rattle.std.proofs.lemmas.Bool.{and_from, lt-ltb}
 use Rattle.std.proofs.lemmas.List.Elements.{All-head, All-tail}
-use Rattle.file_listings.specs.Listed.{AreBytes}
+use Rattle.sj_text_files.specs.Listed.{AreBytes}
 use Rattle.body_uses.proofs.Given.{all_from}
 use Rattle.body_uses.proofs.Standing.{Stands}
 use Rattle.body_uses.proofs.Uses.{ahead, after}
 use Rattle.body_uses.proofs.Written.{tree_stands, all_at, body_built}
 use Rattle.body_uses.specs.Laws.{AcceptedBodiesUseWhatIsWritten}
 use Rattle.body_uses.proofs.Sizes.{parts_small, items_small}
-use Rattle.body_sizes.proofs.ClassSizes.{bodies_are_small}
+use Rattle.sj_read_sizes.proofs.ClassSizes.{bodies_are_small}
 use Rattle.object_folders.proofs.Calls.{needed}
 use Rattle.object_folders.proofs.Classes.{class-keeps, init-keeps}
 use Rattle.object_folders.proofs.Derivations.{closed}
@@ -27,12 +27,12 @@ use Rattle.object_folders.specs.Kept.{KeepsTreeRules}
 use Rattle.object_folders.specs.Reachable.{Reachable}
 use Rattle.object_folders.specs.Rules.{Reads, of_new, asked_body}
 use Rattle.object_folders.specs.Typed.{MeetsThere}
-use Rattle.object_folders.specs.TypingRulesRules.{IsReceiver, IsCastType, IsTestType, call_type}
-use Rattle.sj_desugar.specs.Callee.{Callee}
-use Rattle.sj_desugar.specs.CalleeVariants as callees
+use Rattle.object_folders.specs.SjTypingSpecRules.{IsReceiver, IsCastType, IsTestType, call_type}
+use Rattle.sj_desugar_spec.specs.Callee.{Callee}
+use Rattle.sj_desugar_spec.specs.CalleeVariants as callees
 use Rattle.sj_ask.specs.Sizes.{size}
-use Rattle.sj_desugar.specs.Desugar.{callee_of, member, types_of}
-use Rattle.sj_desugar.specs.Plain.{is_no_type}
+use Rattle.sj_desugar_spec.specs.Desugar.{callee_of, member, types_of}
+use Rattle.sj_desugar_spec.specs.Plain.{is_no_type}
 use Rattle.sj_infos.specs.Infos.{asks, asked_by_body, asked_in}
 use Rattle.sj_infos.specs.Sure.{sure_among}
 use Rattle.sj_infos.specs.Trees.{trees, below, all_below, cases_below}

@@ -6,8 +6,8 @@ use Rattle.std.proofs.lemmas.Bool.{and_parts, and_from}
 use Rattle.std.proofs.lemmas.List.Elements.{All-nil, All-cons}
 use Rattle.js_tree.specs.declared.items.Binding.{Binding}
 use Rattle.sj_core.specs.Terms as core
-use Rattle.sj_desugar.specs.Desugar.{desugared_member, body_code, completed, is_mutable_in, result_destination}
-use Rattle.sj_emit_expr.specs.Uses.{uses_of_all, is_same_binding, once_each, uses}
+use Rattle.sj_desugar_spec.specs.Desugar.{desugared_member, body_code, completed, is_mutable_in, result_destination}
+use Rattle.sj_emit_expr_spec.specs.Uses.{uses_of_all, is_same_binding, once_each, uses}
 use Rattle.sj_infos.specs.Trees.{trees}
 use Rattle.object_folders.proofs.Found.{here, there}
 use Rattle.sj_names.proofs.Same.{impossible, text-same}

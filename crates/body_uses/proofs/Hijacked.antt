@@ -4,7 +4,7 @@ use Rattle.std.specs.Prelude.{is_none}
 use Rattle.object_folders.proofs.Found.{here}
 use Rattle.sj_core.specs.declared.callees.Callee.{Callee}
 use Rattle.sj_core.specs.declared.callees.Callee.TheVariants as callees
-use Rattle.sj_desugar.specs.Desugar.{member, called_on, named_by, callee_of}
+use Rattle.sj_desugar_spec.specs.Desugar.{member, called_on, named_by, callee_of}
 use Rattle.sj_infos.specs.Infos.{of_apply, of_call, of_receiver, no_such_method}
 use Rattle.sj_infos.specs.Receivers.{receiver_class}
 use Rattle.sj_infos.specs.declared.infos.Info.TheVariants.{Called, Reflective}
@@ -15,7 +15,7 @@ use Rattle.sj_trees.specs.Term.{Term}
 use Rattle.sj_trees.specs.TypeOf.{type_of_term}
 use Rattle.sj_trees.specs.declared.types.IrType.{IrType}
 use Rattle.sj_world.specs.Known.{Name, is_hijacked, object}
-use Rattle.object_folders.specs.TypingRulesRules.{HasReceiver}
+use Rattle.object_folders.specs.SjTypingSpecRules.{HasReceiver}
 
 -- the class is that of a receiver of this type, and hijacked
 record IsItsClass (t : IrType) (c : Name) : Type 0 where

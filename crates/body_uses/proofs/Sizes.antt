@@ -4,7 +4,7 @@ use Rattle.std.specs.List.{All}
 use Rattle.std.proofs.lemmas.List.Elements.{All-nil, All-cons}
 use Rattle.body_uses.proofs.Uses.{combine}
 use Rattle.sj_ask.specs.Sizes.{size, size_of_all, size_of_cases}
-use Rattle.sj_desugar.specs.Desugar.{types_of}
+use Rattle.sj_desugar_spec.specs.Desugar.{types_of}
 use Rattle.sj_infos.specs.Trees.{trees, below, all_below, cases_below}
 use Rattle.sj_trees.specs.Term.{Term, Terms, Cases, no_terms, more_terms, no_cases, more_cases, var_def, block_of, labeled, assign, return_to, if_then, while_loop, do_while, try_catch, try_finally, throw, match_on, new_object, store_module, select, apply, apply_statically, apply_static, unary_op, binary_op, new_array, array_value, array_length, array_select, is_instance_of, as_instance_of, log_line}
 

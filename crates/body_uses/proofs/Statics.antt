@@ -7,9 +7,9 @@ use Rattle.object_folders.specs.Typing.{may_check}
 use Rattle.object_folders.specs.Built.{Usable, members_alone, has_base, is_based, is_built}
 use Rattle.js_tree.specs.declared.items.Binding.{Binding}
 use Rattle.sj_core.specs.Lookup.{Lookup}
-use Rattle.sj_desugar.specs.Desugar.{Targets, into, member}
-use Rattle.sj_desugar.specs.Spill.{Destination}
-use Rattle.sj_emit_expr.specs.Uses.{function_binding, uses_of_all}
+use Rattle.sj_desugar_spec.specs.Desugar.{Targets, into, member}
+use Rattle.sj_desugar_spec.specs.Spill.{Destination}
+use Rattle.sj_emit_expr_spec.specs.Uses.{function_binding, uses_of_all}
 use Rattle.sj_infos.specs.Trees.{trees}
 use Rattle.sj_names.proofs.Same.{impossible}
 use Rattle.sj_names.specs.declared.method_names.Member.{Member}

@@ -1,8 +1,8 @@
 -- The test of a primitive type uses its helper, and so does the cast to one.
 use Rattle.std.proofs.Common.{◌≡◌, true, [], ◌∷◌, refl}
 use Rattle.object_folders.specs.Built.{has_kind}
-use Rattle.sj_emit_expr.specs.Tests.{test_name, cast_name}
-use Rattle.sj_emit_expr.specs.Uses.{object_binding, test_uses, cast_uses}
+use Rattle.sj_emit_expr_spec.specs.Tests.{test_name, cast_name}
+use Rattle.sj_emit_expr_spec.specs.Uses.{object_binding, test_uses, cast_uses}
 use Rattle.sj_names.proofs.Same.{impossible}
 use Rattle.sj_trees.specs.declared.types.IrType.{IrType}
 use Rattle.sj_trees.specs.declared.types.IrType.TheVariants.{Any, Class, Array}

@@ -23,19 +23,19 @@ use Rattle.object_folders.specs.Typing.{is_built_with}
 use Rattle.object_folders.specs.Built.{can_look_up, Usable, has_base, is_based, is_object_body, is_static, is_testable, has_no_value}
 use Rattle.object_folders.proofs.EachTyped.{in_all}
 use Rattle.object_folders.proofs.Undenied.{first_or_later}
-use Rattle.helper_rules.specs.Helpers.{helper_name}
-use Rattle.helper_rules.specs.declared.kinds.Helper.{Helper}
-use Rattle.helper_rules.specs.declared.kinds.Helper.TheVariants.{NotNull, IntQuotient, IntRemainder as IntRest, LongQuotient, LongRemainder as LongRest, BoxedChar, Equal, MakeArray, ArrayClass, Get, Set, Put, TestOf, CastTo, TestOfArray, CastToArray}
-use Rattle.helper_rules.specs.declared.kinds.Kind.{Kind}
-use Rattle.helper_rules.specs.declared.kinds.Kind.TheVariants as kinds
+use Rattle.sj_emit_help_spec.specs.Helpers.{helper_name}
+use Rattle.sj_emit_help_spec.specs.declared.kinds.Helper.{Helper}
+use Rattle.sj_emit_help_spec.specs.declared.kinds.Helper.TheVariants.{NotNull, IntQuotient, IntRemainder as IntRest, LongQuotient, LongRemainder as LongRest, BoxedChar, Equal, MakeArray, ArrayClass, Get, Set, Put, TestOf, CastTo, TestOfArray, CastToArray}
+use Rattle.sj_emit_help_spec.specs.declared.kinds.Kind.{Kind}
+use Rattle.sj_emit_help_spec.specs.declared.kinds.Kind.TheVariants as kinds
 use Rattle.js_tree.specs.declared.items.Binding.{Binding}
 use Rattle.object_folders.proofs.Derivations.{closed}
 use Rattle.object_folders.specs.Reachable.{Reachable}
 use Rattle.object_folders.specs.Rules.{Reads, of_call, of_new, asked_body, new_made, field_needed, resolved_class, resolved_body, call, call_class, call_hijacked, array_made}
-use Rattle.sj_desugar.specs.Desugar.{member}
-use Rattle.sj_desugar.specs.Plain.{is_no_type}
-use Rattle.sj_emit_expr.specs.Tests.{test_name, cast_name}
-use Rattle.sj_emit_expr.specs.Uses.{object_binding, function_binding, class_use, static_use, setter_use, load_use, store_use, test_uses, cast_uses, base_uses, type_uses, looked_up_uses, is_same_binding}
+use Rattle.sj_desugar_spec.specs.Desugar.{member}
+use Rattle.sj_desugar_spec.specs.Plain.{is_no_type}
+use Rattle.sj_emit_expr_spec.specs.Tests.{test_name, cast_name}
+use Rattle.sj_emit_expr_spec.specs.Uses.{object_binding, function_binding, class_use, static_use, setter_use, load_use, store_use, test_uses, cast_uses, base_uses, type_uses, looked_up_uses, is_same_binding}
 use Rattle.sj_infos.specs.Infos.{asks, asked_by_body, asked_in, of_receiver, of_base, of_array as asked_array, negative_size}
 use Rattle.sj_infos.specs.Sure.{sure_among}
 use Rattle.sj_infos.specs.Forms.{form_of, forms_in, of_base as form_base, of_call as form_call}
@@ -74,7 +74,7 @@ use Rattle.sj_world.proofs.Searches.{contains_at}
 use Rattle.sj_world.specs.Subtypes.{equal, from_nothing, to_any, null_to_class, null_to_array, class_to_class, primitive_to_class, arrays_alike, arrays_of_arrays}
 use Rattle.sj_world.specs.declared.facts.Fact.{Fact}
 use Rattle.sj_world.specs.declared.facts.Fact.TheVariants.{Body, Made, Needed, NeededField, Called as CalledOn}
-use Rattle.object_folders.specs.TypingRulesRules.{Fits, HasFieldType, IsStatic, OperandsFit, call_type}
+use Rattle.object_folders.specs.SjTypingSpecRules.{Fits, HasFieldType, IsStatic, OperandsFit, call_type}
 use Rattle.object_folders.specs.Typed.{MeetsThere}
 use Rattle.object_folders.specs.Accepted.{IsAccepted}
 use Rattle.object_folders.specs.Bodies.{AreBodies}

@@ -4,11 +4,11 @@ use Rattle.std.specs.List.{All}
 use Rattle.object_folders.specs.Built.{Usable, is_testable, has_base, is_based, has_no_value, any_object, can_look_up}
 use Rattle.js_tree.specs.declared.items.Binding.{Binding}
 use Rattle.sj_core.specs.declared.callees.Callee.TheVariants as callees
-use Rattle.sj_desugar.specs.Desugar.{member, callee_of}
-use Rattle.sj_desugar.specs.Plain.{is_no_type}
-use Rattle.sj_emit_expr.specs.Templates.{check_name}
-use Rattle.sj_emit_expr.specs.Tests.{same_name}
-use Rattle.sj_emit_expr.specs.Uses.{object_binding, function_binding, class_use, static_use, setter_use, load_use, store_use, test_uses, cast_uses, base_uses, type_uses, call_uses}
+use Rattle.sj_desugar_spec.specs.Desugar.{member, callee_of}
+use Rattle.sj_desugar_spec.specs.Plain.{is_no_type}
+use Rattle.sj_emit_expr_spec.specs.Templates.{check_name}
+use Rattle.sj_emit_expr_spec.specs.Tests.{same_name}
+use Rattle.sj_emit_expr_spec.specs.Uses.{object_binding, function_binding, class_use, static_use, setter_use, load_use, store_use, test_uses, cast_uses, base_uses, type_uses, call_uses}
 use Rattle.sj_names.specs.declared.method_names.Namespace.TheVariants.{Private, Constructor, Public}
 use Rattle.sj_names.specs.declared.references.BaseRef.{BaseRef}
 use Rattle.sj_trees.specs.Term.{Term, new_object, new_array, array_value, load_module, store_module, select, select_static, apply_statically, apply_static, binary_op, is_instance_of, as_instance_of, apply}

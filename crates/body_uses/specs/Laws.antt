@@ -1,15 +1,15 @@
 -- Laws of what bodies use.
 use Rattle.sj_core.specs.Lookup.{Lookup}
 use Rattle.std.specs.Prelude.{◌≡◌, true, List, Contains}
-use Rattle.file_listings.specs.Listed.{AreBytes}
+use Rattle.sj_text_files.specs.Listed.{AreBytes}
 use Rattle.object_folders.specs.Accepted.{IsAccepted}
 use Rattle.object_folders.specs.Bodies.{AreBodies}
 use Rattle.object_folders.specs.Typing.{is_built_with}
 use Rattle.object_folders.specs.Built.{Usable, is_object_body}
-use Rattle.helper_rules.specs.declared.kinds.Helper.{Helper}
+use Rattle.sj_emit_help_spec.specs.declared.kinds.Helper.{Helper}
 use Rattle.js_tree.specs.declared.items.Binding.{Binding}
-use Rattle.sj_desugar.specs.Desugar.{desugared_member}
-use Rattle.sj_emit_expr.specs.Uses.{uses}
+use Rattle.sj_desugar_spec.specs.Desugar.{desugared_member}
+use Rattle.sj_emit_expr_spec.specs.Uses.{uses}
 use Rattle.sj_infos.specs.Trees.{trees}
 use Rattle.sj_names.specs.declared.entry_points.EntryPoint.{EntryPoint}
 use Rattle.sj_names.specs.declared.folders.SourceFile.{SourceFile}

@@ -10,7 +10,7 @@ pub use Rattle.object_folders.specs.Rules
 pub use Rattle.object_folders.specs.Kept
 pub use Rattle.object_folders.specs.EmittedMethods
 pub use Rattle.object_folders.specs.Classes
-pub use Rattle.object_folders.specs.PieceRulesPieces
+pub use Rattle.object_folders.specs.SjEmitClassSpecPieces
 pub use Rattle.object_folders.specs.Once
 pub use Rattle.object_folders.specs.Typing
 pub use Rattle.object_folders.specs.Entries
@@ -23,12 +23,12 @@ pub use Rattle.object_folders.specs.Running
 pub use Rattle.object_folders.specs.Stages
 pub use Rattle.object_folders.specs.Standing
 pub use Rattle.object_folders.specs.Typed
-pub use Rattle.object_folders.specs.TypingRulesRules
+pub use Rattle.object_folders.specs.SjTypingSpecRules
 pub use Rattle.object_folders.specs.Used
 pub use Rattle.object_folders.specs.Verdicts
 pub use Rattle.object_folders.specs.Worlds
 pub use Rattle.object_folders.specs.Dispatch
 pub use Rattle.object_folders.specs.Dispatched
 pub use Rattle.object_folders.specs.ToldPieces
-pub use Rattle.object_folders.specs.BodySoundnessLaws
+pub use Rattle.object_folders.specs.AgreeSoundnessLaws
 pub use Rattle.object_folders.specs.Targets

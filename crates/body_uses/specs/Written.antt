@@ -1,9 +1,9 @@
 -- What the written pieces of a world use is written.
 use Rattle.std.specs.Prelude.{◌↔◌, List, Contains}
 use Rattle.object_folders.specs.Entries.{IsLive}
-use Rattle.helper_rules.specs.Helpers.{helper_name}
-use Rattle.helper_rules.specs.Words.{helper}
-use Rattle.helper_rules.specs.declared.kinds.Helper.{Helper}
+use Rattle.sj_emit_help_spec.specs.Helpers.{helper_name}
+use Rattle.sj_emit_help_spec.specs.Words.{helper}
+use Rattle.sj_emit_help_spec.specs.declared.kinds.Helper.{Helper}
 use Rattle.js_tree.specs.declared.items.Binding.{Binding}
 use Rattle.object_folders.specs.Reachable.{Reachable}
 use Rattle.sj_names.specs.declared.entry_points.EntryPoint.{EntryPoint}

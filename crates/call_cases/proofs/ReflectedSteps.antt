@@ -4,10 +4,10 @@ use Rattle.std.specs.Prelude.{◌↔◌, MatchOption}
 use Rattle.call_cases.specs.Reached.{HasNoneReached, IsReachedAmong}
 use Rattle.call_cases.specs.declared.reflected.Target.{Target}
 use Rattle.call_cases.proofs.Steps.{None_reached}
-use Rattle.helper_rules.specs.Words.{kind_class}
-use Rattle.helper_rules.specs.declared.kinds.Kind.{Kind}
-use Rattle.piece_rules.specs.Dispatch as rules
-use Rattle.piece_rules.specs.Dispatch.{AreReflected, reflected, unreflected, IsReachedTarget, IsReflectedTarget}
+use Rattle.sj_emit_help_spec.specs.Words.{kind_class}
+use Rattle.sj_emit_help_spec.specs.declared.kinds.Kind.{Kind}
+use Rattle.sj_emit_class_spec.specs.Dispatch as rules
+use Rattle.sj_emit_class_spec.specs.Dispatch.{AreReflected, reflected, unreflected, IsReachedTarget, IsReflectedTarget}
 use Rattle.proxy_targets.specs.Proxies.{IsTargetName}
 use Rattle.sj_names.specs.declared.method_names.MethodName.{MethodName}
 use Rattle.sj_world.specs.Known.{Name, Classes}

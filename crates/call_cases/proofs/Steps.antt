@@ -1,18 +1,18 @@
 -- Steps on the way to the cases of a call.
 use Rattle.std.proofs.Common.{◌≡◌, List, [], ◌∷◌, ◌++◌, Option, Some, None, Contains, sym, subst}
 use Rattle.std.specs.Prelude.{MatchOption}
-use Rattle.helper_rules.specs.Words.{kind_class}
-use Rattle.helper_rules.specs.declared.kinds.Kind.{Kind}
-use Rattle.piece_rules.specs.Dispatch as rules
-use Rattle.piece_rules.specs.Dispatch.{AreTold, told, untold, IsReachedTarget}
-use Rattle.reach_rules.specs.Rules.{public_member}
+use Rattle.sj_emit_help_spec.specs.Words.{kind_class}
+use Rattle.sj_emit_help_spec.specs.declared.kinds.Kind.{Kind}
+use Rattle.sj_emit_class_spec.specs.Dispatch as rules
+use Rattle.sj_emit_class_spec.specs.Dispatch.{AreTold, told, untold, IsReachedTarget}
+use Rattle.sj_reach_spec.specs.Rules.{public_member}
 use Rattle.sj_names.specs.declared.method_names.MethodName.{MethodName}
 use Rattle.sj_trees.specs.declared.classes.MethodDef.{MethodDef}
 use Rattle.sj_world.specs.Known.{Name, Classes}
 use Rattle.sj_world.specs.Resolution.{Resolves, target, abstract, missing}
 use Rattle.sj_world.specs.declared.facts.Fact.{Fact}
 use Rattle.sj_world.specs.declared.facts.Fact.TheVariants.{Body}
-use Rattle.entry_rules.proofs.Owners.{one_owner}
+use Rattle.sj_baselink_spec.proofs.Owners.{one_owner}
 use Rattle.sj_baselink.proofs.Chosen.{no_target_abstract, no_target_missing}
 
 module _ (w : Classes) (known : List Fact) (c : Name) (m : MethodName) where

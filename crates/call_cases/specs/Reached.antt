@@ -3,7 +3,7 @@ use Rattle.std.specs.Prelude.{List, Contains}
 use Rattle.sj_names.specs.declared.method_names.MethodName.{MethodName}
 use Rattle.sj_world.specs.Known.{Name, Classes}
 use Rattle.sj_world.specs.declared.facts.Fact.{Fact}
-use Rattle.piece_rules.specs.Dispatch.{IsReachedTarget}
+use Rattle.sj_emit_class_spec.specs.Dispatch.{IsReachedTarget}
 
 pub record IsReachedAmong (w : Classes) (known : List Fact) (c : Name) (names : List MethodName) (m : MethodName) (owner : Name) : Type 0 where
   pub among : Contains names m

@@ -1,23 +1,23 @@
 // The kinds of receivers that a reflective call tells apart.
 ghost use Rattle.std.specs.Prelude.{◌≡◌, ◌++◌, ◌∷◌, [], map, All, List, IfOk, OnOk, MatchOption};
-ghost use Rattle.class_printing.specs.Fits.{FitReflected};
+ghost use Rattle.sj_emit_class_printing.specs.Fits.{FitReflected};
 ghost use Rattle.js_tree.specs.Rules.{IsPiece};
 ghost use Rattle.js_tree.specs.Views.{piece_view};
-ghost use Rattle.helper_rules.specs.declared.kinds.Kind.{Kind as AnyKind};
-ghost use Rattle.piece_rules.specs.Dispatch.{AreReflected, IsReflectedTarget, IsReflectivePiece};
-ghost use Rattle.sj_emit_class.specs.Cases.{reflected_view};
+ghost use Rattle.sj_emit_help_spec.specs.declared.kinds.Kind.{Kind as AnyKind};
+ghost use Rattle.sj_emit_class_spec.specs.Dispatch.{AreReflected, IsReflectedTarget, IsReflectivePiece};
+ghost use Rattle.sj_emit_class_parts.specs.Cases.{reflected_view};
 ghost use Rattle.sj_names.specs.declared.method_names.MethodName.{MethodName as AnyMethod};
 ghost use Rattle.sj_world.specs.Known.{Name};
 ghost use Rattle.call_cases.specs.Reached.{HasNoneReached, IsReachedAmong};
 
 use crate::told::{class_name, reached_target};
-use class_printing::{name_fits, pieces_of_classes_are_pieces};
-use helper_rules::Kind;
 use js_tree::JsPiece;
 use proxy_targets::names_of_targets;
-use sj_emit_class::{Reflected, reflective_piece};
+use sj_emit_class_parts::{Reflected, reflective_piece};
+use sj_emit_class_printing::{name_fits, pieces_of_classes_are_pieces};
+use sj_emit_expr_pieces::method_name_fits;
+use sj_emit_help_spec::Kind;
 use sj_names::{ClassName, MethodName, NoMemory};
-use sj_pieces::method_name_fits;
 use sj_world::LinkedWorld;
 use std::alloc::Global;
 

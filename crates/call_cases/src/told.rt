@@ -1,23 +1,23 @@
 // The kinds of receivers that a call tells apart.
 ghost use Rattle.std.specs.Prelude.{◌≡◌, ◌++◌, ◌∷◌, [], map, All, List, IfOk, OnOk, MatchOption, Contains};
 ghost use Rattle.sj_world.specs.declared.facts.Fact.TheVariants.{Body};
-ghost use Rattle.class_printing.specs.Fits.{FitTold};
+ghost use Rattle.sj_emit_class_printing.specs.Fits.{FitTold};
 ghost use Rattle.js_tree.specs.Rules.{IsPiece};
 ghost use Rattle.js_tree.specs.Views.{piece_view};
-ghost use Rattle.helper_rules.specs.Words.{kind_class, told_kinds};
-ghost use Rattle.helper_rules.specs.declared.kinds.Kind.{Kind as AnyKind};
-ghost use Rattle.piece_rules.specs.Dispatch.{AreTold, IsReachedTarget, IsDispatchPiece};
-ghost use Rattle.reach_rules.specs.Rules as rules;
-ghost use Rattle.sj_emit_class.specs.Cases.{told_view};
+ghost use Rattle.sj_emit_help_spec.specs.Words.{kind_class, told_kinds};
+ghost use Rattle.sj_emit_help_spec.specs.declared.kinds.Kind.{Kind as AnyKind};
+ghost use Rattle.sj_emit_class_spec.specs.Dispatch.{AreTold, IsReachedTarget, IsDispatchPiece};
+ghost use Rattle.sj_reach_spec.specs.Rules as rules;
+ghost use Rattle.sj_emit_class_parts.specs.Cases.{told_view};
 ghost use Rattle.sj_world.specs.Known.{Name};
 
-use class_printing::{name_fits, pieces_of_classes_are_pieces};
-use helper_rules::Kind;
 use js_tree::JsPiece;
 use piece_making::class_of_kind;
-use sj_emit_class::{Told, dispatch_piece};
+use sj_emit_class_parts::{Told, dispatch_piece};
+use sj_emit_class_printing::{name_fits, pieces_of_classes_are_pieces};
+use sj_emit_expr_pieces::method_name_fits;
+use sj_emit_help_spec::Kind;
 use sj_names::{ClassName, Member, MethodName, Namespace, NoMemory, Text};
-use sj_pieces::method_name_fits;
 use sj_world::{LinkedWorld, Resolution};
 use std::alloc::Global;
 

@@ -17,7 +17,7 @@ pub use Rattle.class_tests.specs.FailureVariants
 pub use Rattle.class_tests.specs.HelperVariants
 pub use Rattle.class_tests.specs.Kind
 pub use Rattle.class_tests.specs.KindVariants
-pub use Rattle.class_tests.specs.Classes as PieceRulesClasses
+pub use Rattle.class_tests.specs.Classes as SjEmitClassSpecClasses
 pub use Rattle.class_tests.specs.Pieces
 pub use Rattle.class_tests.specs.Calls
 pub use Rattle.class_tests.specs.Fact

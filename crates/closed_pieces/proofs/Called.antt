@@ -7,7 +7,7 @@ use Rattle.linked_folders.proofs.Direct.{Calls, is_called}
 use Rattle.linked_folders.proofs.Uses.{combine}
 use Rattle.linked_folders.specs.Built.{Usable, can_call, stands, is_built, are_built, are_built_cases}
 use Rattle.linked_folders.proofs.WrittenTrees.{written, written_below, all_written, cases_written}
-use Rattle.sj_desugar.specs.Desugar.{callee_of}
+use Rattle.sj_desugar_spec.specs.Desugar.{callee_of}
 use Rattle.sj_names.proofs.Same.{impossible}
 use Rattle.sj_trees.specs.Term.{Term, Terms, no_terms, more_terms, Cases, no_cases, more_cases, var_def, block_of, labeled, assign, return_to, if_then, while_loop, do_while, try_catch, try_finally, match_on, throw, new_object, new_array, array_value, array_length, array_select, store_module, select, select_static, apply, apply_statically, apply_static, unary_op, binary_op, is_instance_of, as_instance_of, var_ref, log_line}
 use Rattle.sj_trees.specs.TypeOf.{type_of_term}

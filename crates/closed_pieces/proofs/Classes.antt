@@ -10,19 +10,19 @@ use Rattle.linked_folders.proofs.Uses.{combine}
 use Rattle.linked_folders.specs.Classes.{AreParts}
 use Rattle.linked_folders.specs.Entries.{IsLive, IsMethodEntry, direct, proxy, AreEntries}
 use Rattle.linked_folders.specs.Reachable.{Reachable}
-use Rattle.linked_folders.specs.ReachRulesRules.{Reads, of_load, asked_body, load_made, plain_constructor, public_member}
-use Rattle.helper_rules.specs.Helpers.{helper_name}
-use Rattle.helper_rules.specs.Words.{bound, helper, all_kinds, class_name}
-use Rattle.helper_rules.specs.declared.kinds.Failure.TheVariants.{Cast as CastFails}
-use Rattle.helper_rules.specs.declared.kinds.Helper.{Helper}
-use Rattle.helper_rules.specs.declared.kinds.Helper.TheVariants as helpers
-use Rattle.helper_rules.specs.declared.kinds.Kind.{Kind}
+use Rattle.linked_folders.specs.SjReachSpecRules.{Reads, of_load, asked_body, load_made, plain_constructor, public_member}
+use Rattle.sj_emit_help_spec.specs.Helpers.{helper_name}
+use Rattle.sj_emit_help_spec.specs.Words.{bound, helper, all_kinds, class_name}
+use Rattle.sj_emit_help_spec.specs.declared.kinds.Failure.TheVariants.{Cast as CastFails}
+use Rattle.sj_emit_help_spec.specs.declared.kinds.Helper.{Helper}
+use Rattle.sj_emit_help_spec.specs.declared.kinds.Helper.TheVariants as helpers
+use Rattle.sj_emit_help_spec.specs.declared.kinds.Kind.{Kind}
 use Rattle.js_tree.specs.Terms.{Name, Piece}
 use Rattle.js_tree.specs.declared.items.Binding.{Binding}
-use Rattle.module_rules.specs.Laws.{IsDeclared}
-use Rattle.linked_folders.specs.PieceRulesPieces.{Parts, pieces, when, constants_piece, class_piece, class_uses, parent_uses, own_constants, uses_of_entries, entry_uses, box_uses, is_char, all_statics, variable_piece, setter_piece, cell_piece, cell_pieces, load_piece, store_piece, init_name, test_piece, test_uses, test_binding, cast_piece, kind_of_class, constants_of, class_of as class_pieces_of, module_of, tests_of}
-use Rattle.sj_emit_expr.specs.Templates.{member_name}
-use Rattle.sj_emit_expr.specs.Uses.{function_binding}
+use Rattle.sj_emit_module_spec.specs.Laws.{IsDeclared}
+use Rattle.linked_folders.specs.SjEmitClassSpecPieces.{Parts, pieces, when, constants_piece, class_piece, class_uses, parent_uses, own_constants, uses_of_entries, entry_uses, box_uses, is_char, all_statics, variable_piece, setter_piece, cell_piece, cell_pieces, load_piece, store_piece, init_name, test_piece, test_uses, test_binding, cast_piece, kind_of_class, constants_of, class_of as class_pieces_of, module_of, tests_of}
+use Rattle.sj_emit_expr_spec.specs.Templates.{member_name}
+use Rattle.sj_emit_expr_spec.specs.Uses.{function_binding}
 use Rattle.sj_infos.specs.declared.forms.BodyForm.TheVariants as forms
 use Rattle.sj_infos.specs.declared.infos.Info.TheVariants.{Load}
 use Rattle.sj_mangling.specs.Bindings.{class_binding}

@@ -26,18 +26,18 @@ use Rattle.linked_folders.specs.EmittedMethods.{EmittedMethod}
 use Rattle.linked_folders.specs.Entries.{IsLive}
 use Rattle.linked_folders.specs.Pieces.{piece_of_member, pieces_of_block, AreLinkedPieces}
 use Rattle.linked_folders.specs.Reachable.{Reachable}
-use Rattle.linked_folders.specs.ReachRulesRules.{the_object}
+use Rattle.linked_folders.specs.SjReachSpecRules.{the_object}
 use Rattle.linked_folders.specs.Rules.{HasFieldType}
-use Rattle.file_listings.specs.Listed.{AreBytes}
-use Rattle.helper_rules.specs.Helpers.{helper_name, helper_piece}
-use Rattle.helper_rules.specs.Words.{bound, helper, all_kinds, class_name, constants_name}
-use Rattle.helper_rules.specs.declared.kinds.Helper.{Helper}
+use Rattle.sj_text_files.specs.Listed.{AreBytes}
+use Rattle.sj_emit_help_spec.specs.Helpers.{helper_name, helper_piece}
+use Rattle.sj_emit_help_spec.specs.Words.{bound, helper, all_kinds, class_name, constants_name}
+use Rattle.sj_emit_help_spec.specs.declared.kinds.Helper.{Helper}
 use Rattle.js_tree.specs.Terms.{Piece}
-use Rattle.module_rules.specs.Laws.{IsDeclared}
+use Rattle.sj_emit_module_spec.specs.Laws.{IsDeclared}
 use Rattle.linked_folders.proofs.Plain.{class_found}
-use Rattle.linked_folders.specs.PieceRulesPieces.{Parts, own_constants, constants_piece, class_piece, variable_piece, setter_piece, all_statics, load_piece, store_piece, test_piece, cast_piece, kind_of_class}
-use Rattle.sj_emit_expr.specs.Templates.{member_name, static_name, setter_name, load_name, store_name}
-use Rattle.sj_emit_expr.specs.Uses.{function_binding, class_use, static_use, setter_use, load_use, store_use}
+use Rattle.linked_folders.specs.SjEmitClassSpecPieces.{Parts, own_constants, constants_piece, class_piece, variable_piece, setter_piece, all_statics, load_piece, store_piece, test_piece, cast_piece, kind_of_class}
+use Rattle.sj_emit_expr_spec.specs.Templates.{member_name, static_name, setter_name, load_name, store_name}
+use Rattle.sj_emit_expr_spec.specs.Uses.{function_binding, class_use, static_use, setter_use, load_use, store_use}
 use Rattle.sj_infos.specs.Forms.{form_of, forms_by_body}
 use Rattle.sj_infos.specs.Trees.{trees}
 use Rattle.sj_infos.specs.declared.forms.BodyForm.TheVariants as forms

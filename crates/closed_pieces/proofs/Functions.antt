@@ -23,34 +23,34 @@ use Rattle.linked_folders.specs.EmittedMethods.{EmittedMethod}
 use Rattle.linked_folders.specs.Pieces.{piece_of_member}
 use Rattle.linked_folders.specs.Reachable.{Reachable}
 use Rattle.linked_folders.specs.Refusals.{missing_class, missing_method, abstract_target, IsPresent, no_class, no_target, no_target_body, no_method, no_hijacked_body}
-use Rattle.linked_folders.specs.ReachRulesRules.{Reads, of_call, of_new, asked_body, new_made, field_needed, resolved_class, resolved_body, call, call_class, call_hijacked, class_named, load_needed}
+use Rattle.linked_folders.specs.SjReachSpecRules.{Reads, of_call, of_new, asked_body, new_made, field_needed, resolved_class, resolved_body, call, call_class, call_hijacked, class_named, load_needed}
 use Rattle.linked_folders.specs.Typed.{MeetsThere}
 use Rattle.dispatch_laws.proofs.WorkedOut.{targets_are_worked_out}
 use Rattle.dispatch_laws.specs.Laws.{found_by}
 use Rattle.dispatch_laws.specs.Targets.{at_owner, lookup_in}
 use Rattle.linked_folders.specs.Dispatch.{dispatch_name, reflective_name}
 use Rattle.linked_folders.specs.Entries.{IsReflective}
-use Rattle.helper_rules.specs.Helpers.{helper_name}
-use Rattle.helper_rules.specs.Words.{bound, helper, is_name, as_name}
-use Rattle.helper_rules.specs.declared.kinds.Helper.{Helper}
-use Rattle.helper_rules.specs.declared.kinds.Helper.TheVariants as helpers
-use Rattle.helper_rules.specs.declared.kinds.Kind.{Kind}
-use Rattle.helper_rules.specs.declared.kinds.Kind.TheVariants as kinds
+use Rattle.sj_emit_help_spec.specs.Helpers.{helper_name}
+use Rattle.sj_emit_help_spec.specs.Words.{bound, helper, is_name, as_name}
+use Rattle.sj_emit_help_spec.specs.declared.kinds.Helper.{Helper}
+use Rattle.sj_emit_help_spec.specs.declared.kinds.Helper.TheVariants as helpers
+use Rattle.sj_emit_help_spec.specs.declared.kinds.Kind.{Kind}
+use Rattle.sj_emit_help_spec.specs.declared.kinds.Kind.TheVariants as kinds
 use Rattle.ir_mean.specs.Dispatch.{resolved}
 use Rattle.js_tree.specs.Terms.{Piece}
 use Rattle.js_tree.specs.declared.items.Binding.{Binding}
 use Rattle.linked_folders.proofs.WrittenTrees.{written, each_written}
-use Rattle.module_rules.specs.Laws.{IsDeclared}
+use Rattle.sj_emit_module_spec.specs.Laws.{IsDeclared}
 use Rattle.linked_folders.proofs.Bodies.{once_in}
 use Rattle.linked_folders.proofs.Brought.{Brings, followed_in, tree}
 use Rattle.linked_folders.proofs.Resolves.{each_call_resolves}
 use Rattle.sj_core.specs.Lookup.{Lookup}
 use Rattle.sj_core.specs.Terms as core
 use Rattle.sj_core.specs.declared.callees.Callee.{Callee}
-use Rattle.sj_desugar.specs.Desugar.{callee_of, member, desugared_member, body_code, completed, is_mutable_in, result_destination}
-use Rattle.sj_emit_expr.specs.Templates.{called_member, element_setter}
-use Rattle.sj_emit_expr.specs.Tests.{same_name}
-use Rattle.sj_emit_expr.specs.Uses.{call_uses, looked_up_uses, object_binding, function_binding, helper_of, test_uses, cast_uses, base_uses, type_uses, store_use, uses_of_all}
+use Rattle.sj_desugar_spec.specs.Desugar.{callee_of, member, desugared_member, body_code, completed, is_mutable_in, result_destination}
+use Rattle.sj_emit_expr_spec.specs.Templates.{called_member, element_setter}
+use Rattle.sj_emit_expr_spec.specs.Tests.{same_name}
+use Rattle.sj_emit_expr_spec.specs.Uses.{call_uses, looked_up_uses, object_binding, function_binding, helper_of, test_uses, cast_uses, base_uses, type_uses, store_use, uses_of_all}
 use Rattle.sj_infos.specs.Forms.{form_of, of_test, forms_by_body, of_call as form_call}
 use Rattle.sj_infos.specs.Forms as of_form
 use Rattle.sj_infos.specs.Infos.{asks, asked_by_body, of_static_call, of_receiver, of_base as asked_base, of_array, of_type, is_any, class_cast, negative_size}

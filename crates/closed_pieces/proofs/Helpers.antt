@@ -3,18 +3,18 @@ use Rattle.std.proofs.Common.{List, [], ◌∷◌, inl, inr, subst, map, Contain
 use Rattle.std.proofs.lemmas.List.Elements.{Contains-append_cases}
 use Rattle.linked_folders.specs.Accepted.{IsAccepted}
 use Rattle.linked_folders.specs.Bodies.{AreBodies}
-use Rattle.file_listings.specs.Listed.{AreBytes}
+use Rattle.sj_text_files.specs.Listed.{AreBytes}
 use Rattle.linked_folders.specs.EmittedMethods.{EmittedMethod}
 use Rattle.linked_folders.specs.Pieces.{by_helper, AreLinkedPieces}
 use Rattle.linked_folders.specs.Reachable.{Reachable}
-use Rattle.linked_folders.specs.ReachRulesRules.{message_constructor}
-use Rattle.helper_rules.specs.Helpers.{failure_class, helper_uses, init_name, of, used_helpers, used_of_classes}
-use Rattle.helper_rules.specs.Words.{bound, class_name}
-use Rattle.helper_rules.specs.declared.kinds.Helper.{Helper}
-use Rattle.helper_rules.specs.declared.kinds.Helper.TheVariants as helpers
+use Rattle.linked_folders.specs.SjReachSpecRules.{message_constructor}
+use Rattle.sj_emit_help_spec.specs.Helpers.{failure_class, helper_uses, init_name, of, used_helpers, used_of_classes}
+use Rattle.sj_emit_help_spec.specs.Words.{bound, class_name}
+use Rattle.sj_emit_help_spec.specs.declared.kinds.Helper.{Helper}
+use Rattle.sj_emit_help_spec.specs.declared.kinds.Helper.TheVariants as helpers
 use Rattle.js_tree.specs.Terms.{Piece}
 use Rattle.js_tree.specs.declared.items.Binding.{Binding}
-use Rattle.module_rules.specs.Laws.{IsDeclared}
+use Rattle.sj_emit_module_spec.specs.Laws.{IsDeclared}
 use Rattle.linked_folders.proofs.AboveMade.{arrays_extend}
 use Rattle.linked_folders.proofs.Pieces.{reached}
 use Rattle.sj_names.specs.WellKnown.{object}

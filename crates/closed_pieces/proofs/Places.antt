@@ -10,13 +10,13 @@ use Rattle.linked_folders.specs.Dispatched.{OfDispatched}
 use Rattle.linked_folders.specs.ToldPieces.{OfReflected}
 use Rattle.linked_folders.specs.EmittedMethods.{EmittedMethod}
 use Rattle.linked_folders.specs.Pieces.{piece_of_member, Block, IsBlock, AreBlocks, pieces_of_block, with_helpers, AreLinkedPieces}
-use Rattle.helper_rules.specs.Helpers.{helper_piece}
-use Rattle.helper_rules.specs.declared.kinds.Helper.{Helper}
+use Rattle.sj_emit_help_spec.specs.Helpers.{helper_piece}
+use Rattle.sj_emit_help_spec.specs.declared.kinds.Helper.{Helper}
 use Rattle.js_tree.specs.Terms.{Name, Piece}
 use Rattle.js_tree.specs.declared.items.Binding.{Binding}
 use Rattle.linked_folders.proofs.Bodies.{once_in}
-use Rattle.linked_folders.specs.PieceRulesPieces.{Parts, pieces}
-use Rattle.sj_emit_expr.specs.Uses.{once_each}
+use Rattle.linked_folders.specs.SjEmitClassSpecPieces.{Parts, pieces}
+use Rattle.sj_emit_expr_spec.specs.Uses.{once_each}
 use Rattle.sj_names.specs.WellKnown.{is_object}
 use Rattle.sj_split.proofs.Members.{cons_cases, from_map}
 use Rattle.sj_world.specs.Linked.{Linked}

@@ -5,18 +5,18 @@ use Rattle.std.specs.List.{flat_map}
 use Rattle.std.proofs.lemmas.List.Elements.{Contains-append_cases}
 use Rattle.linked_folders.proofs.Forms.{in_one}
 use Rattle.linked_folders.specs.Dispatch.{Told, IsReachedTarget, AreTold, told_none, told, untold, told_uses, IsDispatchPiece, Reflected, IsReflectedTarget, AreReflected, reflected_none, reflected, unreflected, reflected_uses, IsReflectivePiece}
-use Rattle.linked_folders.specs.PieceRulesPieces.{box_uses, is_char}
+use Rattle.linked_folders.specs.SjEmitClassSpecPieces.{box_uses, is_char}
 use Rattle.linked_folders.specs.Reachable.{Reachable}
-use Rattle.linked_folders.specs.ReachRulesRules.{public_member}
-use Rattle.helper_rules.specs.Helpers.{helper_name}
-use Rattle.helper_rules.specs.Words.{bound, helper, is_name, kind_class, public_function, told_kinds}
-use Rattle.helper_rules.specs.declared.kinds.Helper.{Helper}
-use Rattle.helper_rules.specs.declared.kinds.Helper.TheVariants.{BoxedChar, TestOf, Throws}
-use Rattle.helper_rules.specs.declared.kinds.Failure.TheVariants.{Method}
-use Rattle.helper_rules.specs.declared.kinds.Kind.{Kind}
+use Rattle.linked_folders.specs.SjReachSpecRules.{public_member}
+use Rattle.sj_emit_help_spec.specs.Helpers.{helper_name}
+use Rattle.sj_emit_help_spec.specs.Words.{bound, helper, is_name, kind_class, public_function, told_kinds}
+use Rattle.sj_emit_help_spec.specs.declared.kinds.Helper.{Helper}
+use Rattle.sj_emit_help_spec.specs.declared.kinds.Helper.TheVariants.{BoxedChar, TestOf, Throws}
+use Rattle.sj_emit_help_spec.specs.declared.kinds.Failure.TheVariants.{Method}
+use Rattle.sj_emit_help_spec.specs.declared.kinds.Kind.{Kind}
 use Rattle.js_tree.specs.Terms.{Piece}
 use Rattle.js_tree.specs.declared.items.Binding.{Binding}
-use Rattle.module_rules.specs.Laws.{IsDeclared}
+use Rattle.sj_emit_module_spec.specs.Laws.{IsDeclared}
 use Rattle.sj_names.specs.declared.entry_points.EntryPoint.{EntryPoint}
 use Rattle.sj_names.specs.declared.method_names.MethodName.{MethodName}
 use Rattle.sj_split.proofs.Members.{cons_cases}

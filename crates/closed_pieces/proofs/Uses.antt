@@ -12,16 +12,16 @@ use Rattle.linked_folders.specs.EmittedMethods.{EmittedMethod}
 use Rattle.linked_folders.specs.Entries.{IsLive, IsReflective, AreEntries}
 use Rattle.linked_folders.specs.Pieces.{piece_of_member, by_piece, AreLinkedPieces}
 use Rattle.linked_folders.specs.Reachable.{Reachable}
-use Rattle.file_listings.specs.Listed.{AreBytes}
-use Rattle.helper_rules.specs.Helpers.{helper_name}
-use Rattle.helper_rules.specs.Words.{helper}
-use Rattle.helper_rules.specs.declared.kinds.Helper.{Helper}
+use Rattle.sj_text_files.specs.Listed.{AreBytes}
+use Rattle.sj_emit_help_spec.specs.Helpers.{helper_name}
+use Rattle.sj_emit_help_spec.specs.Words.{helper}
+use Rattle.sj_emit_help_spec.specs.declared.kinds.Helper.{Helper}
 use Rattle.js_tree.specs.Terms.{Name, Piece}
 use Rattle.js_tree.specs.declared.items.Binding.{Binding}
 use Rattle.linked_folders.proofs.BodyForms.{body_is_built}
-use Rattle.module_rules.specs.Laws.{IsDeclared}
+use Rattle.sj_emit_module_spec.specs.Laws.{IsDeclared}
 use Rattle.linked_folders.proofs.Plain.{class_found}
-use Rattle.linked_folders.specs.PieceRulesPieces.{Parts}
+use Rattle.linked_folders.specs.SjEmitClassSpecPieces.{Parts}
 use Rattle.sj_names.specs.declared.entry_points.EntryPoint.{EntryPoint}
 use Rattle.sj_names.specs.declared.folders.SourceFile.{SourceFile}
 use Rattle.sj_names.specs.declared.method_names.MethodName.{MethodName}

@@ -10,7 +10,7 @@ pub use Rattle.linked_folders.specs.Entries
 pub use Rattle.linked_folders.specs.DeclaredPiecesLaws
 pub use Rattle.linked_folders.specs.Linked
 pub use Rattle.linked_folders.specs.Refusals
-pub use Rattle.linked_folders.specs.ReachRulesRules as Rules
+pub use Rattle.linked_folders.specs.SjReachSpecRules as Rules
 pub use Rattle.linked_folders.specs.Running
 pub use Rattle.linked_folders.specs.Used
 pub use Rattle.linked_folders.specs.Verdicts

@@ -3,7 +3,7 @@ use Rattle.std.proofs.Common.{◌≡◌, true, ◌&&◌, [], ◌∷◌, Option, 
 use Rattle.std.proofs.lemmas.Bool.{and_parts}
 use Rattle.code_vectors.specs.Forms.{is_static, are_static, are_static_cases, is_static_body}
 use Rattle.sj_names.proofs.Same.{impossible}
-use Rattle.sj_pieces.specs.Owners.{OnObjects, AllOnObjects, CasesOnObjects, BodyOnObjects}
+use Rattle.sj_emit_expr_pieces.specs.Owners.{OnObjects, AllOnObjects, CasesOnObjects, BodyOnObjects}
 use Rattle.sj_trees.specs.Term.{Term, Terms, no_terms, more_terms, Cases, no_cases, more_cases, var_def, skip, block_of, labeled, assign, return_to, if_then, while_loop, do_while, match_on, select, select_static, apply_static, unary_op, binary_op, array_select, undefined_literal, null_literal, boolean_literal, char_literal, byte_literal, short_literal, int_literal, long_literal, string_literal, var_ref, log_line}
 use Rattle.sj_trees.specs.declared.positions.Position.{Position}
 

@@ -5,8 +5,8 @@ use Rattle.std.proofs.lemmas.List.Sorted.{length_permutation}
 use Rattle.std.specs.List.Sorted.{IsPermutation}
 use Rattle.dispatch_laws.proofs.Emission.{emission_finds_targets}
 use Rattle.dispatch_laws.specs.Targets.{at_owner, target_from, target_in, lookup_in}
-use Rattle.emit_questions.specs.Laws.{AsEmitted}
-use Rattle.emit_questions.specs.Task.{emitted, emitted_view}
+use Rattle.sj_emit_expr_questions.specs.Laws.{AsEmitted}
+use Rattle.sj_emit_expr_questions.specs.Task.{emitted, emitted_view}
 use Rattle.ir_mean.specs.Dispatch.{nearest, or_default, chain_of, resolved}
 use Rattle.js_tree.specs.declared.items.JsMember.{JsMember}
 use Rattle.sj_ask.specs.Answers.{IsAnswer}

@@ -1,14 +1,14 @@
 // The functions of methods.
 ghost use Rattle.std.specs.Prelude.{◌≡◌, [], IfOk};
 ghost use Rattle.dispatch_laws.specs.Targets.{lookup_in};
-ghost use Rattle.emit_questions.specs.Task as task;
-ghost use Rattle.emit_questions.specs.Task.{emitted_view};
+ghost use Rattle.sj_emit_expr_questions.specs.Task as task;
+ghost use Rattle.sj_emit_expr_questions.specs.Task.{emitted_view};
 ghost use Rattle.js_tree.specs.Rules.{IsPiece};
 ghost use Rattle.js_tree.specs.Views.{piece_view};
 ghost use Rattle.sj_core.specs.Views.{method_view};
-ghost use Rattle.sj_desugarer.specs.Methods.{method_desugared};
-ghost use Rattle.sj_emit_expr.specs.Members as members;
-ghost use Rattle.sj_pieces.specs.Owners.{BodyOnObjects};
+ghost use Rattle.sj_desugar.specs.Methods.{method_desugared};
+ghost use Rattle.sj_emit_expr_spec.specs.Members as members;
+ghost use Rattle.sj_emit_expr_pieces.specs.Owners.{BodyOnObjects};
 
 use crate::forms::is_without_objects;
 use crate::texts::{add, add_digits, class_of};
@@ -16,11 +16,13 @@ use js_print::print_piece;
 use js_tree::{JsMember, JsPiece};
 use sj_ask::WorldOracle;
 use sj_core::CoreMethod;
-use sj_desugarer::desugar;
-use sj_emitter::emit_member;
+use sj_desugar::desugar;
+use sj_emit_expr::emit_member;
+use sj_emit_expr_pieces::{
+    desugared_fields_have_owners, desugared_members_have_keys, member_piece,
+};
 use sj_mangling::function_name;
 use sj_names::{ClassName, Member, Meter, NameError, NoMemory};
-use sj_pieces::{desugared_fields_have_owners, desugared_members_have_keys, member_piece};
 use sj_trees::{ClassDef, MethodDef};
 use sj_world::LinkedWorld;
 use std::alloc::Global;

@@ -1,7 +1,7 @@
 // The methods in whose bodies no form has to do with objects.
 ghost use Rattle.std.specs.Prelude.{◌≡◌, true};
 ghost use Rattle.code_vectors.specs.Forms as forms;
-ghost use Rattle.sj_pieces.specs.Owners.{BodyOnObjects};
+ghost use Rattle.sj_emit_expr_pieces.specs.Owners.{BodyOnObjects};
 ghost use Rattle.sj_trees.specs.View.{view, terms_view, cases_view};
 
 use sj_trees::{MatchCase, MethodDef, Tree};

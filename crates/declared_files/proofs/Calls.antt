@@ -16,8 +16,8 @@ use Rattle.outcomes.specs.Shown.{Shown}
 use Rattle.file_declarations.proofs.Whole.{InitializersAgreeAt, calls_at, ended, calls_alike}
 use Rattle.sj_names.specs.declared.entry_points.EntryPoint.{EntryPoint}
 use Rattle.file_declarations.specs.Settings.{Place, SameState, Reaches}
-use Rattle.file_declarations.specs.SjPlainWorlds.{World}
-use Rattle.body_soundness.specs.Emitted.{initializer_member, call_item_of}
+use Rattle.file_declarations.specs.AgreePlainTreesWorlds.{World}
+use Rattle.agree_soundness.specs.Emitted.{initializer_member, call_item_of}
 
 -- what files show that run in this order and are good, where the declarations come to a state that stands for the opening, and the last calls these initializers
 module _ (p : Place) (f : Name) (reaches : Reaches p f) (agree : InitializersAgreeAt p f reaches) (fs : List Name) (is : List Item) (es : List EntryPoint) (good : list_all (files.is_good_file p.program) (fs ++ f ∷ []) ≡ true) (items : files.items_in (files.module_among p.program f) ≡ is ++ map call_item_of es) (front end : js.State) (runs : after_files p.program fs (js_meaning.opening p.program) ≡ Some front) (runs_last : after_items p.program f is front ≡ Some end) where

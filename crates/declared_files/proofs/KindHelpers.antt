@@ -1,12 +1,12 @@
 -- The kind of a primitive type, whose helpers test for it and cast to it.
 use Rattle.std.proofs.Common.{◌≡◌, true, Some, refl}
-use Rattle.built_forms.specs.Built.{has_kind}
-use Rattle.helper_rules.specs.Helpers.{helper_name}
-use Rattle.helper_rules.specs.declared.kinds.Helper.TheVariants.{TestOf, CastTo}
-use Rattle.helper_rules.specs.declared.kinds.Kind.{Kind}
-use Rattle.helper_rules.specs.declared.kinds.Kind.TheVariants as kinds
+use Rattle.agree_body_forms.specs.Built.{has_kind}
+use Rattle.sj_emit_help_spec.specs.Helpers.{helper_name}
+use Rattle.sj_emit_help_spec.specs.declared.kinds.Helper.TheVariants.{TestOf, CastTo}
+use Rattle.sj_emit_help_spec.specs.declared.kinds.Kind.{Kind}
+use Rattle.sj_emit_help_spec.specs.declared.kinds.Kind.TheVariants as kinds
 use Rattle.file_declarations.specs.Helpers.{kind_of}
-use Rattle.sj_emit_expr.specs.Tests.{test_name, cast_name}
+use Rattle.sj_emit_expr_spec.specs.Tests.{test_name, cast_name}
 use Rattle.sj_names.proofs.Same.{impossible}
 use Rattle.sj_trees.specs.declared.types.IrType.{IrType}
 use Rattle.sj_trees.specs.declared.types.IrType.TheVariants.{Undefined, Boolean, Char, Byte, Short, Int, Long, String}

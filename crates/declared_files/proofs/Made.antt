@@ -1,7 +1,7 @@
 -- What stands on the heap behind files that declare are the objects that they declare, and constants tell the classes above theirs.
 use Rattle.std.proofs.Common.{◌≡◌, ◌⊎◌, ℕ, List, [], ◌∷◌, ◌++◌, map, Option, Some, inl, inr, ⊎_elim, slice_get, sym, subst, Contains}
 use Rattle.std.proofs.lemmas.List.Elements.{Contains-append_left, Contains-append_right}
-use Rattle.body_rules.proofs.Lists.{nothing_in, in_front_or_behind, at_front, further_on}
+use Rattle.agree_body_rules.proofs.Lists.{nothing_in, in_front_or_behind, at_front, further_on}
 use Rattle.file_declarations.proofs.Begun.{marks_above}
 use Rattle.file_tops.proofs.Made.{heaps_are_of_items}
 use Rattle.file_tops.proofs.Run.{each}

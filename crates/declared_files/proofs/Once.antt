@@ -1,7 +1,7 @@
 -- A file runs last of those that it reaches by imports, and each runs once.
 use Rattle.std.proofs.Common.{◌≡◌, ℕ, zero, suc, Bool, true, false, List, [], ◌∷◌, ◌++◌, ◌||◌, length, not, refl, sym, ap, ◌∙◌, ◌⊎◌, inl, inr, ⊎_elim}
 use Rattle.std.proofs.lemmas.Bool.{and_parts, and_from, or_cases, or_left, or_right, not-true}
-use Rattle.body_rules.proofs.Equal.{equals, is-equal}
+use Rattle.agree_body_rules.proofs.Equal.{equals, is-equal}
 use Rattle.file_declarations.proofs.Items.{not_both}
 use Rattle.js_mean.specs.Files.{Visited, enter, finish, visit, visit_all, imports_in, module_among}
 use Rattle.js_mean.specs.Proper.{is_among, are_distinct}

@@ -2,8 +2,8 @@
 use Rattle.std.proofs.Common.{◌≡◌, true, List, [], ◌∷◌, ◌++◌, ◌&&◌, map, append_assoc, refl, sym, ap, ◌∙◌, subst, Contains, ⊎_elim}
 use Rattle.std.proofs.lemmas.Bool.{and_from, or_left, or_right}
 use Rattle.std.proofs.lemmas.List.Elements.{Contains-append_cases}
-use Rattle.body_rules.proofs.Equal.{equals}
-use Rattle.body_rules.proofs.Lists.{nothing_in, in_front_or_behind}
+use Rattle.agree_body_rules.proofs.Equal.{equals}
+use Rattle.agree_body_rules.proofs.Lists.{nothing_in, in_front_or_behind}
 use Rattle.js_mean.specs.Files.{module_among, items_in}
 use Rattle.js_mean.specs.States.{ClassLink, Program}
 use Rattle.js_tree.specs.Names.{is_same_text}

@@ -1,9 +1,9 @@
 -- Files that declare what can be used: their state behind the declarations stands for the opening of the IR, and they have what objects ask.
 use Rattle.std.specs.Prelude.{is_some, not}
 use Rattle.std.proofs.Common.{◌≡◌, ◌≤◌, ℕ, suc, Bool, true, false, List, [], ◌∷◌, ◌++◌, length, map, slice_get, refl, sym, ap, ◌∙◌, subst, Contains, inl, inr, ⊎_elim, Option, Some, None, cond, codes, arith, if◌then◌else◌}
-use Rattle.body_rules.proofs.Lists.{nothing_in, in_front_or_behind, at_front, further_on}
-use Rattle.built_forms.proofs.Statics.{set_static, static_among, store_cell}
-use Rattle.built_forms.specs.Built.{has_static, has_cell, can_box, divides, compares, can_look_up}
+use Rattle.agree_body_rules.proofs.Lists.{nothing_in, in_front_or_behind, at_front, further_on}
+use Rattle.agree_body_forms.proofs.Statics.{set_static, static_among, store_cell}
+use Rattle.agree_body_forms.specs.Built.{has_static, has_cell, can_box, divides, compares, can_look_up}
 use Rattle.file_declarations.proofs.Fields.{fields_differ, begins, statics_differ, cells_differ, static_begins}
 use Rattle.file_declarations.proofs.Items.{IsClassItem, alone as class_alone, extending, code_found, members_found}
 use Rattle.file_declarations.proofs.Begun.{marker_held, same_classes, chain_length, zero_literal_is}
@@ -11,15 +11,15 @@ use Rattle.file_declarations.specs.Declarations.{behind}
 use Rattle.file_declarations.specs.Declared.{Running, alone as by_itself, completing, running}
 use Rattle.file_tops.proofs.Run.{some_same}
 use Rattle.file_tops.specs.Tops.{literal_value, link}
-use Rattle.body_soundness.specs.Targets.{IsTargetOf}
-use Rattle.helper_rules.specs.Helpers.{failure_class, helper_name, helper_item, tests_and_constants, used_helpers, constants, box_constructor}
-use Rattle.helper_rules.specs.Words.{class_name, constants_name, kind_class, object_class, worded_kinds, entry_name, first_parameters, parameters_of, units_of}
-use Rattle.helper_rules.specs.declared.kinds.Failure.{Failure}
-use Rattle.helper_rules.specs.declared.kinds.Failure.TheVariants.{NullReceiver, Division, Cast, Index, Method, Size, Store}
-use Rattle.helper_rules.specs.declared.kinds.Helper.{Helper}
-use Rattle.helper_rules.specs.declared.kinds.Helper.TheVariants as helpers
-use Rattle.helper_rules.specs.declared.kinds.Kind.{Kind}
-use Rattle.helper_rules.specs.declared.kinds.Kind.TheVariants as kinds
+use Rattle.agree_soundness.specs.Targets.{IsTargetOf}
+use Rattle.sj_emit_help_spec.specs.Helpers.{failure_class, helper_name, helper_item, tests_and_constants, used_helpers, constants, box_constructor}
+use Rattle.sj_emit_help_spec.specs.Words.{class_name, constants_name, kind_class, object_class, worded_kinds, entry_name, first_parameters, parameters_of, units_of}
+use Rattle.sj_emit_help_spec.specs.declared.kinds.Failure.{Failure}
+use Rattle.sj_emit_help_spec.specs.declared.kinds.Failure.TheVariants.{NullReceiver, Division, Cast, Index, Method, Size, Store}
+use Rattle.sj_emit_help_spec.specs.declared.kinds.Helper.{Helper}
+use Rattle.sj_emit_help_spec.specs.declared.kinds.Helper.TheVariants as helpers
+use Rattle.sj_emit_help_spec.specs.declared.kinds.Kind.{Kind}
+use Rattle.sj_emit_help_spec.specs.declared.kinds.Kind.TheVariants as kinds
 use Rattle.ir_mean.specs.Dispatch.{chain_of, longest}
 use Rattle.ir_mean.specs.States as ir
 use Rattle.ir_mean.specs.World as ir_world
@@ -55,11 +55,11 @@ use Rattle.file_declarations.specs.Objects as on_objects
 use Rattle.file_declarations.specs.Arrays.{CanGiveArrays, ReachesArrays, CanMakeArrays, ChecksIndex, TellsClasses, TellsItems, CanPut, CanTestArrays, array_members}
 use Rattle.file_declarations.specs.Worlds.{IsMade, CanCheck, CanDivide, Tested, of_kind, of_class, of_array, ThrowsCast, CanCast, CanCastClass, Casted, to_kind, to_class, to_array, StaticStands, setter_code, CellStands, StoreStands, LoadStands, HasObjects}
 use Rattle.sj_core.specs.Terms.{named, receiver}
-use Rattle.sj_desugar.specs.Desugar.{is_mutable_in, names_of, body_code, completed, desugared_member, member}
-use Rattle.sj_emit_expr.specs.Members.{with_receiver, member_piece}
-use Rattle.sj_emit_expr.specs.Names.{variable_name, label_name}
-use Rattle.sj_emit_expr.specs.Templates.{check_name, member_name, static_name, setter_name, load_name, store_name, parameter_names, statement_templates}
-use Rattle.sj_emit_expr.specs.Tests.{test_name, cast_name}
+use Rattle.sj_desugar_spec.specs.Desugar.{is_mutable_in, names_of, body_code, completed, desugared_member, member}
+use Rattle.sj_emit_expr_spec.specs.Members.{with_receiver, member_piece}
+use Rattle.sj_emit_expr_spec.specs.Names.{variable_name, label_name}
+use Rattle.sj_emit_expr_spec.specs.Templates.{check_name, member_name, static_name, setter_name, load_name, store_name, parameter_names, statement_templates}
+use Rattle.sj_emit_expr_spec.specs.Tests.{test_name, cast_name}
 use Rattle.sj_names.proofs.Same.{impossible}
 use Rattle.sj_names.specs.declared.references.ArrayRef.{ArrayRef}
 use Rattle.sj_names.specs.MethodNames.{spelled_method}
@@ -71,7 +71,7 @@ use Rattle.sj_names.specs.declared.method_names.MethodName.{MethodName}
 use Rattle.sj_names.specs.declared.method_names.Namespace.{Namespace}
 use Rattle.sj_names.specs.declared.method_names.Namespace.TheVariants.{Public, PublicStatic, Private, PrivateStatic, Constructor}
 use Rattle.file_declarations.specs.Settings.{Place, Top, a_function, a_method, a_constructor, a_dispatch, a_reflection, a_class, some_constants, a_static, a_setter, a_cell, a_loader, a_storer, cell_name, a_test, a_cast, a_helper, top_name, is_usable, IsField, HasField, Holding, holding, HoldsConstants, TopHolds, SameHeap, SameState, MadeSomewhere, Reaches, array_links, link_of, links_of, box_link, division_helper}
-use Rattle.file_declarations.specs.SjPlainWorlds.{World, SameValue}
+use Rattle.file_declarations.specs.AgreePlainTreesWorlds.{World, SameValue}
 use Rattle.file_declarations.specs.Modules.{loader_code, storer_code}
 use Rattle.sj_names.specs.Same.{is_same_text}
 use Rattle.sj_trees.specs.Types.{class_type}
@@ -84,7 +84,7 @@ use Rattle.sj_trees.specs.declared.operators.BinaryOp.{BinaryOp}
 use Rattle.sj_trees.specs.declared.operators.BinaryOp.TheVariants.{IntDivide, IntRemainder, LongDivide, LongRemainder}
 use Rattle.sj_trees.specs.declared.types.IrType.{IrType}
 use Rattle.sj_trees.specs.declared.types.IrType.TheVariants.{Any, Array, Class}
-use Rattle.built_forms.specs.Built.{Usable}
+use Rattle.agree_body_forms.specs.Built.{Usable}
 use Rattle.declared_files.specs.Declared as declared
 use Rattle.declared_files.specs.Declared.{Spread, all_items, Stands, FunctionDeclared, ClassDeclared, ConstantsDeclared, ChainDeclared, KindTestDeclared, ClassTestDeclared, TestDeclared, KindCastDeclared, ClassCastDeclared, CastDeclared, TargetDeclared, EntryDeclared, CaseDeclared, KindsDeclared, ReflectedDeclared, ReflectedKind, NoEntryDeclared, ProxyDeclared, AnswerDeclared, BoxesDeclared, Declared, IsLawful, Receives, as_method, as_constructor}
 use Rattle.declared_files.specs.Placed.{Placed, placed, Holds, AllHold, OfPlaced, RunInOrder}

@@ -3,8 +3,8 @@ use Rattle.std.proofs.Common.{◌≡◌, ℕ, slice_get, Bool, true, false, List
 use Rattle.std.specs.List.{list_all}
 use Rattle.std.proofs.lemmas.Bool.{and_parts, or_cases, or_left, or_right, not-true}
 use Rattle.std.proofs.lemmas.List.Elements.{Contains-append_left, Contains-append_cases}
-use Rattle.body_rules.proofs.Equal.{equals, is-equal}
-use Rattle.body_rules.proofs.Lists.{nothing_in, in_front_or_behind, at_front, further_on}
+use Rattle.agree_body_rules.proofs.Equal.{equals, is-equal}
+use Rattle.agree_body_rules.proofs.Lists.{nothing_in, in_front_or_behind, at_front, further_on}
 use Rattle.file_declarations.proofs.Items.{name_of, among, first_apart, rest_distinct, cell_found, front_distinct, not_both}
 use Rattle.file_declarations.proofs.Tops.{not_declared, known, properties_known, get_in_front, get_last, length_last, HeapKept, HasClass}
 use Rattle.file_declarations.specs.Declarations.{HoldsLiteral, behind}

@@ -1,9 +1,9 @@
 -- Files that declare what their code uses, and calls in the last, show what the classes show.
 use Rattle.std.proofs.Common.{◌≡◌, ℕ, List, [], ◌∷◌, ◌++◌, map, sym, ap, ◌∙◌, subst}
 use Rattle.std.specs.List.{list_all}
-use Rattle.body_rules.proofs.InWorld.{in_world}
-use Rattle.body_soundness.proofs.Modules.{never_wrong}
-use Rattle.built_forms.specs.Built.{Usable}
+use Rattle.agree_body_rules.proofs.InWorld.{in_world}
+use Rattle.agree_soundness.proofs.Modules.{never_wrong}
+use Rattle.agree_body_forms.specs.Built.{Usable}
 use Rattle.ir_mean.specs.Shows as ir_showing
 use Rattle.js_mean.specs.Files.{running_order, is_good_file}
 use Rattle.js_mean.specs.Proper.{are_distinct}
@@ -16,8 +16,8 @@ use Rattle.file_declarations.proofs.ObjectLevels as levels
 use Rattle.file_declarations.proofs.Whole.{InitializersAgreeAt}
 use Rattle.sj_names.specs.declared.entry_points.EntryPoint.{EntryPoint}
 use Rattle.file_declarations.specs.Settings.{a_function, NamesDiffer}
-use Rattle.file_declarations.specs.SjPlainWorlds.{no_values}
-use Rattle.body_soundness.specs.Emitted.{initializer_member, call_item_of}
+use Rattle.file_declarations.specs.AgreePlainTreesWorlds.{no_values}
+use Rattle.agree_soundness.specs.Emitted.{initializer_member, call_item_of}
 use Rattle.sj_world.specs.Laws.{IsPlain}
 use Rattle.declared_files.specs.Declared.{Spread, Declared, IsPublic, IsLawful}
 use Rattle.declared_files.specs.Placed.{RunInOrder, DeclaredAt}

@@ -6,19 +6,19 @@ use Rattle.std.specs.List.{IsDistinct}
 use Rattle.std.specs.List.Sorted.{IsSorted}
 use Rattle.std.proofs.lemmas.Bool.{or_cases}
 use Rattle.outcomes.specs.Agreement.{Agree}
-use Rattle.body_rules.proofs.Equal.{is-equal}
-use Rattle.body_rules.proofs.Lists.{nothing_in, in_front_or_behind, at_front, further_on}
-use Rattle.body_soundness.proofs.Worked.{member-same, main_right as main_right_at_all, each_class, plain, OneField, the_field, field_is, object_laws}
-use Rattle.body_soundness.specs.Rules.{RightMember}
-use Rattle.body_soundness.specs.Worked.{class_name, field_name, init_name, get_name, init_method, get_method, main_method, gets, gets_field, its_field, object_world, main_member, object_use}
-use Rattle.body_soundness.specs.Worked as worked
-use Rattle.built_forms.specs.Built.{Usable, has_static, has_cell, members_alone, can_look_up}
+use Rattle.agree_body_rules.proofs.Equal.{is-equal}
+use Rattle.agree_body_rules.proofs.Lists.{nothing_in, in_front_or_behind, at_front, further_on}
+use Rattle.agree_soundness.proofs.Worked.{member-same, main_right as main_right_at_all, each_class, plain, OneField, the_field, field_is, object_laws}
+use Rattle.agree_soundness.specs.Rules.{RightMember}
+use Rattle.agree_soundness.specs.Worked.{class_name, field_name, init_name, get_name, init_method, get_method, main_method, gets, gets_field, its_field, object_world, main_member, object_use}
+use Rattle.agree_soundness.specs.Worked as worked
+use Rattle.agree_body_forms.specs.Built.{Usable, has_static, has_cell, members_alone, can_look_up}
 use Rattle.file_declarations.specs.Declared.{alone, on_receiver, completing, FieldsAreKept}
 use Rattle.file_tops.proofs.Run.{some_same}
-use Rattle.helper_rules.specs.Helpers.{failure_class, helper_name, helper_item, used_helpers, constants}
-use Rattle.helper_rules.specs.declared.kinds.Failure.{Failure}
-use Rattle.helper_rules.specs.declared.kinds.Helper.{Helper}
-use Rattle.helper_rules.specs.declared.kinds.Helper.TheVariants.{ArrayClass, Throws}
+use Rattle.sj_emit_help_spec.specs.Helpers.{failure_class, helper_name, helper_item, used_helpers, constants}
+use Rattle.sj_emit_help_spec.specs.declared.kinds.Failure.{Failure}
+use Rattle.sj_emit_help_spec.specs.declared.kinds.Helper.{Helper}
+use Rattle.sj_emit_help_spec.specs.declared.kinds.Helper.TheVariants.{ArrayClass, Throws}
 use Rattle.ir_mean.proofs.AncestorsFound.{ancestors_are_worked_out}
 use Rattle.ir_mean.specs.Dispatch.{is_ancestor}
 use Rattle.ir_mean.specs.Meaning.{with_message}
@@ -27,7 +27,7 @@ use Rattle.ir_mean.specs.Shows.{ir_shows}
 use Rattle.js_mean.specs.Shows.{js_shows}
 use Rattle.js_tree.specs.Names.{is_same_text}
 use Rattle.js_tree.specs.Terms.{Name, Property, Item, object_item}
-use Rattle.sj_desugar.specs.Desugar.{member}
+use Rattle.sj_desugar_spec.specs.Desugar.{member}
 use Rattle.sj_names.proofs.Same.{impossible}
 use Rattle.sj_names.specs.Grammar.{is_class_name, is_plain_name}
 use Rattle.sj_names.specs.declared.entry_points.EntryPoint.{EntryPoint}
@@ -35,8 +35,8 @@ use Rattle.sj_names.specs.declared.method_names.MethodName.{MethodName}
 use Rattle.sj_names.specs.declared.method_names.Member.{Member}
 use Rattle.sj_names.specs.declared.method_names.Namespace.TheVariants.{Private, Constructor}
 use Rattle.file_declarations.specs.Settings.{Top, a_function, a_method, a_constructor, a_dispatch, a_reflection, a_class, some_constants, a_static, a_setter, a_cell, a_loader, a_storer, a_test, a_cast, a_helper, is_named, is_usable, IsField}
-use Rattle.body_soundness.specs.Emitted.{initializer_member}
-use Rattle.body_soundness.specs.Methods.{KeepsRules}
+use Rattle.agree_soundness.specs.Emitted.{initializer_member}
+use Rattle.agree_soundness.specs.Methods.{KeepsRules}
 use Rattle.sj_trees.specs.Term.{skip}
 use Rattle.sj_trees.specs.declared.classes.FieldDef.{FieldDef}
 use Rattle.sj_trees.specs.declared.classes.ClassDef.{ClassDef}
@@ -45,7 +45,7 @@ use Rattle.sj_trees.specs.declared.types.IrType.TheVariants.{Int, Nothing, NoTyp
 use Rattle.sj_world.specs.Known.{is_same}
 use Rattle.sj_world.specs.Subtypes.{equal}
 use Rattle.sj_world.specs.Tables.{AreAncestors}
-use Rattle.typing_rules.specs.Rules.{nothing_wanted, fitting, HasFieldType}
+use Rattle.sj_typing_spec.specs.Rules.{nothing_wanted, fitting, HasFieldType}
 use Rattle.declared_files.specs.Declared.{ReceivedDeclared, as_method, Leads, Stands, Makes, Uses, FunctionDeclared, ClassDeclared, ConstantsDeclared, ArraysDeclared, ArrayCallDeclared, extends_none, extends_one, MadeDeclared, StaticDeclared, StoreDeclared, LoadDeclared, LookupDeclared, TellsApart, ReflectionDeclared, Declared, IsAmong, IsPublic, IsLawful, all_items, TestDeclared, CastDeclared, AreConstants}
 use Rattle.declared_files.specs.Placed.{Placed, placed}
 use Rattle.declared_files.specs.Worked.{object_constants, object_class, its_constants, its_class, init_function, get_function, main_function, main_file, class_file, object_file, main_use, class_use, use_of, three_files, spread}

@@ -1,19 +1,19 @@
 -- What the code of bodies can use in a world, as the items of several files declare it.
 use Rattle.std.specs.Prelude.{◌≡◌, ℕ, Bool, true, false, List, [], ◌∷◌, ◌++◌, map, Option, Some, None, codes}
 use Rattle.std.specs.List.{Contains, list_all}
-use Rattle.body_soundness.specs.Laws.{ObjectLaws}
-use Rattle.body_soundness.specs.Rules.{RightMember}
-use Rattle.body_soundness.specs.Targets.{IsTargetOf}
-use Rattle.built_forms.specs.Built.{Usable, has_static, has_cell, can_look_up}
+use Rattle.agree_soundness.specs.Laws.{ObjectLaws}
+use Rattle.agree_soundness.specs.Rules.{RightMember}
+use Rattle.agree_soundness.specs.Targets.{IsTargetOf}
+use Rattle.agree_body_forms.specs.Built.{Usable, has_static, has_cell, can_look_up}
 use Rattle.file_declarations.specs.Declared.{Running, alone, on_receiver, completing, running, FieldsAreKept}
-use Rattle.helper_rules.specs.Helpers.{Above, failure_class, helper_name, helper_item, used_helpers, constants}
-use Rattle.helper_rules.specs.Words.{marker, kind_class, object_class, worded_kinds, entry_name, parameters_of, units_of}
-use Rattle.helper_rules.specs.declared.kinds.Failure.{Failure}
-use Rattle.helper_rules.specs.declared.kinds.Failure.TheVariants.{Cast, Method}
-use Rattle.helper_rules.specs.declared.kinds.Helper.{Helper}
-use Rattle.helper_rules.specs.declared.kinds.Kind.{Kind}
+use Rattle.sj_emit_help_spec.specs.Helpers.{Above, failure_class, helper_name, helper_item, used_helpers, constants}
+use Rattle.sj_emit_help_spec.specs.Words.{marker, kind_class, object_class, worded_kinds, entry_name, parameters_of, units_of}
+use Rattle.sj_emit_help_spec.specs.declared.kinds.Failure.{Failure}
+use Rattle.sj_emit_help_spec.specs.declared.kinds.Failure.TheVariants.{Cast, Method}
+use Rattle.sj_emit_help_spec.specs.declared.kinds.Helper.{Helper}
+use Rattle.sj_emit_help_spec.specs.declared.kinds.Kind.{Kind}
 use Rattle.file_declarations.specs.Helpers.{kind_of}
-use Rattle.helper_rules.specs.declared.kinds.Helper.TheVariants.{ArrayClass, BoxedChar, CastToArray, Throws, TestOf, TestOfArray, CastTo}
+use Rattle.sj_emit_help_spec.specs.declared.kinds.Helper.TheVariants.{ArrayClass, BoxedChar, CastToArray, Throws, TestOf, TestOfArray, CastTo}
 use Rattle.ir_mean.specs.Dispatch.{chain_of, is_ancestor, proxy_target}
 use Rattle.ir_mean.specs.Meaning.{with_message, without_parameters}
 use Rattle.ir_mean.specs.World.{World, class_of}
@@ -32,10 +32,10 @@ use Rattle.file_declarations.specs.Looked.{HasCase}
 use Rattle.file_declarations.specs.Reflected.{HasReflected}
 use Rattle.file_declarations.specs.Reflecting.{proxy_code}
 use Rattle.file_declarations.specs.Pieces.{is_char as is_char_result, constants_piece, class_item_of, constructor_body, variable_piece, setter_piece, cell_piece, load_piece, store_piece, test_piece, cast_piece}
-use Rattle.sj_desugar.specs.Desugar.{desugared_member, member}
-use Rattle.sj_desugar.specs.Plain.{is_no_type}
-use Rattle.sj_emit_expr.specs.Members.{member_piece}
-use Rattle.sj_emit_expr.specs.Templates.{member_name}
+use Rattle.sj_desugar_spec.specs.Desugar.{desugared_member, member}
+use Rattle.sj_desugar_spec.specs.Plain.{is_no_type}
+use Rattle.sj_emit_expr_spec.specs.Members.{member_piece}
+use Rattle.sj_emit_expr_spec.specs.Templates.{member_name}
 use Rattle.sj_names.specs.MethodNames.{spelled_method}
 use Rattle.sj_names.specs.Same.{is_same_text}
 use Rattle.sj_names.specs.declared.entry_points.EntryPoint.{EntryPoint}
@@ -44,7 +44,7 @@ use Rattle.sj_names.specs.declared.method_names.MethodName.{MethodName}
 use Rattle.sj_names.specs.declared.references.ArrayRef.{ArrayRef}
 use Rattle.sj_names.specs.declared.method_names.Namespace.TheVariants.{Public, Constructor}
 use Rattle.file_declarations.specs.Settings.{Top, a_function, a_method, a_constructor, a_dispatch, a_reflection, a_class, some_constants, a_static, a_setter, a_cell, a_loader, a_storer, a_test, a_cast, a_helper, top_name, is_usable, is_named, IsField, IsStaticField, IsClass}
-use Rattle.body_soundness.specs.Emitted.{initializer_member, call_item_of}
+use Rattle.agree_soundness.specs.Emitted.{initializer_member, call_item_of}
 use Rattle.sj_trees.specs.declared.classes.ClassDef.{ClassDef}
 use Rattle.sj_trees.specs.declared.classes.FieldDef.{FieldDef}
 use Rattle.sj_trees.specs.declared.classes.MethodDef.{MethodDef}

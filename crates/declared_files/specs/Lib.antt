@@ -6,4 +6,4 @@ pub use Rattle.file_declarations.specs.Declared as FileDeclarationsDeclared
 pub use Rattle.file_declarations.specs.Classes
 pub use Rattle.file_declarations.specs.Pieces
 pub use Rattle.file_declarations.specs.Settings
-pub use Rattle.body_soundness.specs.Rules
+pub use Rattle.agree_soundness.specs.Rules

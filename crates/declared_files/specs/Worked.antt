@@ -1,7 +1,7 @@
 -- The worked world with objects, `new A().get()`, as three files: one has `java.lang.Object`, one has the class, and one has `main` and calls it.
 use Rattle.std.specs.Prelude.{List, [], ◌∷◌, map, pos, codes, false, true, ◌&&◌, if◌then◌else◌, Some}
-use Rattle.body_soundness.specs.Worked.{class_name, field_name, init_name, get_name, object_world, main_member, is_member}
-use Rattle.built_forms.specs.Built.{Usable, members_alone}
+use Rattle.agree_soundness.specs.Worked.{class_name, field_name, init_name, get_name, object_world, main_member, is_member}
+use Rattle.agree_body_forms.specs.Built.{Usable, members_alone}
 use Rattle.ir_mean.specs.Rows.{object_name, once}
 use Rattle.js_mean.specs.Shows.{file_of}
 use Rattle.js_mean.specs.States.{Program}
@@ -9,10 +9,10 @@ use Rattle.js_tree.specs.Names.{is_same_text}
 use Rattle.js_tree.specs.Terms.{Name, number_literal, text_literal, name_use, this_use, property_of, call_of, new_of, Expression, no_expressions, expression, expression_statement, assign_property, super_call, return_of, Statement, Property, constructor_of, Item, object_item, function_item, class_item, subclass_item, Module}
 use Rattle.js_tree.specs.Views.{statements_of}
 use Rattle.sj_core.specs.Lookup.{own_targets}
-use Rattle.sj_desugar.specs.Desugar.{member}
+use Rattle.sj_desugar_spec.specs.Desugar.{member}
 use Rattle.sj_names.specs.declared.method_names.Namespace.TheVariants.{Private, Constructor}
 use Rattle.file_declarations.specs.Settings.{Top, a_function, a_class, some_constants}
-use Rattle.body_soundness.specs.Emitted.{call_item_of}
+use Rattle.agree_soundness.specs.Emitted.{call_item_of}
 use Rattle.sj_trees.specs.SameTypes.{is_same_type}
 use Rattle.sj_trees.specs.declared.types.IrType.TheVariants.{Int}
 use Rattle.declared_files.specs.Declared.{Spread}

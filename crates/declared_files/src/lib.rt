@@ -5,8 +5,8 @@
 #![tactic(auto)]
 
 ghost use Rattle.std.specs.Prelude.{◌≡◌, ℕ, List, [], codes};
-ghost use Rattle.body_soundness.specs.Worked.{object_world, object_use};
-ghost use Rattle.built_forms.specs.Built.{Usable};
+ghost use Rattle.agree_soundness.specs.Worked.{object_world, object_use};
+ghost use Rattle.agree_body_forms.specs.Built.{Usable};
 ghost use Rattle.declared_files.specs.Declared.{Spread, Declared, IsPublic, IsLawful};
 ghost use Rattle.declared_files.specs.Placed.{DeclarationsOfFilesHold, FilesDeclareInOrder, FilesRunLast};
 ghost use Rattle.declared_files.specs.Worked.{three_files, spread};

@@ -2,18 +2,18 @@
 use Rattle.std.proofs.Common.{◌≡◌, ◌⊎◌, ◌++◌, inl, inr, Bool, true, false, List, [], ◌∷◌, Option, Some, None, map, refl, sym, subst, Contains, if◌then◌else◌}
 use Rattle.std.specs.List.{filter}
 use Rattle.std.proofs.lemmas.List.Elements.{Contains-append_cases}
-use Rattle.helper_rules.specs.Helpers.{Above, helper_name, helper_item}
-use Rattle.helper_rules.specs.Words.{entry_name}
-use Rattle.helper_rules.specs.declared.kinds.Failure.{Failure}
-use Rattle.helper_rules.specs.declared.kinds.Failure.TheVariants as failures
-use Rattle.helper_rules.specs.declared.kinds.Helper.{Helper}
-use Rattle.helper_rules.specs.declared.kinds.Helper.TheVariants as helpers
+use Rattle.sj_emit_help_spec.specs.Helpers.{Above, helper_name, helper_item}
+use Rattle.sj_emit_help_spec.specs.Words.{entry_name}
+use Rattle.sj_emit_help_spec.specs.declared.kinds.Failure.{Failure}
+use Rattle.sj_emit_help_spec.specs.declared.kinds.Failure.TheVariants as failures
+use Rattle.sj_emit_help_spec.specs.declared.kinds.Helper.{Helper}
+use Rattle.sj_emit_help_spec.specs.declared.kinds.Helper.TheVariants as helpers
 use Rattle.js_mean.specs.Classes.{method_in, members_among, members_in, members_of}
 use Rattle.js_mean.specs.Files.{module_among}
 use Rattle.js_mean.specs.Meaning.{Code}
 use Rattle.js_tree.specs.Terms.{Name, Item, class_item, subclass_item, Piece}
-use Rattle.module_rules.specs.Calls.{call_item_of}
-use Rattle.module_rules.specs.Modules.{file_with, is_owned_in, item_of, module_of as planned_module}
+use Rattle.sj_emit_module_spec.specs.Calls.{call_item_of}
+use Rattle.sj_emit_module_spec.specs.Modules.{file_with, is_owned_in, item_of, module_of as planned_module}
 use Rattle.sj_split.specs.Modules.{file}
 use Rattle.module_uses.proofs.Places.{Stands, own, method, helps, tells, names, stands}
 use Rattle.module_uses.specs.EmittedMethods.{EmittedMethod}

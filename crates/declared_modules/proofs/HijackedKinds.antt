@@ -2,8 +2,8 @@
 use Rattle.std.proofs.Common.{◌≡◌, Bool, true, false, List, [], ◌∷◌, Some, None, refl, ap, subst, ◌∙◌, ◌||◌, map, cond}
 use Rattle.std.specs.List.{list_any}
 use Rattle.module_uses.specs.Pieces.{kind_of_class}
-use Rattle.helper_rules.specs.Words.{kind_class, all_kinds}
-use Rattle.helper_rules.specs.declared.kinds.Kind.{Kind}
+use Rattle.sj_emit_help_spec.specs.Words.{kind_class, all_kinds}
+use Rattle.sj_emit_help_spec.specs.declared.kinds.Kind.{Kind}
 use Rattle.sj_names.proofs.Same.{text-same}
 use Rattle.sj_world.specs.Known.{Name, is_same, is_hijacked}
 

@@ -37,29 +37,29 @@ use Rattle.module_uses.specs.ClassTestsKinds.{is_told}
 use Rattle.module_uses.specs.DeclaredPiecesLaws.{TestThere, EntryThere, has_entry, has_none, DispatchThere, ReflectionThere, ProxyThere, proxy_there, NoEntryThere, nothing_there, none_there, NamedThere, not_named, is_named as is_named_there}
 use Rattle.module_uses.specs.Looked.{HasCase}
 use Rattle.module_uses.specs.Reachable.{Reachable}
-use Rattle.module_uses.specs.ReachRulesRules.{on_hijacked}
+use Rattle.module_uses.specs.SjReachSpecRules.{on_hijacked}
 use Rattle.module_uses.specs.Targets.{has_hijacked_in}
 use Rattle.module_uses.specs.Linked.{has_function}
 use Rattle.module_uses.specs.Pieces.{Parts, members, class_piece, constants_piece, entry_member, variable_piece, setter_piece, cell_piece, load_piece, store_piece, test_piece, test_binding, test_uses as kind_tests, kind_of_class, cast_piece, box_uses}
 use Rattle.module_uses.specs.LinkedPiecesPieces.{piece_of_member, AreLinkedPieces}
 use Rattle.module_uses.specs.Running.{CanRun}
 use Rattle.module_uses.specs.LinkedPiecesUsed.{used_of, makes, calls_on, tells_apart, is_among, is_received, is_constructor, is_constructor_without_value, uses_static, uses_helper as written_helper, uses_test, uses_cast, is_tested, is_cast, is_loaded}
-use Rattle.file_listings.specs.Listed.{AreBytes}
-use Rattle.helper_rules.specs.Helpers.{helper_name, helper_item, helper_piece, used_helpers, used_of_classes, failure_class, of}
-use Rattle.helper_rules.specs.Words.{kind_class, object_class, all_kinds, is_name, bound, public_function, helper as helper_binding}
-use Rattle.helper_rules.specs.declared.kinds.Failure.{Failure}
-use Rattle.helper_rules.specs.declared.kinds.Failure.TheVariants.{Cast, Method}
-use Rattle.helper_rules.specs.declared.kinds.Helper.{Helper}
-use Rattle.helper_rules.specs.declared.kinds.Helper.TheVariants as helpers
-use Rattle.helper_rules.specs.declared.kinds.Kind.{Kind}
+use Rattle.sj_text_files.specs.Listed.{AreBytes}
+use Rattle.sj_emit_help_spec.specs.Helpers.{helper_name, helper_item, helper_piece, used_helpers, used_of_classes, failure_class, of}
+use Rattle.sj_emit_help_spec.specs.Words.{kind_class, object_class, all_kinds, is_name, bound, public_function, helper as helper_binding}
+use Rattle.sj_emit_help_spec.specs.declared.kinds.Failure.{Failure}
+use Rattle.sj_emit_help_spec.specs.declared.kinds.Failure.TheVariants.{Cast, Method}
+use Rattle.sj_emit_help_spec.specs.declared.kinds.Helper.{Helper}
+use Rattle.sj_emit_help_spec.specs.declared.kinds.Helper.TheVariants as helpers
+use Rattle.sj_emit_help_spec.specs.declared.kinds.Kind.{Kind}
 use Rattle.ir_mean.specs.Dispatch.{chain_of, is_ancestor, proxy_target}
 use Rattle.ir_mean.specs.Meaning.{with_message, without_parameters}
 use Rattle.js_tree.specs.Terms.{Name, Item, Piece}
 use Rattle.js_tree.specs.declared.items.Binding.{Binding}
 use Rattle.module_uses.proofs.Found.{uses_are_owned}
 use Rattle.module_uses.specs.Files.{AreWhole, StandsIn, StandTogether}
-use Rattle.module_rules.specs.Laws.{by_piece}
-use Rattle.module_rules.specs.Modules.{file_with}
+use Rattle.sj_emit_module_spec.specs.Laws.{by_piece}
+use Rattle.sj_emit_module_spec.specs.Modules.{file_with}
 use Rattle.module_uses.proofs.Bodies.{built_here}
 use Rattle.module_uses.proofs.InFiles.{used_there}
 use Rattle.module_uses.specs.Used.{restricted, uses_in}
@@ -67,12 +67,12 @@ use Rattle.module_uses.proofs.Chains.{byte_not}
 use Rattle.module_uses.proofs.Methods.{right_method}
 use Rattle.module_uses.proofs.Throwing.{exception_made, module_made}
 use Rattle.module_uses.specs.Rules.{RightMember}
-use Rattle.sj_desugar.specs.Desugar.{member}
-use Rattle.sj_desugar.specs.Plain.{is_no_type}
-use Rattle.sj_emit_expr.specs.Templates.{static_name}
-use Rattle.sj_emit_expr.specs.Tests.{test_name, cast_name}
-use Rattle.sj_emit_expr.specs.Uses.{object_binding, function_binding, class_use, static_use, setter_use, load_use, store_use, test_uses, cast_uses, looked_up_uses, call_uses, base_uses}
-use Rattle.sj_desugar.specs.CalleeVariants as callees
+use Rattle.sj_desugar_spec.specs.Desugar.{member}
+use Rattle.sj_desugar_spec.specs.Plain.{is_no_type}
+use Rattle.sj_emit_expr_spec.specs.Templates.{static_name}
+use Rattle.sj_emit_expr_spec.specs.Tests.{test_name, cast_name}
+use Rattle.sj_emit_expr_spec.specs.Uses.{object_binding, function_binding, class_use, static_use, setter_use, load_use, store_use, test_uses, cast_uses, looked_up_uses, call_uses, base_uses}
+use Rattle.sj_desugar_spec.specs.CalleeVariants as callees
 use Rattle.sj_names.proofs.Same.{impossible}
 use Rattle.sj_names.specs.declared.entry_points.EntryPoint.{EntryPoint}
 use Rattle.sj_names.specs.declared.folders.SourceFile.{SourceFile}

@@ -10,8 +10,8 @@ use Rattle.module_uses.specs.Entries.{AreEntries, IsLive}
 use Rattle.module_uses.specs.LinkedPiecesPieces.{AreLinkedPieces}
 use Rattle.module_uses.specs.Running.{CanRun}
 use Rattle.module_uses.specs.LinkedPiecesUsed.{used_of}
-use Rattle.file_listings.specs.Listed.{AreBytes}
-use Rattle.helper_rules.specs.declared.kinds.Helper.TheVariants.{ArrayClass}
+use Rattle.sj_text_files.specs.Listed.{AreBytes}
+use Rattle.sj_emit_help_spec.specs.declared.kinds.Helper.TheVariants.{ArrayClass}
 use Rattle.js_tree.specs.Terms.{Name, Item, Piece}
 use Rattle.module_uses.specs.Files.{AreWhole, StandTogether}
 use Rattle.sj_names.specs.declared.entry_points.EntryPoint.{EntryPoint}

@@ -7,7 +7,7 @@ pub use Rattle.module_uses.specs.Closed
 pub use Rattle.module_uses.specs.LinkedPiecesPieces as Pieces
 pub use Rattle.module_uses.specs.Reachable
 pub use Rattle.module_uses.specs.Refusals
-pub use Rattle.module_uses.specs.ReachRulesRules as Rules
+pub use Rattle.module_uses.specs.SjReachSpecRules as Rules
 pub use Rattle.module_uses.specs.Running
 pub use Rattle.module_uses.specs.Verdicts
 pub use Rattle.module_uses.specs.Files

@@ -4,10 +4,10 @@ use Rattle.std.specs.List.{Contains}
 use Rattle.module_uses.specs.Declared.{Spread, all_items, AreConstants}
 use Rattle.module_uses.specs.Placed.{placed}
 use Rattle.module_uses.specs.Built.{Usable}
-use Rattle.helper_rules.specs.Words.{object_class}
+use Rattle.sj_emit_help_spec.specs.Words.{object_class}
 use Rattle.js_tree.specs.Terms.{Name, Property, Item, object_item, Piece}
 use Rattle.module_uses.specs.Files.{program_of}
-use Rattle.module_rules.specs.Modules.{file_with}
+use Rattle.sj_emit_module_spec.specs.Modules.{file_with}
 use Rattle.module_uses.specs.Used.{restricted, uses_in}
 use Rattle.module_uses.specs.Settings.{Top, a_function, a_method, a_constructor, a_dispatch, a_reflection, a_class, some_constants, a_static, a_setter, a_cell, a_loader, a_storer, a_test, a_cast, a_helper}
 use Rattle.sj_trees.specs.declared.types.IrType.TheVariants.{Class}

@@ -6,12 +6,12 @@ use Rattle.std.proofs.lemmas.Bool.{or_cases, or_right}
 use Rattle.std.proofs.lemmas.List.Folds.{Any-from_list_any}
 use Rattle.object_helpers.proofs.AncestorsFound.{ancestors_are_worked_out}
 use Rattle.object_helpers.proofs.Written.{any_of}
-use Rattle.object_helpers.specs.BodySoundnessLaws.{class_of_kind}
+use Rattle.object_helpers.specs.AgreeSoundnessLaws.{class_of_kind}
 use Rattle.object_helpers.specs.Targets.{has_hijacked_in}
 use Rattle.file_declarations.specs.ClassTestsKinds.{is_told}
-use Rattle.helper_rules.specs.Words.{kind_class}
-use Rattle.helper_rules.specs.declared.kinds.Kind.{Kind}
-use Rattle.helper_rules.specs.declared.kinds.Kind.TheVariants as kinds
+use Rattle.sj_emit_help_spec.specs.Words.{kind_class}
+use Rattle.sj_emit_help_spec.specs.declared.kinds.Kind.{Kind}
+use Rattle.sj_emit_help_spec.specs.declared.kinds.Kind.TheVariants as kinds
 use Rattle.ir_mean.specs.Dispatch.{is_ancestor}
 use Rattle.sj_trees.specs.Types.{class_type}
 use Rattle.sj_names.proofs.Same.{impossible, text-same}

@@ -4,8 +4,8 @@ use Rattle.std.specs.Prelude.{is_some}
 use Rattle.std.specs.List.{Contains, flat_map}
 use Rattle.std.proofs.lemmas.List.Elements.{Contains-append_left, Contains-append_right}
 use Rattle.object_helpers.proofs.EachTyped.{in_all}
-use Rattle.helper_rules.specs.Helpers.{helper_piece}
-use Rattle.helper_rules.specs.declared.kinds.Helper.{Helper}
+use Rattle.sj_emit_help_spec.specs.Helpers.{helper_piece}
+use Rattle.sj_emit_help_spec.specs.declared.kinds.Helper.{Helper}
 use Rattle.js_tree.specs.Terms.{Name, Piece}
 use Rattle.object_helpers.specs.Pieces.{piece_of_member, Block, IsBlock, AreBlocks, pieces_of_block, with_helpers, AreLinkedPieces}
 use Rattle.file_declarations.specs.Classes.{AreClassPieces, AreParts, absent, present}

@@ -9,7 +9,7 @@ use Rattle.declared_pieces.proofs.Forms.{in_one, body_tells, load_form, store_fo
 use Rattle.declared_pieces.proofs.Live.{classes_kept}
 use Rattle.declared_pieces.proofs.Parts.{cell_among, cell_there, storer_there, loader_there}
 use Rattle.file_declarations.specs.Pieces.{cell_piece, load_piece, store_piece}
-use Rattle.file_listings.specs.Listed.{AreBytes}
+use Rattle.sj_text_files.specs.Listed.{AreBytes}
 use Rattle.js_tree.specs.Terms.{Piece}
 use Rattle.object_helpers.proofs.Classes.{class-keeps}
 use Rattle.object_helpers.proofs.Derivations.{closed}

@@ -4,12 +4,12 @@ use Rattle.std.specs.Prelude.{is_some}
 use Rattle.std.specs.List.{list_all}
 use Rattle.file_declarations.specs.Declarations.{declares}
 use Rattle.file_tops.specs.Tops.{literal_value}
-use Rattle.helper_rules.specs.Helpers.{Above, helper_name, marker_property, constants, helper_item}
-use Rattle.helper_rules.specs.Words.{class_name, kind_class, object_class}
-use Rattle.helper_rules.specs.declared.kinds.Failure.{Failure}
-use Rattle.helper_rules.specs.declared.kinds.Failure.TheVariants as failures
-use Rattle.helper_rules.specs.declared.kinds.Helper.{Helper}
-use Rattle.helper_rules.specs.declared.kinds.Helper.TheVariants as helpers
+use Rattle.sj_emit_help_spec.specs.Helpers.{Above, helper_name, marker_property, constants, helper_item}
+use Rattle.sj_emit_help_spec.specs.Words.{class_name, kind_class, object_class}
+use Rattle.sj_emit_help_spec.specs.declared.kinds.Failure.{Failure}
+use Rattle.sj_emit_help_spec.specs.declared.kinds.Failure.TheVariants as failures
+use Rattle.sj_emit_help_spec.specs.declared.kinds.Helper.{Helper}
+use Rattle.sj_emit_help_spec.specs.declared.kinds.Helper.TheVariants as helpers
 use Rattle.js_mean.specs.Proper.{is_among}
 use Rattle.js_tree.specs.Terms.{Name, Property, object_item}
 use Rattle.file_declarations.specs.Pieces.{zero_of}

@@ -7,11 +7,11 @@ use Rattle.object_helpers.proofs.Worlds.{judged}
 use Rattle.object_helpers.specs.Accepted.{IsAccepted}
 use Rattle.object_helpers.specs.Locals.{HasValue}
 use Rattle.file_declarations.specs.Declared.{FieldsAreKept}
-use Rattle.file_listings.proofs.ListedClasses.{file_is_listed}
-use Rattle.file_listings.specs.Listed.{AreBytes}
+use Rattle.sj_text_files.proofs.ListedClasses.{file_is_listed}
+use Rattle.sj_text_files.specs.Listed.{AreBytes}
 use Rattle.object_helpers.proofs.LinkedPiecesFields.{fields_apart}
 use Rattle.object_helpers.specs.Used.{has_field_in, has_static_in}
-use Rattle.listing_spelling.specs.Rules.{HasListing, IsListedField}
+use Rattle.sj_text_spec.specs.Rules.{HasListing, IsListedField}
 use Rattle.object_helpers.proofs.Fields.{field_keeps, has_value, field_found, static_found, one_field, key_of}
 use Rattle.object_helpers.specs.Judged.{IsJudgedClass}
 use Rattle.sj_names.proofs.Same.{impossible}

@@ -41,7 +41,7 @@ pub use Rattle.object_helpers.proofs.Fields as ObjectFoldersFields
 pub use Rattle.object_helpers.proofs.Defined
 pub use Rattle.object_helpers.proofs.Plain
 pub use Rattle.object_helpers.proofs.Tested as BodyUsesTested
-pub use Rattle.object_helpers.proofs.Chains as BodySoundnessChains
+pub use Rattle.object_helpers.proofs.Chains as AgreeSoundnessChains
 pub use Rattle.object_helpers.proofs.ObjectFoldersMethods
 pub use Rattle.object_helpers.proofs.Throwing
 pub use Rattle.object_helpers.proofs.LinkedEntriesOne

@@ -6,7 +6,7 @@ use Rattle.object_helpers.specs.Accepted.{IsAccepted}
 use Rattle.object_helpers.proofs.Chains.{stands_itself}
 use Rattle.object_helpers.specs.Worlds.{AreClassesKept}
 use Rattle.object_helpers.specs.Entries.{IsLive}
-use Rattle.file_listings.specs.Listed.{AreBytes}
+use Rattle.sj_text_files.specs.Listed.{AreBytes}
 use Rattle.object_helpers.proofs.Made as made
 use Rattle.object_helpers.specs.Reachable.{Reachable}
 use Rattle.sj_names.specs.declared.entry_points.EntryPoint.{EntryPoint}

@@ -26,14 +26,14 @@ use Rattle.entry_search.specs.Search.{or_member, entry_for, found, IsChainTo, en
 use Rattle.entry_search.specs.Laws.{AreSpelled}
 use Rattle.file_declarations.specs.Looked.{HasCase}
 use Rattle.file_declarations.specs.Pieces.{Parts, box_uses, entry_uses, is_proxy, uses_of_entries, class_uses, constants_piece, class_piece, parent_uses, own_constants, is_char}
-use Rattle.file_listings.specs.Listed.{AreBytes}
-use Rattle.helper_rules.specs.Helpers.{helper_name}
-use Rattle.helper_rules.specs.Words.{bound, class_name, helper, parameters_of, is_name, kind_class, told_kinds, public_function}
-use Rattle.helper_rules.specs.declared.kinds.Helper.{Helper}
-use Rattle.helper_rules.specs.declared.kinds.Helper.TheVariants.{BoxedChar, TestOf, Throws}
-use Rattle.helper_rules.specs.declared.kinds.Failure.TheVariants.{Method}
-use Rattle.helper_rules.specs.declared.kinds.Kind.{Kind}
-use Rattle.helper_rules.specs.declared.kinds.Kind.TheVariants as kinds
+use Rattle.sj_text_files.specs.Listed.{AreBytes}
+use Rattle.sj_emit_help_spec.specs.Helpers.{helper_name}
+use Rattle.sj_emit_help_spec.specs.Words.{bound, class_name, helper, parameters_of, is_name, kind_class, told_kinds, public_function}
+use Rattle.sj_emit_help_spec.specs.declared.kinds.Helper.{Helper}
+use Rattle.sj_emit_help_spec.specs.declared.kinds.Helper.TheVariants.{BoxedChar, TestOf, Throws}
+use Rattle.sj_emit_help_spec.specs.declared.kinds.Failure.TheVariants.{Method}
+use Rattle.sj_emit_help_spec.specs.declared.kinds.Kind.{Kind}
+use Rattle.sj_emit_help_spec.specs.declared.kinds.Kind.TheVariants as kinds
 use Rattle.ir_mean.specs.Dispatch.{chain_of, proxy_target}
 use Rattle.js_tree.specs.Terms.{Piece}
 use Rattle.js_tree.specs.declared.items.Binding.{Binding}
@@ -55,8 +55,8 @@ use Rattle.object_helpers.specs.Reachable.{Reachable}
 use Rattle.object_helpers.specs.Rules.{on_made, reflective, public_member, the_object}
 use Rattle.object_helpers.specs.Used.{calls, uses_dispatch, tells_apart, is_among, is_called_by, uses_reflective, calls_by_name}
 use Rattle.object_helpers.specs.Worlds.{AreClassesKept}
-use Rattle.sj_emit_expr.specs.Templates.{member_name}
-use Rattle.sj_emit_expr.specs.Uses.{is_same_binding}
+use Rattle.sj_emit_expr_spec.specs.Templates.{member_name}
+use Rattle.sj_emit_expr_spec.specs.Uses.{is_same_binding}
 use Rattle.sj_names.proofs.Same.{impossible, text-same, text-refl}
 use Rattle.sj_trees.specs.declared.classes.MethodDef.{MethodDef}
 use Rattle.sj_world.specs.Calls.{IsProxyTarget}

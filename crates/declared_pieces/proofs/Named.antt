@@ -13,9 +13,9 @@ use Rattle.object_helpers.proofs.Defined.{last}
 use Rattle.object_helpers.proofs.Plain.{class_found}
 use Rattle.object_helpers.proofs.EntryTargets.{IsMethodsName, target_named, proxy_reached}
 use Rattle.object_helpers.proofs.Worlds.{judged}
-use Rattle.file_listings.proofs.ListedClasses.{file_is_listed}
-use Rattle.file_listings.specs.Listed.{AreBytes}
-use Rattle.listing_spelling.specs.Rules.{HasListing, IsListedMethod, IsListedTree, AreListedTrees, AreListedCases}
+use Rattle.sj_text_files.proofs.ListedClasses.{file_is_listed}
+use Rattle.sj_text_files.specs.Listed.{AreBytes}
+use Rattle.sj_text_spec.specs.Rules.{HasListing, IsListedMethod, IsListedTree, AreListedTrees, AreListedCases}
 use Rattle.sj_infos.specs.Forms.{form_of, of_base, of_test, of_cast, forms_by_body}
 use Rattle.sj_infos.specs.Infos.{null_pointer, arithmetic, class_cast, index_out_of_bounds, array_store, negative_size, no_such_method, of_receiver, of_call, of_apply, of_member, of_static_call, is_other_than_zero, divides, of_base as asked_of_base, of_array, of_type, is_any, of_store, asks, asked_by_body}
 use Rattle.sj_infos.specs.Sure.{is_primitive}

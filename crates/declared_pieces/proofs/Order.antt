@@ -13,11 +13,11 @@ use Rattle.declared_pieces.specs.Closed.{IsClosed, items_of}
 use Rattle.declared_pieces.specs.Laws.{PiecesAreDeclarations}
 use Rattle.file_declarations.specs.Declarations.{with_class, declares, declare}
 use Rattle.object_helpers.specs.Entries.{IsLive}
-use Rattle.file_listings.specs.Listed.{AreBytes}
-use Rattle.helper_rules.specs.Helpers.{Above, helper_piece}
-use Rattle.helper_rules.specs.Words.{all_kinds, class_name, constants_name, bound}
-use Rattle.helper_rules.specs.declared.kinds.Helper.{Helper}
-use Rattle.helper_rules.specs.declared.kinds.Helper.TheVariants.{ArrayClass}
+use Rattle.sj_text_files.specs.Listed.{AreBytes}
+use Rattle.sj_emit_help_spec.specs.Helpers.{Above, helper_piece}
+use Rattle.sj_emit_help_spec.specs.Words.{all_kinds, class_name, constants_name, bound}
+use Rattle.sj_emit_help_spec.specs.declared.kinds.Helper.{Helper}
+use Rattle.sj_emit_help_spec.specs.declared.kinds.Helper.TheVariants.{ArrayClass}
 use Rattle.js_mean.specs.Proper.{is_among}
 use Rattle.js_tree.specs.Names.{is_same_text}
 use Rattle.js_tree.specs.Terms.{Name, Member, Item, const_item, object_item, let_item, expression_item, function_item, class_item, subclass_item, Piece}

@@ -3,11 +3,11 @@ use Rattle.std.proofs.Common.{◌≡◌, ◌++◌, ◌||◌, ◌⊎◌, Bool, tr
 use Rattle.std.specs.List.{Contains}
 use Rattle.std.proofs.lemmas.List.Elements.{Contains-append_left, Contains-append_right, Contains-append_cases}
 use Rattle.object_helpers.proofs.Given.{IsKept, kept}
-use Rattle.helper_rules.specs.Words.{class_name, bound, all_kinds}
+use Rattle.sj_emit_help_spec.specs.Words.{class_name, bound, all_kinds}
 use Rattle.js_tree.specs.Terms.{Name, Piece}
 use Rattle.js_tree.specs.declared.items.Binding.{Binding}
 use Rattle.file_declarations.specs.Pieces.{Parts, pieces, when, constants_piece, class_piece, own_constants, uses_of_entries, parent_uses, class_uses, constants_of, class_of, all_statics, variable_piece, setter_piece, cell_piece, load_piece, store_piece, cell_pieces, module_of, test_piece, kind_of_class, cast_piece, tests_of}
-use Rattle.sj_emit_expr.specs.Uses.{once_each}
+use Rattle.sj_emit_expr_spec.specs.Uses.{once_each}
 use Rattle.sj_names.proofs.Same.{impossible}
 use Rattle.file_declarations.specs.Classes.{AreReached, none_yet, reached, other}
 use Rattle.sj_split.proofs.Members.{at_first, further, cons_cases}

@@ -7,10 +7,10 @@ use Rattle.std.proofs.lemmas.List.Folds.{Any-from_list_any}
 use Rattle.declared_pieces.proofs.Below.{kind_hijacked}
 use Rattle.declared_pieces.proofs.Forms.{body_tells, load_form}
 use Rattle.declared_pieces.proofs.Live.{classes_kept, live_free}
-use Rattle.file_listings.specs.Listed.{AreBytes}
-use Rattle.helper_rules.specs.Words.{kind_class}
-use Rattle.helper_rules.specs.declared.kinds.Helper.{Helper}
-use Rattle.helper_rules.specs.declared.kinds.Kind.{Kind}
+use Rattle.sj_text_files.specs.Listed.{AreBytes}
+use Rattle.sj_emit_help_spec.specs.Words.{kind_class}
+use Rattle.sj_emit_help_spec.specs.declared.kinds.Helper.{Helper}
+use Rattle.sj_emit_help_spec.specs.declared.kinds.Kind.{Kind}
 use Rattle.ir_mean.specs.Dispatch.{is_ancestor, proxy_target}
 use Rattle.ir_mean.specs.Meaning.{no_such_method}
 use Rattle.object_helpers.proofs.Calls.{needed}
@@ -27,7 +27,7 @@ use Rattle.object_helpers.proofs.Topped.{topped}
 use Rattle.object_helpers.proofs.WorkedOut.{targets_are_worked_out}
 use Rattle.object_helpers.specs.Accepted.{IsAccepted}
 use Rattle.object_helpers.specs.Bodies.{AreBodies}
-use Rattle.object_helpers.specs.BodySoundnessLaws.{Answers, AnswersByName, no_method, has_method}
+use Rattle.object_helpers.specs.AgreeSoundnessLaws.{Answers, AnswersByName, no_method, has_method}
 use Rattle.object_helpers.specs.Built.{Usable}
 use Rattle.object_helpers.specs.EmittedMethods.{EmittedMethod, HasFunction}
 use Rattle.object_helpers.specs.Entries.{IsLive, IsTarget, IsReflective}

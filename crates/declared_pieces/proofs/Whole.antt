@@ -29,11 +29,11 @@ use Rattle.object_helpers.proofs.Facts.{made_known, called_known}
 use Rattle.object_helpers.specs.Entries.{AreEntries, IsLive}
 use Rattle.object_helpers.specs.Targets.{has_hijacked_in}
 use Rattle.ir_mean.specs.Dispatch.{is_ancestor}
-use Rattle.file_listings.specs.Listed.{AreBytes}
-use Rattle.helper_rules.specs.Helpers.{helper_name, helper_piece}
-use Rattle.helper_rules.specs.Words.{all_kinds, helper}
-use Rattle.helper_rules.specs.declared.kinds.Helper.{Helper}
-use Rattle.helper_rules.specs.declared.kinds.Helper.TheVariants.{TestOf}
+use Rattle.sj_text_files.specs.Listed.{AreBytes}
+use Rattle.sj_emit_help_spec.specs.Helpers.{helper_name, helper_piece}
+use Rattle.sj_emit_help_spec.specs.Words.{all_kinds, helper}
+use Rattle.sj_emit_help_spec.specs.declared.kinds.Helper.{Helper}
+use Rattle.sj_emit_help_spec.specs.declared.kinds.Helper.TheVariants.{TestOf}
 use Rattle.js_tree.specs.Terms.{Piece}
 use Rattle.object_helpers.specs.Pieces.{pieces_of_block, by_piece, AreLinkedPieces}
 use Rattle.object_helpers.proofs.Statics.{static_is}

@@ -3,13 +3,13 @@ use Rattle.std.specs.Prelude.{codes, ◌≡◌, ◌↔◌, ◌&&◌, true, List,
 use Rattle.std.specs.List.{Contains}
 use Rattle.declared_pieces.specs.Closed.{IsClosed, items_of}
 use Rattle.file_declarations.specs.Declarations.{declare}
-use Rattle.file_listings.specs.Listed.{AreBytes}
-use Rattle.helper_rules.specs.Helpers.{helper_name, helper_piece}
-use Rattle.helper_rules.specs.Words.{all_kinds, told_kinds, helper, is_name, bound, entry_name, public_function, parameters_of}
-use Rattle.helper_rules.specs.declared.kinds.Helper.{Helper}
-use Rattle.helper_rules.specs.declared.kinds.Helper.TheVariants.{ArrayClass, BoxedChar, TestOf, Throws}
-use Rattle.helper_rules.specs.declared.kinds.Failure.TheVariants.{Method}
-use Rattle.helper_rules.specs.declared.kinds.Kind.{Kind}
+use Rattle.sj_text_files.specs.Listed.{AreBytes}
+use Rattle.sj_emit_help_spec.specs.Helpers.{helper_name, helper_piece}
+use Rattle.sj_emit_help_spec.specs.Words.{all_kinds, told_kinds, helper, is_name, bound, entry_name, public_function, parameters_of}
+use Rattle.sj_emit_help_spec.specs.declared.kinds.Helper.{Helper}
+use Rattle.sj_emit_help_spec.specs.declared.kinds.Helper.TheVariants.{ArrayClass, BoxedChar, TestOf, Throws}
+use Rattle.sj_emit_help_spec.specs.declared.kinds.Failure.TheVariants.{Method}
+use Rattle.sj_emit_help_spec.specs.declared.kinds.Kind.{Kind}
 use Rattle.ir_mean.specs.Dispatch.{chain_of, is_ancestor, proxy_target}
 use Rattle.js_mean.specs.Classes.{method_among}
 use Rattle.js_tree.specs.Terms.{Piece}

@@ -26,13 +26,13 @@ pub use Rattle.object_helpers.specs.Rules
 pub use Rattle.object_helpers.specs.Once
 pub use Rattle.object_helpers.specs.Linked
 pub use Rattle.object_helpers.specs.Stages
-pub use Rattle.object_helpers.specs.TypingRulesRules
+pub use Rattle.object_helpers.specs.SjTypingSpecRules
 pub use Rattle.object_helpers.specs.Typed
-pub use Rattle.file_declarations.specs.Pieces as PieceRulesPieces
+pub use Rattle.file_declarations.specs.Pieces as SjEmitClassSpecPieces
 pub use Rattle.object_helpers.specs.Helpers
 pub use Rattle.object_helpers.specs.Given
 pub use Rattle.object_helpers.specs.BodyUsesLaws
-pub use Rattle.object_helpers.specs.BodySoundnessLaws
+pub use Rattle.object_helpers.specs.AgreeSoundnessLaws
 pub use Rattle.object_helpers.specs.Targets
 pub use Rattle.file_declarations.specs.ClassTestsKinds
 pub use Rattle.file_declarations.specs.Looked

@@ -2,22 +2,22 @@
 use Rattle.std.proofs.Common.{◌≡◌, ◌↔◌, IsTrue, Bool, true, false, List, [], ◌∷◌, Contains, Option, Some, None, Ok, if◌then◌else◌, refl, sym, ap, ◌∙◌, subst, inl, inr}
 use Rattle.std.proofs.lemmas.Bool.{cond-true}
 use Rattle.std.proofs.lemmas.List.Elements.{All-head, All-tail}
-use Rattle.emit_questions.specs.Calls.{calls_of_all}
-use Rattle.emit_questions.specs.Task.{is_same_member, Targets, with_target, target_by, Mixed, hijacked_by, Found, nothing_found, lookup_by, asks_all, Emitted, emitted}
-use Rattle.emit_questions.specs.declared.Inquiry.{Inquiry}
-use Rattle.emit_questions.specs.declared.Inquiry.TheVariants as inquiries
-use Rattle.emit_questions.proofs.Agree.{IsSame, same_emitted}
-use Rattle.emit_questions.proofs.PublicCalls.{IsPublic, ArePublic, public_of_all}
+use Rattle.sj_emit_expr_questions.specs.Calls.{calls_of_all}
+use Rattle.sj_emit_expr_questions.specs.Task.{is_same_member, Targets, with_target, target_by, Mixed, hijacked_by, Found, nothing_found, lookup_by, asks_all, Emitted, emitted}
+use Rattle.sj_emit_expr_questions.specs.declared.Inquiry.{Inquiry}
+use Rattle.sj_emit_expr_questions.specs.declared.Inquiry.TheVariants as inquiries
+use Rattle.sj_emit_expr_questions.proofs.Agree.{IsSame, same_emitted}
+use Rattle.sj_emit_expr_questions.proofs.PublicCalls.{IsPublic, ArePublic, public_of_all}
 use Rattle.ir_mean.proofs.AncestorsFound.{ancestors_are_worked_out}
 use Rattle.ir_mean.specs.Dispatch.{resolved, is_ancestor}
-use Rattle.emit_questions.proofs.One.{one_truth}
-use Rattle.emit_questions.specs.Answers.{IsAnswer, IsTarget, IsAboveHijacked, GivesMember, SaysWhether, target_member}
-use Rattle.emit_questions.specs.Apart.{Exchange}
-use Rattle.emit_questions.specs.Answer.{Answer}
-use Rattle.emit_questions.specs.AnswerVariants as answer
-use Rattle.emit_questions.specs.Runs.{Comes}
-use Rattle.emit_questions.specs.Stands.{Stand}
-use Rattle.emit_questions.specs.Tasks.{done, ◌>>=◌, found_member, says_yes, asks_target, asks_hijacked}
+use Rattle.sj_emit_expr_questions.proofs.One.{one_truth}
+use Rattle.sj_emit_expr_questions.specs.Answers.{IsAnswer, IsTarget, IsAboveHijacked, GivesMember, SaysWhether, target_member}
+use Rattle.sj_emit_expr_questions.specs.Apart.{Exchange}
+use Rattle.sj_emit_expr_questions.specs.Answer.{Answer}
+use Rattle.sj_emit_expr_questions.specs.AnswerVariants as answer
+use Rattle.sj_emit_expr_questions.specs.Runs.{Comes}
+use Rattle.sj_emit_expr_questions.specs.Stands.{Stand}
+use Rattle.sj_emit_expr_questions.specs.Tasks.{done, ◌>>=◌, found_member, says_yes, asks_target, asks_hijacked}
 use Rattle.sj_names.proofs.Same.{text-same, text-refl}
 use Rattle.sj_names.specs.Same.{is_same_text}
 use Rattle.sj_names.specs.declared.memory.NoMemory.{NoMemory}

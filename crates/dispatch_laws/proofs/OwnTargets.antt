@@ -2,8 +2,8 @@
 use Rattle.std.proofs.Common.{refl}
 use Rattle.dispatch_laws.specs.Targets.{IsTargetOf}
 use Rattle.ir_mean.proofs.TargetsFound.{target_found}
-use Rattle.emit_questions.specs.Lookup.{Lookup}
-use Rattle.emit_questions.specs.Templates.{called_member}
+use Rattle.sj_emit_expr_questions.specs.Lookup.{Lookup}
+use Rattle.sj_emit_expr_questions.specs.Templates.{called_member}
 use Rattle.sj_names.specs.declared.method_names.Member.{Member}
 use Rattle.sj_names.specs.declared.method_names.Namespace.{Namespace}
 use Rattle.sj_names.specs.declared.method_names.Namespace.TheVariants.{Public}

@@ -2,7 +2,7 @@
 use Rattle.std.proofs.Common.{◌≡◌, true, List, [], ◌∷◌, ◌&&◌, Option, Some, None, refl}
 use Rattle.std.specs.Cmp.Lexicographic.{pointwise}
 use Rattle.std.proofs.lemmas.Bool.{and_parts, and_from}
-use Rattle.emit_questions.specs.Task.{is_same_member}
+use Rattle.sj_emit_expr_questions.specs.Task.{is_same_member}
 use Rattle.sj_names.proofs.Same.{text-same, text-refl, array-refl, method-same, namespace-same}
 use Rattle.sj_names.specs.Same.{is_same_text, is_same_reference, is_same_result, is_same_method, is_same_namespace}
 use Rattle.sj_names.specs.declared.method_names.Member.{Member}

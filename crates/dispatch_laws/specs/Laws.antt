@@ -1,13 +1,13 @@
 -- Targets as the meaning of the IR works them out, as a world has them, and as emission finds them.
 use Rattle.std.specs.Prelude.{◌≡◌, List, Option, Some, None, Ok}
-use Rattle.emit_questions.specs.Task.{Emitted, emitted, emit_task}
+use Rattle.sj_emit_expr_questions.specs.Task.{Emitted, emitted, emit_task}
 use Rattle.ir_mean.specs.Calls.{IsProxyTarget, HasNoProxyTarget}
 use Rattle.ir_mean.specs.Dispatch.{Found, resolved, proxy_target}
-use Rattle.emit_questions.specs.Answers.{IsAnswer}
-use Rattle.emit_questions.specs.Apart.{Exchange}
-use Rattle.emit_questions.specs.Runs.{Comes}
-use Rattle.emit_questions.specs.Stands.{Stand}
-use Rattle.emit_questions.specs.Terms.{Method}
+use Rattle.sj_emit_expr_questions.specs.Answers.{IsAnswer}
+use Rattle.sj_emit_expr_questions.specs.Apart.{Exchange}
+use Rattle.sj_emit_expr_questions.specs.Runs.{Comes}
+use Rattle.sj_emit_expr_questions.specs.Stands.{Stand}
+use Rattle.sj_emit_expr_questions.specs.Terms.{Method}
 use Rattle.sj_names.specs.declared.memory.NoMemory.{NoMemory}
 use Rattle.sj_names.specs.declared.method_names.Member.{Member}
 use Rattle.sj_names.specs.declared.method_names.MethodName.{MethodName}

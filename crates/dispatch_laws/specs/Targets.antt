@@ -4,7 +4,7 @@ use Rattle.std.specs.List.{list_any}
 use Rattle.ir_mean.specs.Dispatch.{Found, resolved, is_ancestor}
 use Rattle.ir_mean.specs.Meaning.{static_target}
 use Rattle.ir_mean.specs.World.{member_of}
-use Rattle.emit_questions.specs.Lookup.{Lookup}
+use Rattle.sj_emit_expr_questions.specs.Lookup.{Lookup}
 use Rattle.sj_names.specs.declared.method_names.Member.{Member}
 use Rattle.sj_names.specs.declared.method_names.Namespace.{Namespace}
 use Rattle.sj_names.specs.declared.method_names.Namespace.TheVariants.{Public}

@@ -13,9 +13,9 @@ use Rattle.sj_world.specs.Resolution.{target}
 use Rattle.sj_world.proofs.Once.{resolves_once}
 use Rattle.sj_world.proofs.Orders.{same_name, is_same_itself}
 use Rattle.sj_world.proofs.Searches.{stands_at, contains_at}
-use Rattle.piece_rules.specs.Rules.{public_member}
-use Rattle.piece_rules.specs.Entries.{IsLive, IsWanted, IsTarget, IsInherited, IsDirect, IsMethodEntry, direct, proxy, AreEntries}
-use Rattle.piece_rules.specs.Dispatch.{IsReachedTarget}
+use Rattle.sj_emit_class_spec.specs.Rules.{public_member}
+use Rattle.sj_emit_class_spec.specs.Entries.{IsLive, IsWanted, IsTarget, IsInherited, IsDirect, IsMethodEntry, direct, proxy, AreEntries}
+use Rattle.sj_emit_class_spec.specs.Dispatch.{IsReachedTarget}
 use Rattle.entry_search.proofs.Reflective.{without_result}
 use Rattle.entry_search.specs.Search.{is_for, or_member, entry_for, found, IsChainTo, ends, goes}
 use Rattle.entry_search.specs.Laws.{AreSpelled, SearchFindsTarget}

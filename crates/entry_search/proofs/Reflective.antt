@@ -2,11 +2,11 @@
 use Rattle.std.proofs.Common.{◌≡◌, ◌<◌, arith, List, [], ◌∷◌, Contains, Option, Some, None, refl, subst, ⊎_elim, if◌then◌else◌}
 use Rattle.std.specs.Prelude.{is_none}
 use Rattle.std.proofs.lemmas.List.Elements.{Contains-append_cases, Contains-push_cases}
-use Rattle.piece_rules.specs.Entries.{IsReflective}
-use Rattle.piece_rules.specs.Forms.{of_base, of_test, of_cast, form_of, forms_among, forms_by_body}
-use Rattle.piece_rules.specs.Trees.{trees}
-use Rattle.piece_rules.specs.BodyForm.{BodyForm}
-use Rattle.piece_rules.specs.BodyFormVariants.{Test, Cast, Base, Load, Store, Reflective}
+use Rattle.sj_emit_class_spec.specs.Entries.{IsReflective}
+use Rattle.sj_emit_class_spec.specs.Forms.{of_base, of_test, of_cast, form_of, forms_among, forms_by_body}
+use Rattle.sj_emit_class_spec.specs.Trees.{trees}
+use Rattle.sj_emit_class_spec.specs.BodyForm.{BodyForm}
+use Rattle.sj_emit_class_spec.specs.BodyFormVariants.{Test, Cast, Base, Load, Store, Reflective}
 use Rattle.sj_names.specs.declared.method_names.MethodName.{MethodName}
 use Rattle.sj_names.specs.declared.references.BaseRef.{BaseRef}
 use Rattle.sj_names.specs.declared.references.TypeRef.{TypeRef}

@@ -5,9 +5,9 @@ use Rattle.sj_names.specs.MethodNames.{IsMethodName}
 use Rattle.sj_world.specs.declared.facts.Fact.{Fact}
 use Rattle.sj_world.specs.declared.linked.MethodEntry.{MethodEntry}
 use Rattle.sj_world.specs.Known.{Name, Classes}
-use Rattle.piece_rules.specs.Entries.{AreEntries, IsWanted, IsLive}
-use Rattle.piece_rules.specs.Dispatch.{IsReachedTarget}
-use Rattle.piece_rules.specs.Rules.{public_member}
+use Rattle.sj_emit_class_spec.specs.Entries.{AreEntries, IsWanted, IsLive}
+use Rattle.sj_emit_class_spec.specs.Dispatch.{IsReachedTarget}
+use Rattle.sj_emit_class_spec.specs.Rules.{public_member}
 use Rattle.entry_search.specs.Search.{found, IsChainTo}
 
 -- every name in the entries and the facts has a spelling, and no entry but one of a reflective name has one

@@ -8,7 +8,7 @@ use Rattle.sj_world.specs.declared.facts.Fact.TheVariants.{Made, Called}
 use Rattle.sj_world.specs.declared.linked.MethodEntry.{MethodEntry}
 use Rattle.sj_world.specs.Known.{Name, Classes, is_same, is_hijacked}
 use Rattle.sj_world.specs.Ancestors.{IsAncestor, IsNext, next_on_chain}
-use Rattle.piece_rules.specs.Dispatch.{IsReachedTarget}
+use Rattle.sj_emit_class_spec.specs.Dispatch.{IsReachedTarget}
 
 -- the entry of a class for a name
 abbrev pub is_for : Name → MethodName → MethodEntry → Bool

@@ -5,23 +5,23 @@ use Rattle.std.proofs.lemmas.List.{append_cancel_left}
 use Rattle.std.specs.List.{list_any}
 use Rattle.file_tops.proofs.Run.{some_same}
 use Rattle.file_tops.specs.Tops.{literal_value, literal_properties}
-use Rattle.helper_rules.specs.Helpers.{constants, marker_property}
-use Rattle.helper_rules.specs.Words.{marker}
+use Rattle.sj_emit_help_spec.specs.Helpers.{constants, marker_property}
+use Rattle.sj_emit_help_spec.specs.Words.{marker}
 use Rattle.ir_mean.specs.Dispatch.{chain_from}
 use Rattle.ir_mean.specs.World as ir_world
 use Rattle.js_mean.specs.Objects.{with_property, no_properties}
 use Rattle.js_mean.specs.States as js
 use Rattle.js_tree.specs.Terms.{Name}
-use Rattle.sj_calls.specs.Pieces.{zero_of as zero_literal}
-use Rattle.sj_calls.proofs.Marked.{markers_tell}
-use Rattle.sj_calls.specs.Made.{zero_shown}
+use Rattle.agree_calls.specs.Pieces.{zero_of as zero_literal}
+use Rattle.agree_calls.proofs.Marked.{markers_tell}
+use Rattle.agree_calls.specs.Made.{zero_shown}
 use Rattle.sj_mangling.proofs.Injective.{mangled_texts_differ}
 use Rattle.sj_mangling.specs.Bindings.{class_binding}
 use Rattle.sj_mangling.specs.Mangling.{mangled}
 use Rattle.sj_mangling.specs.declared.bindings.ClassBinding.TheVariants.{Marker}
 use Rattle.sj_trees.specs.declared.types.IrType.{IrType}
 use Rattle.sj_trees.specs.declared.types.IrType.TheVariants.{Undefined, Boolean, Char, Byte, Short, Int, Long, String}
-use Rattle.sj_calls.specs.Settings.{MarksAncestors}
+use Rattle.agree_calls.specs.Settings.{MarksAncestors}
 use Rattle.sj_world.specs.Ancestors.{IsAncestor, by_path, next_on_chain}
 use Rattle.sj_world.specs.Known.{Classes, is_known, is_same}
 use Rattle.sj_world.specs.Paths.{stay}

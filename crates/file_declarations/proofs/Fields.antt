@@ -4,13 +4,13 @@ use Rattle.std.specs.Prelude.{nat_eq}
 use Rattle.std.specs.Cmp.Lexicographic.{pointwise}
 use Rattle.std.proofs.lemmas.Bool.{and_parts, or_left}
 use Rattle.std.proofs.lemmas.List.Concat.{flat_map-append}
-use Rattle.sj_calls.proofs.Equal.{equals, is-equal, differs}
-use Rattle.sj_calls.proofs.Lists.{nothing_in, in_front_or_behind, at_front, further_on}
+use Rattle.agree_calls.proofs.Equal.{equals, is-equal, differs}
+use Rattle.agree_calls.proofs.Lists.{nothing_in, in_front_or_behind, at_front, further_on}
 use Rattle.ir_mean.specs.World.{World, class_of, instance_zero, zeros_in, static_zero, statics_in, zero_of}
 use Rattle.ir_mean.specs.States.{Value}
 use Rattle.js_tree.specs.Terms.{Name}
-use Rattle.sj_calls.specs.Chains.{BeginsAtZero}
-use Rattle.sj_emit_expr.specs.Templates.{static_name}
+use Rattle.agree_calls.specs.Chains.{BeginsAtZero}
+use Rattle.sj_emit_expr_spec.specs.Templates.{static_name}
 use Rattle.sj_mangling.proofs.FunctionNames.{function_names_differ}
 use Rattle.sj_mangling.specs.Bindings.{function_name, field_binding}
 use Rattle.sj_mangling.specs.Mangling.{mangled, mangled_byte}
@@ -21,8 +21,8 @@ use Rattle.sj_names.specs.Same.{is_same_text}
 use Rattle.sj_names.specs.declared.method_names.MethodName.{MethodName}
 use Rattle.sj_names.specs.declared.method_names.Namespace.TheVariants.{Public}
 use Rattle.sj_names.specs.declared.references.TypeRef.TheVariants.{Void}
-use Rattle.sj_calls.specs.Settings.{Place, IsField, FieldsDiffer, IsStaticField, StaticsDiffer, IsClass, CellsDiffer, cell_name}
-use Rattle.sj_calls.proofs.SjProperNames.{tails}
+use Rattle.agree_calls.specs.Settings.{Place, IsField, FieldsDiffer, IsStaticField, StaticsDiffer, IsClass, CellsDiffer, cell_name}
+use Rattle.agree_calls.proofs.AgreeEarlyErrorsNames.{tails}
 use Rattle.sj_trees.specs.declared.classes.ClassDef.{ClassDef}
 use Rattle.sj_trees.specs.declared.classes.FieldDef.{FieldDef}
 use Rattle.sj_trees.specs.declared.types.IrType.{IrType}

@@ -1,8 +1,8 @@
 -- Items of distinct names are found by their names.
 use Rattle.std.proofs.Common.{◌≡◌, Bool, true, false, List, [], ◌∷◌, ◌++◌, ◌||◌, not, refl, sym, ap, ◌∙◌, Contains, Option, Some, None, ⊎_elim, cond}
 use Rattle.std.proofs.lemmas.Bool.{and_parts, or_left, or_right, not-true, and_from}
-use Rattle.sj_calls.proofs.Equal.{equals, is-equal}
-use Rattle.sj_calls.proofs.Lists.{nothing_in, in_front_or_behind}
+use Rattle.agree_calls.proofs.Equal.{equals, is-equal}
+use Rattle.agree_calls.proofs.Lists.{nothing_in, in_front_or_behind}
 use Rattle.js_mean.specs.Classes.{members_among}
 use Rattle.js_mean.specs.Meaning.{code_among, item_cell, items_cell, or_outer}
 use Rattle.js_mean.specs.Proper.{is_among, are_distinct, item_names}

@@ -3,8 +3,8 @@ use Rattle.std.proofs.Common.{◌≡◌, ℕ, zero, suc, Bool, true, false, List
 use Rattle.std.specs.List.{list_all}
 use Rattle.std.proofs.lemmas.Bool.{and_parts, or_cases}
 use Rattle.std.proofs.lemmas.List.Elements.{Contains-append_left}
-use Rattle.sj_calls.proofs.Equal.{equals, is-equal}
-use Rattle.sj_calls.proofs.Lists.{at_front, further_on}
+use Rattle.agree_calls.proofs.Equal.{equals, is-equal}
+use Rattle.agree_calls.proofs.Lists.{at_front, further_on}
 use Rattle.file_tops.proofs.Run.{others_stay}
 use Rattle.file_tops.proofs.Standing.{owners_found}
 use Rattle.file_tops.specs.Tops.{literal_value, literal_properties, with_each, started, link, classes_in, after_item, after_items, declares_name, start_name}

@@ -5,8 +5,8 @@ use Rattle.sj_world.specs.Known.{Classes}
 use Rattle.sj_world.specs.Linked.{Linked}
 use Rattle.sj_world.specs.declared.facts.Fact.TheVariants as fact
 use Rattle.sj_reach.specs.Answers.{AreReachable}
-use Rattle.folder_verdicts.specs.Stages.{IsDefined, KeepRules}
-use Rattle.folder_verdicts.proofs.Defined.{reached_is_defined}
+use Rattle.folder_judging_spec.specs.Stages.{IsDefined, KeepRules}
+use Rattle.folder_judging_spec.proofs.Defined.{reached_is_defined}
 use Rattle.folder_judging.specs.Types.{AreDefined}
 
 pub all_defined : (w : Classes) (entries : List EntryPoint) (l : Linked) → KeepRules w → l.world ≡ w → AreReachable w entries l.facts → AreDefined l

@@ -10,13 +10,13 @@ use Rattle.sj_trees.specs.declared.refusals.Code.{Code}
 use Rattle.sj_trees.specs.Refusals.{number_of}
 use Rattle.sj_trees.specs.declared.refusals.ReadRefusal.{ReadRefusal}
 use Rattle.sj_trees.specs.declared.refusals.ReadRefusal.TheVariants.{Bad}
-use Rattle.sj_format.specs.Answers.{IsRead}
-use Rattle.sj_format.specs.Files.{FileIs, Fails}
-use Rattle.sj_format.proofs.ExactFiles.{one_answer}
+use Rattle.sj_read_spec.specs.Answers.{IsRead}
+use Rattle.sj_read_spec.specs.Files.{FileIs, Fails}
+use Rattle.sj_read_spec.proofs.ExactFiles.{one_answer}
 use Rattle.sj_world.specs.Known.{Classes}
 use Rattle.sj_world.specs.Paths.{IsFirst}
-use Rattle.folder_verdicts.specs.Stages.{HasFault, AreRead}
-use Rattle.folder_verdicts.specs.Verdicts.{refused, ByFiles, faulty}
+use Rattle.folder_judging_spec.specs.Stages.{HasFault, AreRead}
+use Rattle.folder_judging_spec.specs.Verdicts.{refused, ByFiles, faulty}
 use Rattle.folder_judging.specs.Reading.{HaveBytes, IsFaultOf}
 use Rattle.folder_judging.specs.Refusals.{IsRefusal}
 use Rattle.folder_judging.specs.declared.errors.JudgeError.{JudgeError}

@@ -7,5 +7,5 @@ mod Ruled
 mod Spelled
 mod Staged
 mod Typed
-pub use Rattle.folder_verdicts.proofs.Defined as FolderVerdictsDefined
-pub use Rattle.folder_verdicts.proofs.Firsts
+pub use Rattle.folder_judging_spec.proofs.Defined as FolderJudgingSpecDefined
+pub use Rattle.folder_judging_spec.proofs.Firsts

@@ -14,7 +14,7 @@ use Rattle.sj_reach.specs.declared.findings.Report.{Report}
 use Rattle.sj_reach.specs.declared.errors.ReachError.{ReachError}
 use Rattle.sj_reach.specs.declared.errors.ReachError.TheVariants.{Refused as ReachRefused}
 use Rattle.sj_reach.specs.Answers.{IsRefused as IsReachRefused}
-use Rattle.folder_verdicts.specs.Verdicts.{Verdict, refused, ByNames, apart, twice, broken, kept, cyclic, ByReferences, unresolved}
+use Rattle.folder_judging_spec.specs.Verdicts.{Verdict, refused, ByNames, apart, twice, broken, kept, cyclic, ByReferences, unresolved}
 use Rattle.folder_judging.specs.declared.errors.JudgeError.{JudgeError}
 use Rattle.folder_judging.specs.declared.errors.JudgeError.TheVariants.{Refused, NoMemory}
 use Rattle.folder_judging.specs.Judging.{IsKeptWorld}

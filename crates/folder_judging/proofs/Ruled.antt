@@ -15,7 +15,7 @@ use Rattle.sj_local.proofs.Once.{checks_once}
 use Rattle.sj_world.specs.Known.{Name, Classes}
 use Rattle.sj_reach.specs.Answers.{first_told}
 use Rattle.sj_reach.specs.declared.findings.Report.{Report}
-use Rattle.folder_verdicts.specs.Stages.{rule_at, IsBroken, IsLeastBroken, KeepRules}
+use Rattle.folder_judging_spec.specs.Stages.{rule_at, IsBroken, IsLeastBroken, KeepRules}
 use Rattle.folder_judging.specs.Rules.{BreaksFirst, IsLeastIn, IsWithClass, kept, broken}
 use Rattle.folder_judging.proofs.Least.{IsLeast, with_first, with_more}
 

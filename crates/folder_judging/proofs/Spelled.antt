@@ -10,7 +10,7 @@ use Rattle.worklist.proofs.Inserted.{nothing_in}
 use Rattle.sj_names.specs.declared.method_names.Member.{Member}
 use Rattle.sj_world.specs.declared.facts.Fact.{Fact}
 use Rattle.sj_world.specs.declared.facts.Fact.TheVariants as fact
-use Rattle.reach_rules.specs.Refusals.{spelled_member}
+use Rattle.sj_reach_spec.specs.Refusals.{spelled_member}
 use Rattle.folder_judging.specs.Bodies.{HasBodyOf, AreBodiesOf, PushesBody, pushed, left, is_spelled_before, AreInOrder}
 use Rattle.folder_judging.specs.Counts.{members_of, bodies_among}
 use Rattle.folder_judging.specs.declared.bodies.SpelledBody.{SpelledBody}

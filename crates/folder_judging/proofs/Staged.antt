@@ -7,7 +7,7 @@ use Rattle.sj_names.specs.declared.counters.Meter.{Meter}
 use Rattle.sj_names.specs.declared.entry_points.EntryPoint.{EntryPoint}
 use Rattle.sj_names.specs.declared.folders.SourceFile.{SourceFile}
 use Rattle.sj_ask.proofs.One.{one_method}
-use Rattle.typing_rules.specs.Typed.{IsTyped, IsUntyped}
+use Rattle.sj_typing_spec.specs.Typed.{IsTyped, IsUntyped}
 use Rattle.sj_world.specs.Known.{Classes}
 use Rattle.sj_world.specs.Linked.{Linked}
 use Rattle.sj_world.specs.Members.{IsMethodOf}
@@ -18,8 +18,8 @@ use Rattle.sj_reach.specs.Answers.{AreReachable}
 use Rattle.sj_reach.specs.declared.findings.Report.{Report}
 use Rattle.folder_sizes.specs.Sizes.{IsTooLarge, IsFirstTooLarge}
 use Rattle.folder_sizes.specs.Files.{sizes, size_of}
-use Rattle.folder_verdicts.specs.Stages.{rule_at, AreRead, KeepRules, IsUntypedBody, AreTyped}
-use Rattle.folder_verdicts.specs.Verdicts.{Verdict, accepted, refused, untyped, typed, ByReferences, resolved, acyclic, kept, ByNames, apart, ByFiles, read, IsVerdict, too_large, small}
+use Rattle.folder_judging_spec.specs.Stages.{rule_at, AreRead, KeepRules, IsUntypedBody, AreTyped}
+use Rattle.folder_judging_spec.specs.Verdicts.{Verdict, accepted, refused, untyped, typed, ByReferences, resolved, acyclic, kept, ByNames, apart, ByFiles, read, IsVerdict, too_large, small}
 use Rattle.folder_judging.specs.declared.errors.JudgeError.{JudgeError}
 use Rattle.folder_judging.specs.declared.errors.JudgeError.TheVariants.{Refused, NoMemory}
 use Rattle.folder_judging.specs.Counts.{with_reads, ChecksAtMost, none, bodies, HasChecked, CountsChecks, HasReadSome, Counts}

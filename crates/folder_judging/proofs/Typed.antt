@@ -7,8 +7,8 @@ use Rattle.std.proofs.lemmas.Option.{slice_get_within, get_or_from_slice_get}
 use Rattle.sj_names.specs.declared.method_names.Member.{Member}
 use Rattle.sj_trees.specs.declared.classes.MethodDef.{MethodDef}
 use Rattle.sj_ask.proofs.One.{one_method}
-use Rattle.typing_rules.specs.Typed.{IsTyped, IsUntyped}
-use Rattle.sj_verdicts.proofs.OneVerdict.{has_one_verdict}
+use Rattle.sj_typing_spec.specs.Typed.{IsTyped, IsUntyped}
+use Rattle.sj_typing_verdicts.proofs.OneVerdict.{has_one_verdict}
 use Rattle.sj_world.specs.Known.{Classes, is_same}
 use Rattle.sj_world.specs.Linked.{Linked}
 use Rattle.sj_world.specs.Refusals.{is_before}
@@ -16,8 +16,8 @@ use Rattle.sj_world.proofs.Orders.{before_not_after, before_trans, differs_after
 use Rattle.sj_world.proofs.Searches.{contains_at, stands_at}
 use Rattle.sj_reach.specs.Answers.{comes_first, first_told}
 use Rattle.sj_reach.specs.declared.findings.Report.{Report}
-use Rattle.reach_rules.specs.Refusals.{spelled_member}
-use Rattle.folder_verdicts.specs.Stages.{rule_at}
+use Rattle.sj_reach_spec.specs.Refusals.{spelled_member}
+use Rattle.folder_judging_spec.specs.Stages.{rule_at}
 use Rattle.folder_judging.specs.Bodies.{is_spelled_before, AreInOrder}
 use Rattle.folder_judging.specs.Types.{IsTypedAt, FailsAt, IsWithBody, kept, fails, IsFailing, IsLeastFailing, IsLeastAmong, IsNeeded, IsLeastUntypedIn, is_told_before}
 use Rattle.folder_judging.specs.declared.bodies.SpelledBody.{SpelledBody}

@@ -5,7 +5,7 @@ use Rattle.sj_names.specs.declared.method_names.Member.{Member}
 use Rattle.sj_world.specs.Refusals.{is_before}
 use Rattle.sj_world.specs.declared.facts.Fact.{Fact}
 use Rattle.sj_world.specs.declared.facts.Fact.TheVariants as fact
-use Rattle.reach_rules.specs.Refusals.{spelled_member}
+use Rattle.sj_reach_spec.specs.Refusals.{spelled_member}
 use Rattle.folder_judging.specs.Counts.{members_of, bodies_among}
 use Rattle.folder_judging.specs.declared.bodies.SpelledBody.{SpelledBody}
 

@@ -7,11 +7,11 @@ use Rattle.sj_world.specs.Linked.{Linked}
 use Rattle.sj_world.specs.Refusals.{IsWorldOf}
 use Rattle.sj_world.specs.declared.facts.Fact.{Fact}
 use Rattle.sj_reach.specs.Answers.{AreReachable}
-use Rattle.entry_rules.specs.Entries.{AreEntries}
+use Rattle.sj_baselink_spec.specs.Entries.{AreEntries}
 use Rattle.folder_sizes.specs.Sizes.{IsTooLarge}
 use Rattle.folder_sizes.specs.Files.{sizes}
-use Rattle.folder_verdicts.specs.Stages.{AreRead, KeepRules}
-use Rattle.folder_verdicts.specs.Verdicts.{Verdict, accepted}
+use Rattle.folder_judging_spec.specs.Stages.{AreRead, KeepRules}
+use Rattle.folder_judging_spec.specs.Verdicts.{Verdict, accepted}
 use Rattle.folder_judging.specs.declared.errors.JudgeError.{JudgeError}
 use Rattle.folder_judging.specs.Refusals.{IsRefusal}
 

@@ -5,7 +5,7 @@ pub mod Rules
 pub mod Bodies
 pub mod Types
 pub mod Judging
-pub use Rattle.entry_rules.specs.Entries
-pub use Rattle.folder_verdicts.specs.Stages
-pub use Rattle.typing_rules.specs.Typed
-pub use Rattle.folder_verdicts.specs.Verdicts
+pub use Rattle.sj_baselink_spec.specs.Entries
+pub use Rattle.folder_judging_spec.specs.Stages
+pub use Rattle.sj_typing_spec.specs.Typed
+pub use Rattle.folder_judging_spec.specs.Verdicts

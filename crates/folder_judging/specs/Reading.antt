@@ -3,8 +3,8 @@ use Rattle.std.specs.Prelude.{◌≡◌, ◌<◌, ◌++◌, List, codes, decimal
 use Rattle.std.specs.List.{All, Contains}
 use Rattle.sj_names.specs.declared.folders.SourceFile.{SourceFile}
 use Rattle.sj_trees.specs.Refusals.{number_of}
-use Rattle.folder_verdicts.specs.Stages.{HasFault}
-use Rattle.folder_verdicts.specs.Verdicts.{Verdict, refused}
+use Rattle.folder_judging_spec.specs.Stages.{HasFault}
+use Rattle.folder_judging_spec.specs.Verdicts.{Verdict, refused}
 
 -- the file fails, and this is told of it
 pub record IsFaultOf (file : SourceFile) (v : Verdict) : Type 0 where

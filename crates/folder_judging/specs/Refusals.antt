@@ -2,7 +2,7 @@
 use Rattle.std.specs.Prelude.{◌≡◌, ℕ, List, Result, Ok, Err}
 use Rattle.folder_judging.specs.declared.errors.JudgeError.{JudgeError}
 use Rattle.folder_judging.specs.declared.errors.JudgeError.TheVariants.{Refused, NoMemory}
-use Rattle.folder_verdicts.specs.Verdicts.{Verdict, refused}
+use Rattle.folder_judging_spec.specs.Verdicts.{Verdict, refused}
 
 -- the refusal of a verdict is answered, or that no memory was left
 abbrev pub IsRefusal : (Verdict → Type 0) → JudgeError → Type 0

@@ -6,7 +6,7 @@ use Rattle.sj_local.specs.Broken.{FirstBroken}
 use Rattle.sj_world.specs.Known.{Classes}
 use Rattle.sj_reach.specs.declared.findings.Report.{Report}
 use Rattle.sj_reach.specs.Answers.{first_told}
-use Rattle.folder_verdicts.specs.Stages.{rule_at, IsLeastBroken, KeepRules}
+use Rattle.folder_judging_spec.specs.Stages.{rule_at, IsLeastBroken, KeepRules}
 
 -- this is the first rule that the class breaks
 pub record BreaksFirst (class : ClassDef) (rule : ℕ) : Type 0 where

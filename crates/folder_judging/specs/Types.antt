@@ -4,7 +4,7 @@ use Rattle.sj_names.specs.declared.counters.Meter.{Meter}
 use Rattle.sj_names.specs.declared.memory.NoMemory.{NoMemory}
 use Rattle.sj_names.specs.declared.method_names.Member.{Member}
 use Rattle.sj_trees.specs.declared.classes.MethodDef.{MethodDef}
-use Rattle.typing_rules.specs.Typed.{IsTyped, IsUntyped}
+use Rattle.sj_typing_spec.specs.Typed.{IsTyped, IsUntyped}
 use Rattle.sj_world.specs.Known.{Classes}
 use Rattle.sj_world.specs.Linked.{Linked}
 use Rattle.sj_world.specs.Members.{IsMethodOf}
@@ -13,9 +13,9 @@ use Rattle.sj_world.specs.declared.facts.Fact.{Fact}
 use Rattle.sj_world.specs.declared.facts.Fact.TheVariants as fact
 use Rattle.sj_reach.specs.Answers.{comes_first, first_told}
 use Rattle.sj_reach.specs.declared.findings.Report.{Report}
-use Rattle.reach_rules.specs.Refusals.{spelled_member}
-use Rattle.folder_verdicts.specs.Stages.{rule_at, IsDefined}
-use Rattle.folder_verdicts.specs.Verdicts.{Verdict, refused}
+use Rattle.sj_reach_spec.specs.Refusals.{spelled_member}
+use Rattle.folder_judging_spec.specs.Stages.{rule_at, IsDefined}
+use Rattle.folder_judging_spec.specs.Verdicts.{Verdict, refused}
 use Rattle.folder_judging.specs.declared.errors.JudgeError.{JudgeError}
 use Rattle.folder_judging.specs.Counts.{with_checks, bodies_among}
 use Rattle.folder_judging.specs.declared.bodies.SpelledBody.{SpelledBody}

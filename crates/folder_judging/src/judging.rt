@@ -2,8 +2,8 @@
 ghost use Rattle.std.specs.Prelude.{◌≡◌, ◌++◌, List, IfOk, Ok, MatchOption, MatchResult, codes, decimal};
 ghost use Rattle.sj_names.specs.declared.entry_points.EntryPoint.{EntryPoint};
 ghost use Rattle.sj_reach.specs.Answers.{AreReachable};
-ghost use Rattle.folder_verdicts.specs.Stages.{KeepRules};
-ghost use Rattle.folder_verdicts.specs.Verdicts.{IsVerdict, ByFiles, ByNames, ByReferences};
+ghost use Rattle.folder_judging_spec.specs.Stages.{KeepRules};
+ghost use Rattle.folder_judging_spec.specs.Verdicts.{IsVerdict, ByFiles, ByNames, ByReferences};
 ghost use Rattle.folder_judging.specs.Counts.{Counts, CountsChecks};
 ghost use Rattle.folder_judging.specs.Judging.{Judges, IsLinked, IsLinkedOf, IsLinkedFolder, AreFactsOf, AreFactsRead, AreFactsIn, IsKeptWorld};
 ghost use Rattle.folder_judging.specs.Reading.{HaveBytes};

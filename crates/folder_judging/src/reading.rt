@@ -1,10 +1,10 @@
 // Files that are read.
 ghost use Rattle.std.specs.Prelude.{◌≡◌, ◌<◌, List, IfOk, MatchResult};
 ghost use Rattle.std.specs.List.{All};
-ghost use Rattle.sj_format.specs.Files.{FileIs};
+ghost use Rattle.sj_read_spec.specs.Files.{FileIs};
 ghost use Rattle.sj_names.specs.declared.entry_points.EntryPoint.{EntryPoint};
-ghost use Rattle.folder_verdicts.specs.Stages.{AreRead};
-ghost use Rattle.folder_verdicts.specs.Verdicts.{ByFiles};
+ghost use Rattle.folder_judging_spec.specs.Stages.{AreRead};
+ghost use Rattle.folder_judging_spec.specs.Verdicts.{ByFiles};
 ghost use Rattle.folder_judging.specs.Counts.{with_reads, HasRead};
 ghost use Rattle.folder_judging.specs.Refusals.{IsRefusal};
 ghost use Rattle.folder_judging.specs.Reading.{HaveBytes, IsFaultOf};

@@ -1,9 +1,9 @@
 // The types of bodies.
 ghost use Rattle.std.specs.Prelude.{◌≡◌, IfOk, IsSome, MatchOption, MatchResult, None};
-ghost use Rattle.typing_rules.specs.Typed.{IsTyped};
+ghost use Rattle.sj_typing_spec.specs.Typed.{IsTyped};
 ghost use Rattle.sj_world.specs.Members.{IsMethodOf, HasNoMethod};
 ghost use Rattle.folder_judging.specs.Bodies.{AreInOrder};
-ghost use Rattle.folder_verdicts.specs.Stages.{IsDefined};
+ghost use Rattle.folder_judging_spec.specs.Stages.{IsDefined};
 ghost use Rattle.folder_judging.specs.Types.{AreDefined, FailsFirst, IsChecked, IsWithBody, IsLeastUntypedIn, is_told_before, IsToldUntyped, ChecksOne, ChecksBodies, ChecksTypes};
 ghost use Rattle.folder_judging.specs.Refusals.{IsRefusal};
 

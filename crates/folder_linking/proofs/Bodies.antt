@@ -6,10 +6,10 @@ use Rattle.std.proofs.lemmas.List.Elements.{Contains-push_cases}
 use Rattle.dispatch_laws.specs.Targets.{lookup_in}
 use Rattle.js_tree.specs.Rules.{IsPiece}
 use Rattle.js_tree.specs.Views.{piece_view}
-use Rattle.sj_desugarer.specs.Methods.{method_desugared, desugared_with}
-use Rattle.sj_emit_expr.specs.Members.{member_piece}
+use Rattle.sj_desugar.specs.Methods.{method_desugared, desugared_with}
+use Rattle.sj_emit_expr_spec.specs.Members.{member_piece}
 use Rattle.sj_names.specs.declared.method_names.Member.{Member}
-use Rattle.sj_pieces.specs.Owners.{BodyOnObjects}
+use Rattle.sj_emit_expr_pieces.specs.Owners.{BodyOnObjects}
 use Rattle.sj_trees.specs.Term.{Term}
 use Rattle.sj_trees.specs.declared.classes.MethodDef.{MethodDef}
 use Rattle.sj_world.specs.Known.{Classes}

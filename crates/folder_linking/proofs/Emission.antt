@@ -3,8 +3,8 @@ use Rattle.std.proofs.Common.{◌≡◌, Bool, true, false, List, [], ◌∷◌,
 use Rattle.std.proofs.lemmas.List.Elements.{All-head, All-tail}
 use Rattle.dispatch_laws.proofs.Emission.{emission_finds_targets}
 use Rattle.dispatch_laws.specs.Targets.{at_owner, target_from, lookup_in}
-use Rattle.emit_questions.specs.Laws.{AsEmitted}
-use Rattle.emit_questions.specs.Task.{emitted, emitted_view}
+use Rattle.sj_emit_expr_questions.specs.Laws.{AsEmitted}
+use Rattle.sj_emit_expr_questions.specs.Task.{emitted, emitted_view}
 use Rattle.ir_mean.specs.Dispatch.{Found, body_at, first_of, methods_in, is_body, or_found, nearest, or_default, default_of, least_class, candidates, chain_of, resolved}
 use Rattle.js_tree.specs.declared.items.JsMember.{JsMember}
 use Rattle.sj_ask.specs.Answers.{IsAnswer}
@@ -16,8 +16,8 @@ use Rattle.sj_names.specs.declared.method_names.Member.{Member}
 use Rattle.sj_names.specs.declared.method_names.MethodName.{MethodName}
 use Rattle.sj_names.specs.declared.method_names.Namespace.{Namespace}
 use Rattle.sj_names.specs.declared.method_names.Namespace.TheVariants.{Public}
-use Rattle.sj_pieces.specs.Fits.{TargetsFit}
-use Rattle.sj_pieces.specs.Ranges.{AreBytes, FitsMember}
+use Rattle.sj_emit_expr_pieces.specs.Fits.{TargetsFit}
+use Rattle.sj_emit_expr_pieces.specs.Ranges.{AreBytes, FitsMember}
 use Rattle.sj_trees.specs.declared.classes.ClassDef.{ClassDef}
 use Rattle.sj_trees.specs.declared.classes.MethodDef.{MethodDef}
 use Rattle.sj_world.proofs.Orders.{same_name}

@@ -10,7 +10,7 @@ use Rattle.js_tree.specs.Rules.{IsPiece}
 use Rattle.js_tree.specs.Terms.{Piece}
 use Rattle.js_tree.specs.Views.{piece_view}
 use Rattle.js_tree.specs.declared.items.JsPiece.{JsPiece}
-use Rattle.body_soundness.specs.EmittedMethods.{EmittedMethod, HaveOwnMembers}
+use Rattle.agree_soundness.specs.EmittedMethods.{EmittedMethod, HaveOwnMembers}
 use Rattle.world_pieces.specs.EmittedMethods.{HasFunction}
 use Rattle.sj_names.proofs.Equal.{member_decides}
 use Rattle.sj_names.specs.contracts.method_names.MemberPartialEq.TheImpl as member_eq
@@ -23,7 +23,7 @@ use Rattle.sj_world.specs.Known.{Classes}
 use Rattle.sj_world.specs.Linked.{Linked}
 use Rattle.sj_world.specs.declared.facts.Fact.{Fact}
 use Rattle.sj_world.specs.declared.facts.Fact.TheVariants as fact
-use Rattle.folder_judging.proofs.FolderVerdictsDefined.{needed_bodies}
+use Rattle.folder_judging.proofs.FolderJudgingSpecDefined.{needed_bodies}
 use Rattle.folder_judging.specs.Stages.{IsDefined, KeepRules}
 use Rattle.worklist.proofs.Inserted.{nothing_in}
 use Rattle.linked_modules.specs.Bodies.{AreBodies}

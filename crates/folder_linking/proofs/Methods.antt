@@ -5,8 +5,8 @@ use Rattle.std.specs.List.{All}
 use Rattle.js_tree.specs.Rules.{IsPiece}
 use Rattle.js_tree.specs.Views.{piece_view}
 use Rattle.world_pieces.specs.Pieces.{piece_of_member}
-use Rattle.body_soundness.specs.EmittedMethods.{EmittedMethod}
-use Rattle.sj_pieces.specs.Owners.{OnObjects}
+use Rattle.agree_soundness.specs.EmittedMethods.{EmittedMethod}
+use Rattle.sj_emit_expr_pieces.specs.Owners.{OnObjects}
 use Rattle.sj_split.proofs.Members.{at_first, further, cons_cases}
 use Rattle.sj_world.specs.Known.{Classes}
 use Rattle.worklist.proofs.Inserted.{nothing_in}

@@ -8,24 +8,24 @@ use Rattle.linked_modules.proofs.Objects as objects
 use Rattle.linked_modules.proofs.Worlds.{judged}
 use Rattle.linked_modules.specs.Accepted.{IsAccepted}
 use Rattle.linked_modules.specs.Bodies.{AreBodies}
-use Rattle.body_soundness.proofs.Chains.{no_primitive}
-use Rattle.body_soundness.specs.Worlds.{AreClassesKept, HasFields}
+use Rattle.agree_soundness.proofs.Chains.{no_primitive}
+use Rattle.agree_soundness.specs.Worlds.{AreClassesKept, HasFields}
 use Rattle.linked_modules.proofs.Given.{all_from}
 use Rattle.linked_modules.proofs.Standing.{Stands, each_stands}
 use Rattle.linked_modules.proofs.Uses.{ahead, after}
 use Rattle.linked_modules.proofs.Written as written
-use Rattle.file_listings.specs.Listed.{AreBytes}
+use Rattle.sj_text_files.specs.Listed.{AreBytes}
 use Rattle.linked_modules.proofs.Fields.{field_there}
 use Rattle.sj_reach.specs.Refusals.{hijacked}
-use Rattle.sj_desugar.specs.Desugar.{desugared_member}
-use Rattle.sj_desugarer.specs.Methods.{desugared_with}
+use Rattle.sj_desugar_spec.specs.Desugar.{desugared_member}
+use Rattle.sj_desugar.specs.Methods.{desugared_with}
 use Rattle.sj_infos.specs.Trees.{trees, all_below, cases_below}
 use Rattle.sj_names.proofs.Same.{impossible}
 use Rattle.sj_names.specs.declared.entry_points.EntryPoint.{EntryPoint}
 use Rattle.sj_names.specs.declared.folders.SourceFile.{SourceFile}
-use Rattle.sj_pieces.specs.Keys.{HasKeys}
-use Rattle.sj_pieces.specs.Owners.{OnObjects, AllOnObjects, CasesOnObjects, BodyOnObjects, FieldsHaveOwners}
-use Rattle.body_soundness.specs.EmittedMethods.{EmittedMethod}
+use Rattle.sj_emit_expr_pieces.specs.Keys.{HasKeys}
+use Rattle.sj_emit_expr_pieces.specs.Owners.{OnObjects, AllOnObjects, CasesOnObjects, BodyOnObjects, FieldsHaveOwners}
+use Rattle.agree_soundness.specs.EmittedMethods.{EmittedMethod}
 use Rattle.sj_trees.specs.Term.{Term, Terms, no_terms, more_terms, Cases, no_cases, more_cases, var_def, block_of, labeled, assign, return_to, if_then, while_loop, do_while, throw, try_catch, try_finally, match_on, new_object, store_module, select, select_static, apply, apply_statically, apply_static, unary_op, binary_op, new_array, array_value, array_length, array_select, is_instance_of, as_instance_of, var_ref, log_line}
 use Rattle.sj_trees.specs.TypeOf.{type_of_term}
 use Rattle.sj_trees.specs.Types.{class_type}
@@ -38,7 +38,7 @@ use Rattle.sj_names.specs.WellKnown.{is_hijacked}
 use Rattle.sj_world.specs.Known.{Name, Classes}
 use Rattle.sj_world.specs.Subtypes.{IsSub, hijacked_class}
 use Rattle.sure_receivers.specs.Sure.{is_sure_type}
-use Rattle.body_soundness.specs.TypingRulesRules.{HasFieldType, IsArray, HasItems}
+use Rattle.agree_soundness.specs.SjTypingSpecRules.{HasFieldType, IsArray, HasItems}
 use Rattle.folder_judging.specs.Typed.{MeetsThere}
 
 -- a field, a length or an item is one of no tree of a primitive type

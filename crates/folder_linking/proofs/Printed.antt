@@ -11,17 +11,17 @@ use Rattle.linked_modules.proofs.Blocks.{method_there}
 use Rattle.linked_modules.proofs.Calls.{entry}
 use Rattle.linked_modules.proofs.Members.{defined}
 use Rattle.world_pieces.proofs.Same.{has_function-is}
-use Rattle.body_soundness.specs.EmittedMethods.{EmittedMethod}
-use Rattle.body_soundness.specs.Emitted.{initializer_member}
+use Rattle.agree_soundness.specs.EmittedMethods.{EmittedMethod}
+use Rattle.agree_soundness.specs.Emitted.{initializer_member}
 use Rattle.world_pieces.specs.Pieces.{piece_of_member}
 use Rattle.linked_modules.proofs.Entries.{initializer_of}
 use Rattle.linked_modules.specs.Files.{IsFileOf, AreFilesOf}
 use Rattle.module_names.specs.Names.{sha1_digest}
-use Rattle.module_rules.specs.Calls.{call_item_of}
-use Rattle.module_rules.specs.Laws.{ModulesKeepRules, PlansNameFiles}
-use Rattle.module_rules.specs.Modules.{IsModuleOf}
-use Rattle.plan_laws.specs.Laws.{AreCountable}
-use Rattle.sj_emit_expr.specs.Templates.{member_name}
+use Rattle.sj_emit_module_spec.specs.Calls.{call_item_of}
+use Rattle.sj_emit_module_spec.specs.Laws.{ModulesKeepRules, PlansNameFiles}
+use Rattle.sj_emit_module_spec.specs.Modules.{IsModuleOf}
+use Rattle.sj_split_laws.specs.Laws.{AreCountable}
+use Rattle.sj_emit_expr_spec.specs.Templates.{member_name}
 use Rattle.sj_graph.specs.References.{IsGraph}
 use Rattle.sj_graph.specs.declared.graphs.Graph.{Graph}
 use Rattle.sj_names.specs.EntryPoints.{AreEntries}

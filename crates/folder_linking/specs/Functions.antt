@@ -5,8 +5,8 @@ use Rattle.js_tree.specs.declared.items.JsPiece.{JsPiece}
 use Rattle.js_tree.specs.Rules.{IsPiece}
 use Rattle.js_tree.specs.Views.{piece_view}
 use Rattle.world_pieces.specs.Pieces.{piece_of_member}
-use Rattle.body_soundness.specs.EmittedMethods.{EmittedMethod}
-use Rattle.sj_pieces.specs.Owners.{OnObjects}
+use Rattle.agree_soundness.specs.EmittedMethods.{EmittedMethod}
+use Rattle.sj_emit_expr_pieces.specs.Owners.{OnObjects}
 use Rattle.sj_names.specs.declared.method_names.Member.{Member}
 use Rattle.sj_world.specs.Known.{Classes}
 use Rattle.linked_modules.specs.Bodies.{IsFound}

@@ -4,7 +4,7 @@ use Rattle.std.specs.List.{All, Contains}
 use Rattle.folder_judging.specs.Entries.{AreEntries}
 use Rattle.js_tree.specs.Rules.{IsPiece}
 use Rattle.js_tree.specs.Terms.{Piece}
-use Rattle.file_listings.specs.Listed.{AreBytes}
+use Rattle.sj_text_files.specs.Listed.{AreBytes}
 use Rattle.sj_names.specs.EntryPoints.{AreEntries as AreValid}
 use Rattle.sj_names.specs.declared.entry_points.EntryPoint.{EntryPoint}
 use Rattle.sj_names.specs.declared.folders.SourceFile.{SourceFile}
@@ -15,7 +15,7 @@ use Rattle.linked_modules.specs.Accepted.{IsAccepted}
 use Rattle.js_mean.specs.Shows.{File}
 use Rattle.linked_modules.specs.LinkedFoldersLink.{ArePieces}
 use Rattle.linked_modules.specs.Link.{IsLink}
-use Rattle.plan_laws.specs.Laws.{AreCountable}
+use Rattle.sj_split_laws.specs.Laws.{AreCountable}
 use Rattle.sj_split.specs.declared.plans.Style.{Style}
 
 -- the world of a folder of bytes that is accepted, with all that is reachable in it and its method entries

@@ -5,7 +5,7 @@ use Rattle.js_mean.specs.Shows.{File}
 use Rattle.js_tree.specs.Rules.{IsModule}
 use Rattle.js_tree.specs.Terms.{Piece}
 use Rattle.linked_modules.specs.Files.{IsFileOf}
-use Rattle.module_rules.specs.Modules.{module_of}
+use Rattle.sj_emit_module_spec.specs.Modules.{module_of}
 use Rattle.sj_emit_module.specs.Shares.{AreShares}
 use Rattle.sj_emit_module.specs.declared.shares.Shares.{Shares}
 use Rattle.sj_split.specs.declared.plans.PlannedModule.{PlannedModule}

@@ -2,13 +2,13 @@
 ghost use Rattle.std.specs.Prelude.{◌≡◌, All, IfOk, length, map, true};
 ghost use Rattle.std.specs.List.{Contains};
 ghost use Rattle.dispatch_laws.specs.Targets.{lookup_in};
-ghost use Rattle.emit_questions.specs.Task.{emitted, emitted_view};
+ghost use Rattle.sj_emit_expr_questions.specs.Task.{emitted, emitted_view};
 ghost use Rattle.js_tree.specs.Views.{piece_view};
 ghost use Rattle.sj_core.specs.Views.{method_view};
-ghost use Rattle.sj_desugarer.specs.Methods.{method_desugared};
-ghost use Rattle.sj_emit_expr.specs.Members as members;
-ghost use Rattle.sj_pieces.specs.Owners.{BodyOnObjects};
-ghost use Rattle.sj_pieces.specs.Ranges.{AreBytes};
+ghost use Rattle.sj_desugar.specs.Methods.{method_desugared};
+ghost use Rattle.sj_emit_expr_spec.specs.Members as members;
+ghost use Rattle.sj_emit_expr_pieces.specs.Owners.{BodyOnObjects};
+ghost use Rattle.sj_emit_expr_pieces.specs.Ranges.{AreBytes};
 ghost use Rattle.js_tree.specs.Rules.{IsPiece};
 ghost use Rattle.sj_names.specs.declared.method_names.Member.{Member};
 ghost use Rattle.sj_world.specs.Known.{names_of};
@@ -20,14 +20,16 @@ ghost use Rattle.folder_linking.specs.Counts.{Emits};
 ghost use Rattle.folder_linking.specs.Functions.{AreFunctions, IsFunction};
 
 use crate::members::needed_members;
-use class_printing::name_fits;
 use folder_judging::definition_of;
 use js_tree::{JsMember, JsPiece};
 use sj_ask::WorldOracle;
 use sj_core::CoreMethod;
-use sj_desugarer::desugar;
+use sj_desugar::desugar;
+use sj_emit_class_printing::name_fits;
+use sj_emit_expr_pieces::{
+    desugared_fields_have_owners, desugared_members_have_keys, member_piece,
+};
 use sj_names::{Member, NoMemory};
-use sj_pieces::{desugared_fields_have_owners, desugared_members_have_keys, member_piece};
 use sj_recorder::Recorder;
 use sj_trees::{ClassDef, MethodDef};
 use sj_workers::Workers;

@@ -6,14 +6,14 @@ ghost use Rattle.folder_linking.specs.Counts.{Emits};
 ghost use Rattle.folder_linking.specs.Functions.{AreFunctions, piece};
 ghost use Rattle.folder_linking.specs.Linking.{ArePrintable, IsCountableLink, IsLinkable};
 ghost use Rattle.folder_linking.specs.Modules.{as_file};
-ghost use Rattle.plan_laws.specs.Laws.{AreCountable};
+ghost use Rattle.sj_split_laws.specs.Laws.{AreCountable};
 ghost use Rattle.sj_names.specs.EntryPoints.{AreEntries};
 
 use crate::ModuleFile;
 use crate::functions::{Function, functions_of_bodies};
 use crate::modules::printed_files;
 use js_tree::JsPiece;
-use module_rules::{modules_keep_rules, plans_name_files};
+use sj_emit_module_spec::{modules_keep_rules, plans_name_files};
 use sj_graph::{Graph, graph};
 use sj_names::{Entries, NoMemory};
 use sj_split::{Style, plan};

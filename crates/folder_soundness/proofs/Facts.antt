@@ -10,7 +10,7 @@ use Rattle.declared_pieces.proofs.Plain.{class_found}
 use Rattle.declared_pieces.specs.Reachable.{Reachable, Unresolved}
 use Rattle.declared_pieces.specs.Refusals.{Refusal}
 use Rattle.declared_pieces.specs.Rules.{Rule, Reads, load_needed, load_used, field_needed, call, reflective}
-use Rattle.folder_verdicts.proofs.Undenied.{Undenied, granted, and_so, decided, here, there, first_or_later}
+use Rattle.folder_judging_spec.proofs.Undenied.{Undenied, granted, and_so, decided, here, there, first_or_later}
 use Rattle.object_helpers.specs.Worlds.{AreClassesKept}
 use Rattle.sj_infos.specs.Infos.{asked_by}
 use Rattle.sj_infos.specs.declared.infos.Info.{Info}

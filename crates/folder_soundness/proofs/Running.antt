@@ -19,7 +19,7 @@ use Rattle.declared_pieces.proofs.Proxies.{proxy_right}
 use Rattle.declared_pieces.proofs.Reached.{target_of, called_free, kind_target, name_read, listed, called_by, loaded, answered as target_answers, named as name_answers, unnamed}
 use Rattle.declared_pieces.specs.Accepted.{IsAccepted}
 use Rattle.declared_pieces.specs.Bodies.{AreBodies}
-use Rattle.declared_pieces.specs.BodySoundnessLaws.{IsClassBelow, made_below, kind_below, Answers, AnswersByName}
+use Rattle.declared_pieces.specs.AgreeSoundnessLaws.{IsClassBelow, made_below, kind_below, Answers, AnswersByName}
 use Rattle.declared_pieces.specs.Built.{Usable}
 use Rattle.declared_pieces.specs.Dispatch.{IsReachedTarget}
 use Rattle.declared_pieces.specs.Emitted.{initializer_member}
@@ -33,14 +33,14 @@ use Rattle.declared_pieces.specs.Running.{CanBeThrown, CanRun}
 use Rattle.declared_pieces.specs.Used.{used_of, makes, calls_on, tells_apart, is_among, is_cast, uses_reflective, is_called_by}
 use Rattle.declared_pieces.specs.Written.{AreWrittenWith}
 use Rattle.declared_pieces.specs.Targets.{has_hijacked_in}
-use Rattle.file_listings.specs.Listed.{AreBytes}
-use Rattle.helper_rules.specs.Helpers.{failure_class}
-use Rattle.helper_rules.specs.Words.{kind_class}
-use Rattle.helper_rules.specs.declared.kinds.Failure.{Failure}
-use Rattle.helper_rules.specs.declared.kinds.Failure.TheVariants.{Cast, Method}
-use Rattle.helper_rules.specs.declared.kinds.Helper.{Helper}
-use Rattle.helper_rules.specs.declared.kinds.Helper.TheVariants.{Throws}
-use Rattle.helper_rules.specs.declared.kinds.Kind.{Kind}
+use Rattle.sj_text_files.specs.Listed.{AreBytes}
+use Rattle.sj_emit_help_spec.specs.Helpers.{failure_class}
+use Rattle.sj_emit_help_spec.specs.Words.{kind_class}
+use Rattle.sj_emit_help_spec.specs.declared.kinds.Failure.{Failure}
+use Rattle.sj_emit_help_spec.specs.declared.kinds.Failure.TheVariants.{Cast, Method}
+use Rattle.sj_emit_help_spec.specs.declared.kinds.Helper.{Helper}
+use Rattle.sj_emit_help_spec.specs.declared.kinds.Helper.TheVariants.{Throws}
+use Rattle.sj_emit_help_spec.specs.declared.kinds.Kind.{Kind}
 use Rattle.ir_mean.specs.Dispatch.{is_ancestor, proxy_target}
 use Rattle.js_tree.specs.Terms.{Piece}
 use Rattle.js_tree.specs.declared.items.Binding.{Binding}

@@ -1,6 +1,6 @@
 -- What an accepted folder shows is wrong at no bound: its bodies, the facts that are reachable in it, the classes that live and the helpers can be listed, so what its bodies use can run.
 use Rattle.std.proofs.Common.{◌↔◌, ℕ, List, Contains}
-use Rattle.body_soundness.proofs.Modules.{never_wrong}
+use Rattle.agree_soundness.proofs.Modules.{never_wrong}
 use Rattle.declared_pieces.proofs.Assembled.{laws_of}
 use Rattle.declared_pieces.proofs.Entered.{initializers_among}
 use Rattle.declared_pieces.proofs.Judged.{judged_plain}
@@ -13,9 +13,9 @@ use Rattle.declared_pieces.specs.Bodies.{AreBodies}
 use Rattle.declared_pieces.specs.EmittedMethods.{EmittedMethod}
 use Rattle.declared_pieces.specs.Entries.{IsLive}
 use Rattle.declared_pieces.specs.Reachable.{Reachable}
-use Rattle.file_listings.specs.Listed.{AreBytes}
-use Rattle.folder_verdicts.proofs.Undenied.{Undenied, granted, and_so}
-use Rattle.helper_rules.specs.declared.kinds.Helper.{Helper}
+use Rattle.sj_text_files.specs.Listed.{AreBytes}
+use Rattle.folder_judging_spec.proofs.Undenied.{Undenied, granted, and_so}
+use Rattle.sj_emit_help_spec.specs.declared.kinds.Helper.{Helper}
 use Rattle.ir_mean.specs.Shows.{ir_shows}
 use Rattle.outcomes.specs.Agreement.{IsNotWrong}
 use Rattle.outcomes.specs.Outcome.{End, Done, Going, Wrong}

@@ -1,7 +1,7 @@
 -- The law on what an accepted folder shows.
 use Rattle.std.specs.Prelude.{ℕ, List, Contains}
 use Rattle.declared_pieces.specs.Accepted.{IsAccepted}
-use Rattle.file_listings.specs.Listed.{AreBytes}
+use Rattle.sj_text_files.specs.Listed.{AreBytes}
 use Rattle.ir_mean.specs.Shows.{ir_shows}
 use Rattle.outcomes.specs.Agreement.{IsNotWrong}
 use Rattle.sj_names.specs.declared.entry_points.EntryPoint.{EntryPoint}

@@ -5,11 +5,11 @@
 ghost use Rattle.std.specs.Prelude.{◌≤◌, IfSome};
 
 use anyhow::Result;
-use file_listings::{each_class_of_a_file_has_a_listing, each_is_a_byte};
-use listing_print::print_listing;
 use sj_gen::folder;
 use sj_names::{Meter, NoMemory, SourceFile};
 use sj_read::read_class;
+use sj_text_files::{each_class_of_a_file_has_a_listing, each_is_a_byte};
+use sj_text_print::print_listing;
 use sj_trees::ReadRefusal;
 use std::alloc::Global;
 use std::{result, str};

@@ -3,9 +3,9 @@ use Rattle.std.proofs.Common.{◌≡◌, ℕ, suc, ◌+◌, ◌-◌, ◌<◌, �
 use Rattle.exact_place.specs.Reading.{Reading, ◌>>=◌, passes, walk_at, end_at, map_at}
 use Rattle.js_tree.specs.Terms.{Name, Item, Module}
 use Rattle.js_tree.specs.declared.items.JsImport.{JsImport}
-use Rattle.js_spelling.specs.declared.words.Stage.{Stage}
-use Rattle.js_spelling.specs.declared.words.Stage.TheVariants as stages
-use Rattle.js_spelling.specs.Modules.{Line, import_line, item_line, export_line, line_at, is_imports, goes_on, stage_after, module_of, module_lines_at, module_at}
+use Rattle.js_read_spec.specs.declared.words.Stage.{Stage}
+use Rattle.js_read_spec.specs.declared.words.Stage.TheVariants as stages
+use Rattle.js_read_spec.specs.Modules.{Line, import_line, item_line, export_line, line_at, is_imports, goes_on, stage_after, module_of, module_lines_at, module_at}
 use Rattle.text_scan.specs.declared.stop.Stop.{Stop}
 use Rattle.text_scan.specs.declared.stop.Stop.TheVariants as stops
 use Rattle.js_read.specs.declared.modules.Reached.{Reached}

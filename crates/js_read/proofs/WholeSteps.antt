@@ -5,8 +5,8 @@ use Rattle.exact_place.specs.Reading.{Reading}
 use Rattle.exact_place.proofs.Steps.{good_is}
 use Rattle.js_tree.specs.Terms.{Module}
 use Rattle.js_tree.specs.Spelling.{Spells}
-use Rattle.js_spelling.specs.Modules.{module_at}
-use Rattle.js_spelling.proofs.WholeModules.{module_read, module_spelled, module_place, no_module}
+use Rattle.js_read_spec.specs.Modules.{module_at}
+use Rattle.js_read_spec.proofs.WholeModules.{module_read, module_spelled, module_place, no_module}
 
 at_fuel : (bytes : List ℕ) (total : Reading Module) → module_at (length bytes + 1) bytes ≡ total → module_at (suc (length bytes)) bytes ≡ total
 at_fuel bytes total e = ap (λ (n : ℕ). module_at n bytes) (sym (add-one (length bytes))) ∙ e

@@ -2,8 +2,8 @@
 use Rattle.std.specs.Prelude.{List, ◌++◌, map}
 use Rattle.js_tree.specs.Terms.{Name, Module}
 use Rattle.js_tree.specs.Views.{item_view}
-use Rattle.js_spelling.specs.declared.words.Stage.{Stage}
-use Rattle.js_spelling.specs.declared.words.Stage.TheVariants as stages
+use Rattle.js_read_spec.specs.declared.words.Stage.{Stage}
+use Rattle.js_read_spec.specs.declared.words.Stage.TheVariants as stages
 use Rattle.js_read.specs.declared.modules.Front.{Front}
 use Rattle.js_read.specs.declared.modules.Reached.{Reached}
 use Rattle.js_read.specs.declared.modules.Reached.TheVariants as reached

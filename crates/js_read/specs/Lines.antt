@@ -1,6 +1,6 @@
 -- What a line of the code stands for.
 use Rattle.js_tree.specs.Views.{item_view}
-use Rattle.js_spelling.specs.Modules as reading
+use Rattle.js_read_spec.specs.Modules as reading
 use Rattle.js_read.specs.declared.lines.Line.{Line}
 use Rattle.js_read.specs.declared.lines.Line.TheVariants as lines
 

@@ -4,14 +4,14 @@ ghost use Rattle.exact_place.specs.Reading.{after_at, either_at, lead_at, list_a
 ghost use Rattle.js_tree.specs.Terms as terms;
 ghost use Rattle.js_tree.specs.Views as views;
 ghost use Rattle.text_scan.specs.Gives.{Gives};
-ghost use Rattle.js_spelling.specs.Tokens.{name_at};
-ghost use Rattle.js_spelling.specs.Modules as reading;
-ghost use Rattle.js_spelling.specs.declared.words.ItemHead.TheVariants as heads;
+ghost use Rattle.js_read_spec.specs.Tokens.{name_at};
+ghost use Rattle.js_read_spec.specs.Modules as reading;
+ghost use Rattle.js_read_spec.specs.declared.words.ItemHead.TheVariants as heads;
 
-use js_expressions::{expression_after, expression_before, expression_between, expression_of};
-use js_scan::{member_head_of, name_behind, name_of, property_of};
-use js_spelling::{Head, ItemHead, MemberHead};
-use js_statements::block_of;
+use js_read_expressions::{expression_after, expression_before, expression_between, expression_of};
+use js_read_scan::{member_head_of, name_behind, name_of, property_of};
+use js_read_spec::{Head, ItemHead, MemberHead};
+use js_read_statements::block_of;
 use js_tree::{ClassMember, JsBody, JsItem, ObjectProperty};
 use sj_names::{Items, Text};
 use std::alloc::Global;
@@ -27,8 +27,8 @@ struct NameItem;
 impl Item for NameItem {
     ghost use Rattle.std.specs.Prelude.{List, ℕ, ◌==◌, codes};
     ghost use Rattle.exact_place.specs.Reading.{lead_at};
-    ghost use Rattle.js_spelling.specs.Tokens.{name_at};
-    ghost use Rattle.js_spelling.specs.Expressions.{is_comma};
+    ghost use Rattle.js_read_spec.specs.Tokens.{name_at};
+    ghost use Rattle.js_read_spec.specs.Expressions.{is_comma};
 
     type Value = Text;
 
@@ -50,7 +50,7 @@ impl Item for NameItem {
 }
 
 /// One name or more.
-#[tactic(auto, unfolding(js_spelling::specs::Modules::names_at))]
+#[tactic(auto, unfolding(js_read_spec::specs::Modules::names_at))]
 pub fn names_of<'a>(
     alloc: Global,
     fuel: usize,
@@ -64,7 +64,7 @@ pub fn names_of<'a>(
 }
 
 // Parameters, behind `(`.
-#[tactic(auto, unfolding(js_spelling::specs::Modules::parameters_at))]
+#[tactic(auto, unfolding(js_read_spec::specs::Modules::parameters_at))]
 fn parameters_of<'a>(
     alloc: Global,
     fuel: usize,
@@ -83,7 +83,7 @@ fn parameters_of<'a>(
 }
 
 // `p: e`
-#[tactic(auto, unfolding(js_spelling::specs::Modules::object_property_at))]
+#[tactic(auto, unfolding(js_read_spec::specs::Modules::object_property_at))]
 fn object_property_of<'a>(
     alloc: Global,
     fuel: usize,
@@ -105,8 +105,8 @@ impl Item for PropertyItem {
     ghost use Rattle.exact_place.specs.Reading.{lead_at};
     ghost use Rattle.js_tree.specs.Terms.{Property};
     ghost use Rattle.js_tree.specs.Views.{property_view};
-    ghost use Rattle.js_spelling.specs.Modules.{object_property_at};
-    ghost use Rattle.js_spelling.specs.Expressions.{is_comma};
+    ghost use Rattle.js_read_spec.specs.Modules.{object_property_at};
+    ghost use Rattle.js_read_spec.specs.Expressions.{is_comma};
 
     type Value = ObjectProperty;
 
@@ -129,7 +129,7 @@ impl Item for PropertyItem {
 }
 
 // One property or more.
-#[tactic(auto, unfolding(js_spelling::specs::Modules::properties_at))]
+#[tactic(auto, unfolding(js_read_spec::specs::Modules::properties_at))]
 fn properties_of<'a>(
     alloc: Global,
     fuel: usize,
@@ -143,7 +143,7 @@ fn properties_of<'a>(
 }
 
 // The properties of an object and what ends its item, behind `{`.
-#[tactic(auto, unfolding(js_spelling::specs::Modules::object_at))]
+#[tactic(auto, unfolding(js_read_spec::specs::Modules::object_at))]
 fn object_of<'a>(alloc: Global, fuel: usize, name: Text, bytes: &'a [u8]) -> Read<'a>
     ensures { Gives (λ x. (views.item_view x.0, x.1.now)) result (reading.object_at fuel name bytes.now) }
 {
@@ -164,7 +164,7 @@ fn object_of<'a>(alloc: Global, fuel: usize, name: Text, bytes: &'a [u8]) -> Rea
 }
 
 // The block of a function or a member at this level.
-#[tactic(auto, unfolding(js_spelling::specs::Modules::body_at))]
+#[tactic(auto, unfolding(js_read_spec::specs::Modules::body_at))]
 fn body_of<'a>(
     alloc: Global,
     fuel: usize,
@@ -236,7 +236,7 @@ fn member_after<'a>(
 }
 
 // A member of a class and the line feed behind it.
-#[tactic(auto, unfolding(js_spelling::specs::Modules::member_at))]
+#[tactic(auto, unfolding(js_read_spec::specs::Modules::member_at))]
 fn member_of<'a>(
     alloc: Global,
     fuel: usize,
@@ -256,7 +256,7 @@ impl Item for MemberItem {
     ghost use Rattle.std.specs.Prelude.{◌==◌};
     ghost use Rattle.js_tree.specs.Terms.{Member};
     ghost use Rattle.js_tree.specs.Views.{member_view};
-    ghost use Rattle.js_spelling.specs.Modules.{member_at};
+    ghost use Rattle.js_read_spec.specs.Modules.{member_at};
 
     type Value = ClassMember;
 
@@ -278,7 +278,7 @@ impl Item for MemberItem {
 }
 
 // The members of a class in their braces.
-#[tactic(auto, unfolding(js_spelling::specs::Modules::members_at))]
+#[tactic(auto, unfolding(js_read_spec::specs::Modules::members_at))]
 fn members_of<'a>(
     alloc: Global,
     fuel: usize,
@@ -293,7 +293,7 @@ fn members_of<'a>(
 }
 
 // A constant that is no object, behind ` = `.
-#[tactic(auto, unfolding(js_spelling::specs::Modules::item_ended_at, js_scan::specs::Parts::before_at))]
+#[tactic(auto, unfolding(js_read_spec::specs::Modules::item_ended_at, js_read_scan::specs::Parts::before_at))]
 fn plain_const_of<'a>(alloc: Global, fuel: usize, name: Text, bytes: &'a [u8]) -> Read<'a>
     ensures { Gives (λ x. (views.item_view x.0, x.1.now)) result (reading.item_ended_at fuel (λ e. terms.const_item name e) bytes.now) }
 {
@@ -314,7 +314,7 @@ fn const_of<'a>(alloc: Global, fuel: usize, name: Text, bytes: &'a [u8]) -> Read
 }
 
 // What stands behind `const`.
-#[tactic(auto, unfolding(js_spelling::specs::Modules::item_after_at))]
+#[tactic(auto, unfolding(js_read_spec::specs::Modules::item_after_at))]
 fn const_after<'a>(alloc: Global, fuel: usize, bytes: &'a [u8]) -> Read<'a>
     ensures { Gives (λ x. (views.item_view x.0, x.1.now)) result (reading.item_after_at fuel heads.Const bytes.now) }
 {
@@ -324,7 +324,7 @@ fn const_after<'a>(alloc: Global, fuel: usize, bytes: &'a [u8]) -> Read<'a>
 }
 
 // What stands behind `let`.
-#[tactic(auto, unfolding(js_spelling::specs::Modules::item_after_at, js_spelling::specs::Modules::item_ended_at, js_scan::specs::Parts::before_at))]
+#[tactic(auto, unfolding(js_read_spec::specs::Modules::item_after_at, js_read_spec::specs::Modules::item_ended_at, js_read_scan::specs::Parts::before_at))]
 fn let_after<'a>(alloc: Global, fuel: usize, bytes: &'a [u8]) -> Read<'a>
     ensures { Gives (λ x. (views.item_view x.0, x.1.now)) result (reading.item_after_at fuel heads.Let bytes.now) }
 {
@@ -351,7 +351,7 @@ fn function_of<'a>(alloc: Global, fuel: usize, name: Text, bytes: &'a [u8]) -> R
 }
 
 // What stands behind `function`.
-#[tactic(auto, unfolding(js_spelling::specs::Modules::item_after_at))]
+#[tactic(auto, unfolding(js_read_spec::specs::Modules::item_after_at))]
 fn function_after<'a>(alloc: Global, fuel: usize, bytes: &'a [u8]) -> Read<'a>
     ensures { Gives (λ x. (views.item_view x.0, x.1.now)) result (reading.item_after_at fuel heads.Function bytes.now) }
 {
@@ -402,7 +402,7 @@ fn class_of<'a>(alloc: Global, fuel: usize, name: Text, bytes: &'a [u8]) -> Read
 }
 
 // What stands behind `class`.
-#[tactic(auto, unfolding(js_spelling::specs::Modules::item_after_at))]
+#[tactic(auto, unfolding(js_read_spec::specs::Modules::item_after_at))]
 fn class_after<'a>(alloc: Global, fuel: usize, bytes: &'a [u8]) -> Read<'a>
     ensures { Gives (λ x. (views.item_view x.0, x.1.now)) result (reading.item_after_at fuel heads.Class bytes.now) }
 {
@@ -412,7 +412,7 @@ fn class_after<'a>(alloc: Global, fuel: usize, bytes: &'a [u8]) -> Read<'a>
 }
 
 // An item that is an expression, behind its first word.
-#[tactic(auto, unfolding(js_spelling::specs::Modules::item_after_at))]
+#[tactic(auto, unfolding(js_read_spec::specs::Modules::item_after_at))]
 fn expression_item_after<'a>(alloc: Global, fuel: usize, head: Head, bytes: &'a [u8]) -> Read<'a>
     ensures { Gives (λ x. (views.item_view x.0, x.1.now)) result (reading.item_after_at fuel (heads.Expression head) bytes.now) }
 {

@@ -3,13 +3,13 @@ ghost use Rattle.std.specs.Prelude.{◌≡◌, codes};
 ghost use Rattle.exact_place.specs.Reading.{after_at, lead_at, value_at};
 ghost use Rattle.text_scan.specs.Gives.{Gives};
 ghost use Rattle.js_read.specs.Lines.{line_view};
-ghost use Rattle.js_spelling.specs.Modules as reading;
-ghost use Rattle.js_spelling.specs.declared.words.LineHead.TheVariants as heads;
+ghost use Rattle.js_read_spec.specs.Modules as reading;
+ghost use Rattle.js_read_spec.specs.declared.words.LineHead.TheVariants as heads;
 
 use crate::items::{item_after, names_of};
-use js_scan::{file_of, line_head_of, next_is_word_start};
-use js_spelling::{ItemHead, LineHead};
-use js_statements::wordless_of;
+use js_read_scan::{file_of, line_head_of, next_is_word_start};
+use js_read_spec::{ItemHead, LineHead};
+use js_read_statements::wordless_of;
 use js_tree::{JsImport, JsItem};
 use sj_names::{Items, Text};
 use std::alloc::Global;
@@ -37,7 +37,7 @@ fn import_of<'a>(alloc: Global, names: Items<Text>, bytes: &'a [u8]) -> Read<'a>
 }
 
 // What stands behind `import`.
-#[tactic(auto, unfolding(js_spelling::specs::Modules::line_after_at))]
+#[tactic(auto, unfolding(js_read_spec::specs::Modules::line_after_at))]
 fn import_after<'a>(alloc: Global, fuel: usize, bytes: &'a [u8]) -> Read<'a>
     ensures { Gives (λ x. (line_view x.0, x.1.now)) result (reading.line_after_at fuel heads.Import bytes.now) }
 {
@@ -47,7 +47,7 @@ fn import_after<'a>(alloc: Global, fuel: usize, bytes: &'a [u8]) -> Read<'a>
 }
 
 // What stands behind `export`.
-#[tactic(auto, unfolding(js_spelling::specs::Modules::line_after_at))]
+#[tactic(auto, unfolding(js_read_spec::specs::Modules::line_after_at))]
 fn export_after<'a>(alloc: Global, fuel: usize, bytes: &'a [u8]) -> Read<'a>
     ensures { Gives (λ x. (line_view x.0, x.1.now)) result (reading.line_after_at fuel heads.Export bytes.now) }
 {
@@ -58,7 +58,7 @@ fn export_after<'a>(alloc: Global, fuel: usize, bytes: &'a [u8]) -> Read<'a>
 }
 
 // An item and its line feed, behind its first word.
-#[tactic(auto, unfolding(js_spelling::specs::Modules::line_after_at))]
+#[tactic(auto, unfolding(js_read_spec::specs::Modules::line_after_at))]
 fn item_line_after<'a>(alloc: Global, fuel: usize, head: ItemHead, bytes: &'a [u8]) -> Read<'a>
     ensures { Gives (λ x. (line_view x.0, x.1.now)) result (reading.line_after_at fuel (heads.Item head) bytes.now) }
 {
@@ -79,7 +79,7 @@ fn line_after<'a>(alloc: Global, fuel: usize, head: LineHead, bytes: &'a [u8]) -
 }
 
 /// A line, where an import may come or not any more.
-#[tactic(auto, unfolding(js_spelling::specs::Modules::line_at))]
+#[tactic(auto, unfolding(js_read_spec::specs::Modules::line_at))]
 pub fn line_of<'a>(alloc: Global, fuel: usize, imports: bool, bytes: &'a [u8]) -> Read<'a>
     ensures { Gives (λ x. (line_view x.0, x.1.now)) result (reading.line_at fuel imports bytes.now) }
 {

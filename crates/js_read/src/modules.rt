@@ -9,7 +9,7 @@ ghost use Rattle.text_scan.specs.Gives.{Fails, Gives};
 ghost use Rattle.js_read.specs.Lines.{line_view};
 ghost use Rattle.js_read.specs.Fronts.{stage_of, exports_onto, module_onto};
 ghost use Rattle.js_read.specs.declared.lines.Line.TheVariants as lines;
-ghost use Rattle.js_spelling.specs.Modules as reading;
+ghost use Rattle.js_read_spec.specs.Modules as reading;
 
 use crate::errors::JsError;
 use crate::lines::{Line, line_of};
@@ -145,7 +145,7 @@ fn finish(alloc: Global, front: Front, bytes: &[u8]) -> Result<JsModule, Stop>
 }
 
 // The module that the bytes spell, all of them.
-#[tactic(auto, unfolding(js_spelling::specs::Modules::module_at, js_spelling::specs::Modules::module_lines_at))]
+#[tactic(auto, unfolding(js_read_spec::specs::Modules::module_at, js_read_spec::specs::Modules::module_lines_at))]
 fn whole_module(alloc: Global, fuel: usize, bytes: &[u8]) -> Result<JsModule, Stop>
     ensures { Gives (λ m. (module_view m, [])) result (reading.module_at fuel bytes.now) }
 {

@@ -3,9 +3,9 @@ use Rattle.std.proofs.Common.{ℕ, ◌<◌, List, Ok}
 use Rattle.std.specs.List.{All}
 use Rattle.sj_units.proofs.Exact as units
 use Rattle.sj_trees.specs.declared.classes.ClassDef.{ClassDef}
-use Rattle.sj_format.specs.Answers.{Reads}
-use Rattle.sj_written.specs.Classes.{NamesItsFiles}
-use Rattle.sj_written.proofs.WrittenFile.{files_there}
+use Rattle.sj_read_spec.specs.Answers.{Reads}
+use Rattle.sj_write_spec.specs.Classes.{NamesItsFiles}
+use Rattle.sj_write_spec.proofs.WrittenFile.{files_there}
 
 -- each position of a class that is read names one of its source files
 pub names_files : (file : List ℕ) (class : ClassDef) → All (λ b. b < 256) file → Reads file (Ok class) → NamesItsFiles class

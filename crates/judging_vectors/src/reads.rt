@@ -1,9 +1,9 @@
 // What the reader answers to a file.
 use crate::texts::add;
-use file_listings::{each_class_of_a_file_has_a_listing, each_is_a_byte};
-use listing_print::print_listing;
 use sj_names::{Meter, NameError};
 use sj_read::read_class;
+use sj_text_files::{each_class_of_a_file_has_a_listing, each_is_a_byte};
+use sj_text_print::print_listing;
 use sj_trees::{Code, ReadRefusal};
 use std::alloc::Global;
 use std::str;

@@ -1,8 +1,8 @@
 // The files that classes are written as.
 use crate::texts::add;
-use file_listings::each_is_a_byte;
 use sj_names::{Meter, NameError};
 use sj_read::read_class;
+use sj_text_files::each_is_a_byte;
 use sj_write::write_class;
 use std::alloc::Global;
 

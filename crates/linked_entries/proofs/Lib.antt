@@ -37,6 +37,6 @@ pub use Rattle.accepted_folders.proofs.Direct
 pub use Rattle.accepted_folders.proofs.Distinct
 pub use Rattle.linked_pieces.proofs.Equal
 pub use Rattle.accepted_folders.proofs.Kept
-pub use Rattle.accepted_folders.proofs.Targets as BuiltFormsTargets
+pub use Rattle.accepted_folders.proofs.Targets as AgreeBodyFormsTargets
 pub use Rattle.accepted_folders.proofs.Undenied
 pub use Rattle.linked_pieces.proofs.Facts

@@ -4,18 +4,18 @@ use Rattle.std.specs.Prelude.{MatchOption, nat_lt, ◌==◌}
 use Rattle.std.specs.List.{slice_get}
 use Rattle.std.proofs.lemmas.Bool.{ltb-true}
 use Rattle.std.proofs.lemmas.List.Elements.{All-contains}
-use Rattle.file_listings.proofs.Ensures.{AllOf, all_none, all_more, all_first, all_others, entry_meets}
-use Rattle.file_listings.proofs.ListedNames.{plain_base_meets, plain_reference_meets}
-use Rattle.sj_format.specs.Classes.{IsMethod, IsMemberOf, IsMember, methods_in, IsClass}
-use Rattle.sj_format.specs.Files.{IsTables, IsContents, FileIs}
-use Rattle.sj_format.specs.References as refs
-use Rattle.sj_format.specs.Spelling.{Spelling, ◌then◌, Gives_value, Never, chosen, Found, Tested, IsByte, IsNumber, IsEach, IsList}
-use Rattle.sj_format.specs.Tables as tables
-use Rattle.sj_format.specs.Tables.{Tables}
-use Rattle.sj_format.specs.declared.codes.MemberTag.{MemberTag}
-use Rattle.sj_format.specs.declared.codes.MemberTag.TheVariants as tags
-use Rattle.sj_format.specs.declared.members.MemberDef.{MemberDef}
-use Rattle.sj_format.specs.declared.members.MemberDef.TheVariants.{Field, Method}
+use Rattle.sj_text_files.proofs.Ensures.{AllOf, all_none, all_more, all_first, all_others, entry_meets}
+use Rattle.sj_text_files.proofs.ListedNames.{plain_base_meets, plain_reference_meets}
+use Rattle.sj_read_spec.specs.Classes.{IsMethod, IsMemberOf, IsMember, methods_in, IsClass}
+use Rattle.sj_read_spec.specs.Files.{IsTables, IsContents, FileIs}
+use Rattle.sj_read_spec.specs.References as refs
+use Rattle.sj_read_spec.specs.Spelling.{Spelling, ◌then◌, Gives_value, Never, chosen, Found, Tested, IsByte, IsNumber, IsEach, IsList}
+use Rattle.sj_read_spec.specs.Tables as tables
+use Rattle.sj_read_spec.specs.Tables.{Tables}
+use Rattle.sj_read_spec.specs.declared.codes.MemberTag.{MemberTag}
+use Rattle.sj_read_spec.specs.declared.codes.MemberTag.TheVariants as tags
+use Rattle.sj_read_spec.specs.declared.members.MemberDef.{MemberDef}
+use Rattle.sj_read_spec.specs.declared.members.MemberDef.TheVariants.{Field, Method}
 use Rattle.sj_names.specs.Bases.{IsBase}
 use Rattle.sj_names.specs.Grammar.{is_class_name, is_simple_name}
 use Rattle.sj_names.specs.References.{IsReference}

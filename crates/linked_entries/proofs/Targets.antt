@@ -20,7 +20,7 @@ use Rattle.sj_world.specs.Laws.{IsPlain}
 use Rattle.sj_world.specs.Paths.{IsFirst}
 use Rattle.sj_world.specs.Refusals.{HasNoCycle}
 use Rattle.sj_world.specs.Resolution.{IsBody, Answer, target, abstract, missing, Resolves, by_chain, by_ancestors, ResolvesAbove, by_default, undeclared, declared}
-use Rattle.accepted_folders.specs.TypingRulesRules.{call_type}
+use Rattle.accepted_folders.specs.SjTypingSpecRules.{call_type}
 use Rattle.linked_entries.proofs.Below.{one_type, one_reference}
 use Rattle.linked_entries.proofs.Names.{IsWideName, names_differ}
 

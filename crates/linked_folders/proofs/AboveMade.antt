@@ -3,7 +3,7 @@ use Rattle.std.proofs.Common.{◌≡◌, ◌&&◌, ◌∙◌, Bool, true, false,
 use Rattle.std.specs.Prelude.{not, is_some, ◌↔◌}
 use Rattle.declared_pieces.proofs.Chains.{Stands, whole_chain}
 use Rattle.declared_pieces.proofs.Live.{next_is, live_next, live_free, classes_kept}
-use Rattle.file_listings.specs.Listed.{AreBytes}
+use Rattle.sj_text_files.specs.Listed.{AreBytes}
 use Rattle.declared_pieces.proofs.Defined.{last}
 use Rattle.declared_pieces.proofs.Derivations.{closed}
 use Rattle.declared_pieces.proofs.Made as made
@@ -17,9 +17,9 @@ use Rattle.declared_pieces.specs.Pieces.{AreLinkedPieces}
 use Rattle.declared_pieces.specs.Reachable.{Reachable}
 use Rattle.declared_pieces.specs.Refusals.{wrong_kind, IsOtherKind, needed, no_class_above, no_class_made, no_module, no_exception}
 use Rattle.declared_pieces.specs.Rules.{Rule, above, new_needed, new_made, load_needed, load_made, array_made, throw_needed, throw_made}
-use Rattle.helper_rules.specs.Helpers.{failure_class}
-use Rattle.helper_rules.specs.declared.kinds.Failure.TheVariants.{Store}
-use Rattle.helper_rules.specs.declared.kinds.Helper.TheVariants.{ArrayClass}
+use Rattle.sj_emit_help_spec.specs.Helpers.{failure_class}
+use Rattle.sj_emit_help_spec.specs.declared.kinds.Failure.TheVariants.{Store}
+use Rattle.sj_emit_help_spec.specs.declared.kinds.Helper.TheVariants.{ArrayClass}
 use Rattle.js_tree.specs.Terms.{Piece}
 use Rattle.sj_local.specs.ClassRules.{is_class, is_empty, is_interface, keeps_superclass}
 use Rattle.sj_names.proofs.Same.{impossible, text-same}

@@ -1,7 +1,7 @@
 -- An accepted folder has one world, and as many needed bodies however they are listed.
 use Rattle.std.proofs.Common.{◌≡◌, ◌≤◌, ℕ, suc, List, [], ◌∷◌, ◌⊎◌, inl, inr, refl, sym, ap, subst, ◌∙◌, Contains, length, arith}
 use Rattle.declared_pieces.specs.EmittedMethods.{EmittedMethod, HaveOwnMembers}
-use Rattle.sj_format.proofs.ExactFiles.{one_answer}
+use Rattle.sj_read_spec.proofs.ExactFiles.{one_answer}
 use Rattle.sj_names.specs.declared.entry_points.EntryPoint.{EntryPoint}
 use Rattle.sj_names.specs.declared.folders.SourceFile.{SourceFile}
 use Rattle.sj_split.proofs.Members.{at_first, further, cons_cases}

@@ -41,7 +41,7 @@ pub use Rattle.declared_pieces.proofs.Resolves
 pub use Rattle.declared_pieces.proofs.Boxes
 pub use Rattle.declared_pieces.proofs.Markers
 pub use Rattle.declared_pieces.proofs.Assembled
-pub use Rattle.declared_pieces.proofs.BodySoundnessChains as Chains
+pub use Rattle.declared_pieces.proofs.AgreeSoundnessChains as Chains
 pub use Rattle.declared_pieces.proofs.BodyUsesTested as Tested
 pub use Rattle.declared_pieces.proofs.Chains as DeclaredPiecesChains
 pub use Rattle.declared_pieces.proofs.Judged

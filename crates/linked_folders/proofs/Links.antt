@@ -16,14 +16,14 @@ use Rattle.declared_pieces.proofs.Proxies.{proxy_right}
 use Rattle.declared_pieces.proofs.ReflectedCases.{kind_reflected, reflected_case}
 use Rattle.declared_pieces.specs.Reflected.{HasReflected}
 use Rattle.declared_pieces.specs.Laws.{ReflectionThere, NamedThere, not_named, is_named}
-use Rattle.helper_rules.specs.declared.kinds.Failure.TheVariants.{Method}
+use Rattle.sj_emit_help_spec.specs.declared.kinds.Failure.TheVariants.{Method}
 use Rattle.declared_pieces.proofs.Worlds.{judged}
 use Rattle.declared_pieces.specs.Accepted.{IsAccepted}
 use Rattle.declared_pieces.specs.Bodies.{AreBodies}
 use Rattle.declared_pieces.specs.Written.{AreWrittenWith}
 use Rattle.declared_pieces.specs.Built.{Usable}
 use Rattle.declared_pieces.proofs.Blocks.{method_there, method_in_blocks, helper_there, own_pieces}
-use Rattle.declared_pieces.specs.BodySoundnessLaws.{IsClassBelow, made_below, kind_below, Answers, AnswersByName}
+use Rattle.declared_pieces.specs.AgreeSoundnessLaws.{IsClassBelow, made_below, kind_below, Answers, AnswersByName}
 use Rattle.declared_pieces.specs.ClassTestsKinds.{is_told}
 use Rattle.declared_pieces.specs.Dispatch.{IsReachedTarget, IsReflectedTarget}
 use Rattle.declared_pieces.specs.Targets.{has_hijacked_in}
@@ -33,15 +33,15 @@ use Rattle.declared_pieces.proofs.Plain.{class_found}
 use Rattle.declared_pieces.specs.Closed.{IsClosed}
 use Rattle.declared_pieces.specs.Entries.{AreEntries, IsLive}
 use Rattle.declared_pieces.specs.EmittedMethods.{EmittedMethod}
-use Rattle.file_listings.specs.Listed.{AreBytes}
-use Rattle.helper_rules.specs.Helpers.{failure_class, helper_name, helper_piece, init_name, of, used_helpers}
-use Rattle.helper_rules.specs.Words.{bound, class_name, helper, kind_class}
-use Rattle.helper_rules.specs.declared.kinds.Failure.{Failure}
-use Rattle.helper_rules.specs.declared.kinds.Failure.TheVariants.{Cast as CastFails}
-use Rattle.helper_rules.specs.declared.kinds.Helper.TheVariants as helpers
-use Rattle.helper_rules.specs.declared.kinds.Helper.TheVariants.{ArrayClass}
+use Rattle.sj_text_files.specs.Listed.{AreBytes}
+use Rattle.sj_emit_help_spec.specs.Helpers.{failure_class, helper_name, helper_piece, init_name, of, used_helpers}
+use Rattle.sj_emit_help_spec.specs.Words.{bound, class_name, helper, kind_class}
+use Rattle.sj_emit_help_spec.specs.declared.kinds.Failure.{Failure}
+use Rattle.sj_emit_help_spec.specs.declared.kinds.Failure.TheVariants.{Cast as CastFails}
+use Rattle.sj_emit_help_spec.specs.declared.kinds.Helper.TheVariants as helpers
+use Rattle.sj_emit_help_spec.specs.declared.kinds.Helper.TheVariants.{ArrayClass}
 use Rattle.linked_folders.proofs.AboveMade.{arrays_extend}
-use Rattle.helper_rules.specs.declared.kinds.Kind.{Kind}
+use Rattle.sj_emit_help_spec.specs.declared.kinds.Kind.{Kind}
 use Rattle.ir_mean.specs.Dispatch.{is_ancestor, proxy_target}
 use Rattle.js_tree.specs.Terms.{Piece}
 use Rattle.declared_pieces.specs.Pieces.{piece_of_member, pieces_of_block, by_piece, by_helper, AreLinkedPieces}
@@ -53,7 +53,7 @@ use Rattle.declared_pieces.specs.ProperPiecesLaws.{AreNamed}
 use Rattle.declared_pieces.proofs.Derivations.{closed}
 use Rattle.declared_pieces.specs.Reachable.{Reachable}
 use Rattle.declared_pieces.specs.Rules.{on_hijacked, message_constructor, the_object, class_named as class_named_by}
-use Rattle.declared_pieces.specs.PieceRulesPieces.{cast_piece}
+use Rattle.declared_pieces.specs.SjEmitClassSpecPieces.{cast_piece}
 use Rattle.declared_pieces.proofs.Found.{OwnerOf, owner_of}
 use Rattle.declared_pieces.proofs.Classes.{class-keeps}
 use Rattle.declared_pieces.proofs.Methods.{body_keeps}

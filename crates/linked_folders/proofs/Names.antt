@@ -1,11 +1,11 @@
 -- The functions of needed bodies have names of their own.
 use Rattle.std.proofs.Common.{◌≡◌, ℕ, List, Contains, IsTrue, sym, subst}
 use Rattle.std.proofs.lemmas.List.Elements.{All-contains}
-use Rattle.file_listings.proofs.ListedClasses.{file_is_listed}
-use Rattle.file_listings.specs.Listed.{AreBytes}
-use Rattle.listing_spelling.specs.Rules.{HasListing, IsListedMethod}
+use Rattle.sj_text_files.proofs.ListedClasses.{file_is_listed}
+use Rattle.sj_text_files.specs.Listed.{AreBytes}
+use Rattle.sj_text_spec.specs.Rules.{HasListing, IsListedMethod}
 use Rattle.declared_pieces.specs.EmittedMethods.{EmittedMethod}
-use Rattle.sj_emit_expr.specs.Templates.{member_name}
+use Rattle.sj_emit_expr_spec.specs.Templates.{member_name}
 use Rattle.declared_pieces.proofs.Found.{OwnerOf, owner_of}
 use Rattle.declared_pieces.specs.Judged.{IsJudgedClass}
 use Rattle.sj_mangling.proofs.FunctionNames.{function_names_differ}

@@ -1,7 +1,7 @@
 -- Laws of the pieces of accepted folders.
 use Rattle.std.specs.Prelude.{◌≡◌, ◌↔◌, List}
 use Rattle.std.specs.List.{Contains}
-use Rattle.file_listings.specs.Listed.{AreBytes}
+use Rattle.sj_text_files.specs.Listed.{AreBytes}
 use Rattle.declared_pieces.specs.Accepted.{IsAccepted}
 use Rattle.declared_pieces.specs.Bodies.{AreBodies}
 use Rattle.declared_pieces.specs.Closed.{IsClosed}

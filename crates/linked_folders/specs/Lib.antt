@@ -12,7 +12,7 @@ pub use Rattle.declared_pieces.specs.ToldPieces
 pub use Rattle.declared_pieces.specs.Bodies
 pub use Rattle.declared_pieces.specs.Used
 pub use Rattle.declared_pieces.specs.Refusals
-pub use Rattle.declared_pieces.specs.TypingRulesRules as Rules
+pub use Rattle.declared_pieces.specs.SjTypingSpecRules as Rules
 pub use Rattle.declared_pieces.specs.Typed
 pub use Rattle.declared_pieces.specs.Reachable
 pub use Rattle.declared_pieces.specs.Verdicts
@@ -20,8 +20,8 @@ pub use Rattle.declared_pieces.specs.Helpers
 pub use Rattle.declared_pieces.specs.Built
 pub use Rattle.declared_pieces.specs.Classes
 pub use Rattle.declared_pieces.specs.Closed
-pub use Rattle.declared_pieces.specs.PieceRulesPieces
-pub use Rattle.declared_pieces.specs.Rules as ReachRulesRules
+pub use Rattle.declared_pieces.specs.SjEmitClassSpecPieces
+pub use Rattle.declared_pieces.specs.Rules as SjReachSpecRules
 pub use Rattle.declared_pieces.specs.Given
 pub use Rattle.declared_pieces.specs.BodyUsesLaws
 pub use Rattle.declared_pieces.specs.Laws as DeclaredPiecesLaws

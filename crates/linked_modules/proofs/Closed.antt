@@ -5,8 +5,8 @@ use Rattle.js_tree.specs.Terms.{Piece}
 use Rattle.js_tree.specs.declared.items.Binding.{Binding}
 use Rattle.declared_modules.proofs.Entries.{initializer_of}
 use Rattle.module_names.specs.Names.{Key, Digest}
-use Rattle.module_rules.specs.Calls.{called}
-use Rattle.module_rules.specs.Laws.{AreClosed, IsDeclared, by_piece, by_call}
+use Rattle.sj_emit_module_spec.specs.Calls.{called}
+use Rattle.sj_emit_module_spec.specs.Laws.{AreClosed, IsDeclared, by_piece, by_call}
 use Rattle.sj_graph.specs.declared.graphs.Graph.{Graph}
 use Rattle.sj_names.specs.declared.entry_points.EntryPoint.{EntryPoint}
 use Rattle.sj_split.specs.Modules.{IsPlan}

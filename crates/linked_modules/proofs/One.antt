@@ -5,10 +5,10 @@ use Rattle.js_tree.specs.Terms.{Piece}
 use Rattle.declared_modules.proofs.One.{one_pieces, spelled_once}
 use Rattle.declared_modules.specs.Files.{IsFileOf, AreFilesOf}
 use Rattle.module_names.specs.Names.{sha1_digest}
-use Rattle.module_rules.specs.Modules.{module_of}
-use Rattle.plan_laws.proofs.Digests.{digests_have_one_length}
-use Rattle.plan_laws.proofs.Names.{ids_are_not_internal}
-use Rattle.plan_laws.proofs.OnePlan.{plans_are_one}
+use Rattle.sj_emit_module_spec.specs.Modules.{module_of}
+use Rattle.sj_split_laws.proofs.Digests.{digests_have_one_length}
+use Rattle.sj_split_laws.proofs.Names.{ids_are_not_internal}
+use Rattle.sj_split_laws.proofs.OnePlan.{plans_are_one}
 use Rattle.sj_graph.specs.References.{IsGraph}
 use Rattle.sj_split.specs.Modules.{IsPlan}
 use Rattle.sj_split.specs.declared.plans.PlannedModule.{PlannedModule}

@@ -15,8 +15,8 @@ use Rattle.js_tree.specs.Terms.{Name, Item, Piece}
 use Rattle.js_tree.specs.declared.items.Binding.{Binding}
 use Rattle.declared_modules.proofs.Found.{among_is, is_in}
 use Rattle.declared_modules.specs.Files.{AreWhole}
-use Rattle.module_rules.specs.Laws.{IsIn, IsSource, Uses, by_piece}
-use Rattle.module_rules.specs.Modules.{file_with}
+use Rattle.sj_emit_module_spec.specs.Laws.{IsIn, IsSource, Uses, by_piece}
+use Rattle.sj_emit_module_spec.specs.Modules.{file_with}
 use Rattle.sj_split.proofs.Members.{cons_cases, into_map, into_filter, from_filter}
 use Rattle.sj_split.specs.Modules.{file}
 use Rattle.sj_split.specs.Orders.{Bytes, is_same}

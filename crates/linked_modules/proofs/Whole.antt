@@ -26,7 +26,7 @@ use Rattle.declared_modules.specs.Pieces.{AreLinkedPieces}
 use Rattle.declared_modules.specs.Reachable.{Reachable}
 use Rattle.declared_modules.specs.Rules.{entry_member, of_entry, asked_body}
 use Rattle.declared_modules.specs.Running.{CanRun}
-use Rattle.file_listings.specs.Listed.{AreBytes}
+use Rattle.sj_text_files.specs.Listed.{AreBytes}
 use Rattle.ir_mean.specs.Shows.{initializers}
 use Rattle.js_mean.specs.Files.{running_order}
 use Rattle.js_mean.specs.Shows.{File}
@@ -42,17 +42,17 @@ use Rattle.declared_modules.proofs.Running.{imports_run_first}
 use Rattle.declared_modules.proofs.ModuleFilesWhole.{plans_are_whole}
 use Rattle.declared_modules.specs.Files.{program_of, AreFilesOf, AreProper, AreWhole}
 use Rattle.module_names.specs.Names.{sha1_digest}
-use Rattle.module_rules.proofs.Chosen.{is_it}
-use Rattle.module_rules.proofs.Lines.{files_are_those_of_plans}
-use Rattle.module_rules.specs.Calls.{called, call_item_of}
-use Rattle.module_rules.specs.Laws.{AreClosed, IsDeclared, IsIn, IsSource, Uses, by_call}
-use Rattle.module_rules.specs.Modules.{file_with, is_owned_in, item_of}
+use Rattle.sj_emit_module_spec.proofs.Chosen.{is_it}
+use Rattle.sj_emit_module_spec.proofs.Lines.{files_are_those_of_plans}
+use Rattle.sj_emit_module_spec.specs.Calls.{called, call_item_of}
+use Rattle.sj_emit_module_spec.specs.Laws.{AreClosed, IsDeclared, IsIn, IsSource, Uses, by_call}
+use Rattle.sj_emit_module_spec.specs.Modules.{file_with, is_owned_in, item_of}
 use Rattle.declared_modules.proofs.Among.{among_all}
 use Rattle.declared_modules.proofs.InFiles.{used_there}
 use Rattle.declared_modules.specs.Used.{uses_in}
-use Rattle.plan_laws.proofs.Digests.{digests_have_one_length}
-use Rattle.plan_laws.proofs.Names.{ids_are_not_internal}
-use Rattle.plan_laws.specs.Laws.{AreCountable, KeepsNamesApart}
+use Rattle.sj_split_laws.proofs.Digests.{digests_have_one_length}
+use Rattle.sj_split_laws.proofs.Names.{ids_are_not_internal}
+use Rattle.sj_split_laws.specs.Laws.{AreCountable, KeepsNamesApart}
 use Rattle.declared_modules.proofs.Declares.{modules_declare_in_order, modules_declare_constants, item_at}
 use Rattle.declared_modules.proofs.Items.{modules_have_their_items}
 use Rattle.declared_modules.proofs.There.{public_modules_are_there}

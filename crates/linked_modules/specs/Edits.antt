@@ -4,7 +4,7 @@ use Rattle.declared_modules.specs.Accepted.{IsAccepted}
 use Rattle.declared_modules.specs.Bodies.{AreBodies}
 use Rattle.declared_modules.specs.EmittedMethods.{EmittedMethod}
 use Rattle.js_mean.specs.Shows.{File}
-use Rattle.plan_laws.specs.Laws.{AreCountable}
+use Rattle.sj_split_laws.specs.Laws.{AreCountable}
 use Rattle.sj_names.specs.declared.counters.Meter.{Meter}
 use Rattle.sj_names.specs.declared.entry_points.EntryPoint.{EntryPoint}
 use Rattle.sj_names.specs.declared.folders.SourceFile.{SourceFile}

@@ -2,9 +2,9 @@
 use Rattle.std.specs.Prelude.{◌≡◌, List, map}
 use Rattle.std.specs.List.{Contains}
 use Rattle.declared_modules.specs.Accepted.{IsAccepted}
-use Rattle.file_listings.specs.Listed.{AreBytes}
+use Rattle.sj_text_files.specs.Listed.{AreBytes}
 use Rattle.js_mean.specs.Shows.{File}
-use Rattle.plan_laws.specs.Laws.{AreCountable}
+use Rattle.sj_split_laws.specs.Laws.{AreCountable}
 use Rattle.sj_agree.specs.Agrees.{Agrees}
 use Rattle.sj_names.specs.EntryPoints.{AreEntries}
 use Rattle.sj_names.specs.declared.counters.Meter.{Meter}

@@ -2,12 +2,12 @@
 use Rattle.std.proofs.Common.{◌≡◌, ◌++◌, List, [], ◌∷◌, refl, sym, ap, subst, ◌∙◌, Contains}
 use Rattle.std.specs.Prelude.{reverse}
 use Rattle.std.proofs.lemmas.List.{reverse-reverse}
-use Rattle.helper_rules.specs.Words.{kind_class, told_kinds}
-use Rattle.helper_rules.specs.declared.kinds.Kind.{Kind}
+use Rattle.sj_emit_help_spec.specs.Words.{kind_class, told_kinds}
+use Rattle.sj_emit_help_spec.specs.declared.kinds.Kind.{Kind}
 use Rattle.js_tree.specs.Terms.{Piece}
-use Rattle.sj_sound.specs.Dispatch.{Told, IsReachedTarget, AreTold, told_none, told, untold, dispatch_piece, IsDispatchPiece}
+use Rattle.agree_programs.specs.Dispatch.{Told, IsReachedTarget, AreTold, told_none, told, untold, dispatch_piece, IsDispatchPiece}
 use Rattle.sj_names.specs.declared.method_names.MethodName.{MethodName}
-use Rattle.sj_sound.proofs.Owners.{one_owner}
+use Rattle.agree_programs.proofs.Owners.{one_owner}
 use Rattle.sj_split.proofs.Unique.{never_both}
 use Rattle.sj_world.specs.Known.{Name, Classes}
 use Rattle.sj_world.specs.Linked.{Linked}

@@ -7,7 +7,7 @@ use Rattle.linked_pieces.specs.Used.{makes, calls_on, calls}
 use Rattle.sj_names.proofs.Same.{impossible, text-same, text-refl, method-same}
 use Rattle.sj_names.specs.Same.{is_same_text, is_same_method}
 use Rattle.sj_names.specs.declared.method_names.MethodName.{MethodName}
-use Rattle.sj_sound.proofs.SameNames.{method-itself}
+use Rattle.agree_programs.proofs.SameNames.{method-itself}
 use Rattle.sj_world.specs.Known.{Name}
 use Rattle.sj_world.specs.declared.facts.Fact.{Fact}
 use Rattle.sj_world.specs.declared.facts.Fact.TheVariants.{Made, Called}

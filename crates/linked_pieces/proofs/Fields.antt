@@ -12,8 +12,8 @@ use Rattle.std.proofs.lemmas.List.Elements.{Contains-append_left, Contains-appen
 use Rattle.std.proofs.lemmas.List.MinMax.{ranks_by}
 use Rattle.std.proofs.lemmas.List.Sorted.{Contains-permutation, IsPermutation-sym}
 use Rattle.std.proofs.lemmas.Map.Keys.{IsDistinct-IsPermutation, IsDistinct-cons}
-use Rattle.sj_sound.specs.Classes.{AreSorted, field_cmp}
-use Rattle.sj_kept.proofs.Classes.{none-each}
+use Rattle.agree_programs.specs.Classes.{AreSorted, field_cmp}
+use Rattle.agree_local_rules.proofs.Classes.{none-each}
 use Rattle.sj_local.specs.Broken.{FirstBroken, Breaks, all_rules, repeat_place}
 use Rattle.sj_local.specs.Firsts.{FirstRepeat, here, later}
 use Rattle.sj_local.specs.MemberRules.{field_key}

@@ -9,10 +9,10 @@ pub mod Order
 pub mod Picked
 pub mod Sorted
 pub mod Statics
-pub use Rattle.sj_sound.proofs.Equal
-pub use Rattle.sj_kept.proofs.SjProperNames as ProperNames
-pub use Rattle.sj_kept.proofs.Modules
-pub use Rattle.sj_sound.proofs.Plain
-pub use Rattle.sj_sound.proofs.Running
-pub use Rattle.sj_sound.proofs.Reflective
-pub use Rattle.sj_sound.proofs.Same
+pub use Rattle.agree_programs.proofs.Equal
+pub use Rattle.agree_local_rules.proofs.AgreeEarlyErrorsNames as ProperNames
+pub use Rattle.agree_local_rules.proofs.Modules
+pub use Rattle.agree_programs.proofs.Plain
+pub use Rattle.agree_programs.proofs.Running
+pub use Rattle.agree_programs.proofs.Reflective
+pub use Rattle.agree_programs.proofs.Same

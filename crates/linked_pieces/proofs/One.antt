@@ -4,22 +4,22 @@ use Rattle.std.specs.List.{filter, flat_map}
 use Rattle.std.specs.Prelude.{reverse}
 use Rattle.std.proofs.lemmas.List.{reverse-reverse}
 use Rattle.std.proofs.lemmas.List.Sorted.{Contains-permutation, IsPermutation-reverse}
-use Rattle.helper_rules.specs.Helpers.{helper_name, helper_piece}
-use Rattle.helper_rules.specs.Words.{kind_class, worded_kinds}
-use Rattle.helper_rules.specs.declared.kinds.Helper.{Helper}
-use Rattle.helper_rules.specs.declared.kinds.Kind.{Kind}
+use Rattle.sj_emit_help_spec.specs.Helpers.{helper_name, helper_piece}
+use Rattle.sj_emit_help_spec.specs.Words.{kind_class, worded_kinds}
+use Rattle.sj_emit_help_spec.specs.declared.kinds.Helper.{Helper}
+use Rattle.sj_emit_help_spec.specs.declared.kinds.Kind.{Kind}
 use Rattle.js_tree.specs.Terms.{Piece}
-use Rattle.sj_sound.proofs.Plain.{class_found}
-use Rattle.sj_sound.specs.Entries.{IsLive}
-use Rattle.sj_sound.specs.Classes as classes
-use Rattle.sj_sound.specs.Classes.{AreClassPieces, AreParts, AreInstances, AreReached, AreSorted, AreStatics, HasForm, absent, present, is_own}
-use Rattle.sj_sound.specs.Pieces.{Parts, pieces}
-use Rattle.sj_sound.specs.Templates.{member_name}
+use Rattle.agree_programs.proofs.Plain.{class_found}
+use Rattle.agree_programs.specs.Entries.{IsLive}
+use Rattle.agree_programs.specs.Classes as classes
+use Rattle.agree_programs.specs.Classes.{AreClassPieces, AreParts, AreInstances, AreReached, AreSorted, AreStatics, HasForm, absent, present, is_own}
+use Rattle.agree_programs.specs.Pieces.{Parts, pieces}
+use Rattle.agree_programs.specs.Templates.{member_name}
 use Rattle.sj_infos.specs.declared.forms.BodyForm.{BodyForm}
 use Rattle.sj_infos.specs.declared.forms.BodyForm.TheVariants as forms
 use Rattle.sj_local.specs.Broken.{FirstBroken}
 use Rattle.sj_names.proofs.Same.{impossible}
-use Rattle.sj_sound.specs.EmittedMethods.{EmittedMethod}
+use Rattle.agree_programs.specs.EmittedMethods.{EmittedMethod}
 use Rattle.sj_split.proofs.Unique.{never_both}
 use Rattle.sj_trees.specs.declared.classes.ClassDef.{ClassDef}
 use Rattle.sj_trees.specs.declared.classes.FieldDef.{FieldDef}

@@ -2,13 +2,13 @@
 use Rattle.std.proofs.Common.{◌≡◌, ◌++◌, List, [], ◌∷◌, refl, sym, ap, subst, ◌∙◌, Contains}
 use Rattle.std.specs.Prelude.{reverse}
 use Rattle.std.proofs.lemmas.List.{reverse-reverse}
-use Rattle.helper_rules.specs.Words.{kind_class, told_kinds}
-use Rattle.helper_rules.specs.declared.kinds.Kind.{Kind}
+use Rattle.sj_emit_help_spec.specs.Words.{kind_class, told_kinds}
+use Rattle.sj_emit_help_spec.specs.declared.kinds.Kind.{Kind}
 use Rattle.js_tree.specs.Terms.{Piece}
-use Rattle.sj_sound.specs.Dispatch.{Reflected, IsReflectedTarget, AreReflected, reflected_none, reflected, unreflected, reflective_piece, IsReflectivePiece}
-use Rattle.sj_sound.specs.Entries.{IsTarget, IsReflective}
+use Rattle.agree_programs.specs.Dispatch.{Reflected, IsReflectedTarget, AreReflected, reflected_none, reflected, unreflected, reflective_piece, IsReflectivePiece}
+use Rattle.agree_programs.specs.Entries.{IsTarget, IsReflective}
 use Rattle.sj_names.specs.declared.method_names.MethodName.{MethodName}
-use Rattle.sj_sound.proofs.Owners.{one_owner}
+use Rattle.agree_programs.proofs.Owners.{one_owner}
 use Rattle.sj_split.proofs.Unique.{never_both}
 use Rattle.sj_world.specs.Known.{Classes}
 use Rattle.sj_world.specs.Linked.{Linked}

@@ -1,10 +1,10 @@
 -- Static fields that the code can use.
 use Rattle.std.proofs.Common.{◌≡◌, Bool, true, false, List, refl}
 use Rattle.std.specs.Prelude.{◌||◌}
-use Rattle.sj_kept.specs.Built.{has_static}
-use Rattle.helper_rules.specs.declared.kinds.Helper.{Helper}
+use Rattle.agree_local_rules.specs.Built.{has_static}
+use Rattle.sj_emit_help_spec.specs.declared.kinds.Helper.{Helper}
 use Rattle.linked_pieces.specs.Used.{used_of, uses_static}
-use Rattle.sj_sound.specs.EmittedMethods.{EmittedMethod}
+use Rattle.agree_programs.specs.EmittedMethods.{EmittedMethod}
 use Rattle.sj_trees.specs.declared.types.IrType.{IrType}
 use Rattle.sj_world.specs.Known.{Name, Classes}
 use Rattle.sj_world.specs.declared.facts.Fact.{Fact}

@@ -1,6 +1,6 @@
 -- Cases for kinds of receivers are one list where the same is known of each kind.
 use Rattle.std.proofs.Common.{◌≡◌, List, [], ◌∷◌, refl}
-use Rattle.helper_rules.specs.declared.kinds.Kind.{Kind}
+use Rattle.sj_emit_help_spec.specs.declared.kinds.Kind.{Kind}
 
 -- the kinds that have a case, each with it, from the last on
 pub data Tells {T : Type 0} (Has : Kind → T → Type 0) : List Kind → List T → Type 0 where

@@ -1,8 +1,8 @@
 -- The functions that tell primitive receivers apart: which of them pieces use, and the pieces of these.
 use Rattle.std.specs.Prelude.{List, Contains}
-use Rattle.helper_rules.specs.Words.{helper}
+use Rattle.sj_emit_help_spec.specs.Words.{helper}
 use Rattle.js_tree.specs.Terms.{Piece}
-use Rattle.sj_sound.specs.Dispatch.{IsDispatchPiece, dispatch_name}
+use Rattle.agree_programs.specs.Dispatch.{IsDispatchPiece, dispatch_name}
 use Rattle.sj_names.specs.MethodNames.{IsMethodName}
 use Rattle.sj_names.specs.declared.method_names.MethodName.{MethodName}
 use Rattle.sj_split.specs.Orders.{IsBefore}

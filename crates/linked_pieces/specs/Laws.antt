@@ -2,7 +2,7 @@
 use Rattle.std.specs.Prelude.{◌≡◌, ◌↔◌, List, None, Contains}
 use Rattle.js_tree.specs.Terms.{Piece}
 use Rattle.sj_local.specs.Broken.{FirstBroken}
-use Rattle.sj_sound.specs.EmittedMethods.{EmittedMethod}
+use Rattle.agree_programs.specs.EmittedMethods.{EmittedMethod}
 use Rattle.sj_trees.specs.declared.classes.ClassDef.{ClassDef}
 use Rattle.sj_world.specs.Linked.{Linked}
 use Rattle.sj_world.specs.declared.facts.Fact.{Fact}

@@ -4,11 +4,11 @@ pub mod Order
 pub mod Pieces
 pub mod Laws
 pub mod Used
-pub use Rattle.sj_sound.specs.Dispatch
-pub use Rattle.sj_sound.specs.Entries
-pub use Rattle.sj_sound.specs.Pieces as PieceRulesPieces
-pub use Rattle.sj_sound.specs.Emitted
-pub use Rattle.sj_sound.specs.EmittedMethods
-pub use Rattle.sj_kept.specs.Once
-pub use Rattle.sj_sound.specs.Classes
-pub use Rattle.sj_sound.specs.Targets
+pub use Rattle.agree_programs.specs.Dispatch
+pub use Rattle.agree_programs.specs.Entries
+pub use Rattle.agree_programs.specs.Pieces as SjEmitClassSpecPieces
+pub use Rattle.agree_programs.specs.Emitted
+pub use Rattle.agree_programs.specs.EmittedMethods
+pub use Rattle.agree_local_rules.specs.Once
+pub use Rattle.agree_programs.specs.Classes
+pub use Rattle.agree_programs.specs.Targets

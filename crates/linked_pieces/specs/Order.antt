@@ -1,7 +1,7 @@
 -- The order of classes and of functions in a module.
 use Rattle.std.specs.Prelude.{◌≡◌, ◌↔◌, ◌<◌, true, List, [], ◌∷◌, Contains, is_some, length}
-use Rattle.sj_sound.specs.Templates.{member_name}
-use Rattle.sj_sound.specs.EmittedMethods.{EmittedMethod}
+use Rattle.agree_programs.specs.Templates.{member_name}
+use Rattle.agree_programs.specs.EmittedMethods.{EmittedMethod}
 use Rattle.sj_split.specs.Orders.{IsBefore}
 use Rattle.sj_world.specs.Known.{Name, Classes, class_of}
 use Rattle.sj_world.specs.Tables.{AreAncestors}

@@ -2,17 +2,17 @@
 -- primitive receivers apart.
 use Rattle.std.specs.Prelude.{◌≡◌, ◌↔◌, List, [], ◌∷◌, ◌++◌, Contains, map, if◌then◌else◌}
 use Rattle.std.specs.List.{flat_map}
-use Rattle.sj_sound.specs.Targets.{lookup_in}
-use Rattle.helper_rules.specs.Helpers.{Above, helper_name, helper_piece, used_helpers}
-use Rattle.helper_rules.specs.Words.{helper, kind_class}
-use Rattle.helper_rules.specs.declared.kinds.Helper.{Helper}
-use Rattle.helper_rules.specs.declared.kinds.Kind.{Kind}
+use Rattle.agree_programs.specs.Targets.{lookup_in}
+use Rattle.sj_emit_help_spec.specs.Helpers.{Above, helper_name, helper_piece, used_helpers}
+use Rattle.sj_emit_help_spec.specs.Words.{helper, kind_class}
+use Rattle.sj_emit_help_spec.specs.declared.kinds.Helper.{Helper}
+use Rattle.sj_emit_help_spec.specs.declared.kinds.Kind.{Kind}
 use Rattle.js_tree.specs.Terms.{Piece}
-use Rattle.sj_sound.specs.Classes.{AreClassPieces}
-use Rattle.sj_kept.specs.Desugar.{desugared_member}
-use Rattle.sj_kept.specs.Members.{member_piece}
+use Rattle.agree_programs.specs.Classes.{AreClassPieces}
+use Rattle.agree_local_rules.specs.Desugar.{desugared_member}
+use Rattle.agree_local_rules.specs.Members.{member_piece}
 use Rattle.sj_names.specs.WellKnown.{is_object}
-use Rattle.sj_sound.specs.EmittedMethods.{EmittedMethod}
+use Rattle.agree_programs.specs.EmittedMethods.{EmittedMethod}
 use Rattle.sj_split.specs.Orders.{IsBefore}
 use Rattle.sj_world.specs.Known.{Name, Classes}
 use Rattle.sj_world.specs.Linked.{Linked}

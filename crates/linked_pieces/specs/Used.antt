@@ -1,13 +1,13 @@
 -- What the code of a linked world can use, where the pieces of some of its classes are written.
 use Rattle.std.specs.Prelude.{Bool, true, false, ◌&&◌, ◌||◌, not, List, Option, Some, None}
 use Rattle.std.specs.List.{list_any}
-use Rattle.sj_kept.specs.Built.{Usable, is_static, has_kind, has_no_value}
-use Rattle.sj_kept.specs.Uses.{is_same_binding}
-use Rattle.sj_sound.specs.Targets.{has_hijacked_in, lookup_in}
-use Rattle.helper_rules.specs.Helpers.{helper_name}
-use Rattle.helper_rules.specs.Words.{helper}
-use Rattle.helper_rules.specs.declared.kinds.Helper.{Helper}
-use Rattle.sj_sound.specs.Tests.{test_name, cast_name}
+use Rattle.agree_local_rules.specs.Built.{Usable, is_static, has_kind, has_no_value}
+use Rattle.agree_local_rules.specs.Uses.{is_same_binding}
+use Rattle.agree_programs.specs.Targets.{has_hijacked_in, lookup_in}
+use Rattle.sj_emit_help_spec.specs.Helpers.{helper_name}
+use Rattle.sj_emit_help_spec.specs.Words.{helper}
+use Rattle.sj_emit_help_spec.specs.declared.kinds.Helper.{Helper}
+use Rattle.agree_programs.specs.Tests.{test_name, cast_name}
 use Rattle.sj_infos.specs.Forms.{forms_in}
 use Rattle.sj_infos.specs.declared.forms.BodyForm.{BodyForm}
 use Rattle.sj_infos.specs.declared.forms.BodyForm.TheVariants.{Test, Cast, Base, Load, Store, Reflective}
@@ -17,8 +17,8 @@ use Rattle.sj_names.specs.declared.method_names.Member.{Member}
 use Rattle.sj_names.specs.declared.method_names.MethodName.{MethodName}
 use Rattle.sj_names.specs.declared.method_names.Namespace.{Namespace}
 use Rattle.sj_names.specs.declared.method_names.Namespace.TheVariants.{Public, Private, Constructor}
-use Rattle.sj_sound.specs.EmittedMethods.{EmittedMethod}
-use Rattle.sj_sound.specs.Linked.{has_function}
+use Rattle.agree_programs.specs.EmittedMethods.{EmittedMethod}
+use Rattle.agree_programs.specs.Linked.{has_function}
 use Rattle.sj_trees.specs.SameTypes.{is_same_type}
 use Rattle.sj_trees.specs.declared.classes.ClassDef.{ClassDef}
 use Rattle.sj_trees.specs.declared.classes.FieldDef.{FieldDef}
@@ -28,7 +28,7 @@ use Rattle.sj_world.specs.Known.{Name, Classes, class_of}
 use Rattle.sj_world.specs.declared.facts.Fact.{Fact}
 use Rattle.sj_world.specs.declared.facts.Fact.TheVariants.{NeededField, Made, Called}
 use Rattle.linked_pieces.specs.Pieces.{piece_of_member}
-use Rattle.sj_sound.specs.Dispatch.{dispatch_name, reflective_name}
+use Rattle.agree_programs.specs.Dispatch.{dispatch_name, reflective_name}
 
 abbrev pub is_among : List Name → Name → Bool
 is_among names name = list_any (is_same_text name) names

@@ -3,9 +3,9 @@
 #![tactic(auto)]
 
 use anyhow::Result;
-use file_listings::each_listed_class_names_its_files;
-use listing_spelling::each_has_one_listing;
 use sj_text::{ListingError, parse_listing, print_listing};
+use sj_text_files::each_listed_class_names_its_files;
+use sj_text_spec::each_has_one_listing;
 use sj_write::write_class;
 use std::alloc::Global;
 

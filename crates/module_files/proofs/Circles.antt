@@ -6,13 +6,13 @@ use Rattle.std.proofs.lemmas.List.{append_cancel_right}
 use Rattle.std.proofs.lemmas.List.Elements.{Contains-append_left}
 use Rattle.js_tree.specs.Terms.{Piece}
 use Rattle.js_tree.specs.declared.items.Binding.{Binding}
-use Rattle.module_rules.proofs.Lines.{in_module}
-use Rattle.module_rules.specs.Laws.{Uses, by_piece, by_call, IsSource}
-use Rattle.module_rules.specs.Modules.{file_with}
-use Rattle.plan_laws.proofs.Apart.{apart_head, apart_tail, new_is_not}
-use Rattle.plan_laws.proofs.Names.{names_differ}
-use Rattle.plan_laws.proofs.Placing.{modules_are_components, modules_are_tags}
-use Rattle.plan_laws.specs.Laws.{name_of}
+use Rattle.sj_emit_module_spec.proofs.Lines.{in_module}
+use Rattle.sj_emit_module_spec.specs.Laws.{Uses, by_piece, by_call, IsSource}
+use Rattle.sj_emit_module_spec.specs.Modules.{file_with}
+use Rattle.sj_split_laws.proofs.Apart.{apart_head, apart_tail, new_is_not}
+use Rattle.sj_split_laws.proofs.Names.{names_differ}
+use Rattle.sj_split_laws.proofs.Placing.{modules_are_components, modules_are_tags}
+use Rattle.sj_split_laws.specs.Laws.{name_of}
 use Rattle.sj_graph.specs.References.{IsGraph, object, reference, reference_by}
 use Rattle.sj_graph.specs.declared.graphs.Graph.{Graph}
 use Rattle.sj_names.specs.declared.entry_points.EntryPoint.{EntryPoint}

@@ -12,11 +12,11 @@ use Rattle.js_mean.specs.States.{Program}
 use Rattle.js_tree.specs.Names.{is_same_text}
 use Rattle.js_tree.specs.Terms.{Name, Piece}
 use Rattle.js_tree.specs.declared.items.JsImport.{JsImport}
-use Rattle.module_rules.proofs.Chosen.{UseFile, of_class, of_module, use_file}
-use Rattle.module_rules.proofs.Lines.{imports_are, exports_are, in_module}
-use Rattle.module_rules.specs.Laws.{AreImportLines, IsDeclared, IsUse, IsSource, source_of}
-use Rattle.module_rules.specs.Modules.{file_with, called_in, called_elsewhere, name_of, imported, exported, import_lines, module_of}
-use Rattle.module_rules.specs.Order.{each_once_in_order}
+use Rattle.sj_emit_module_spec.proofs.Chosen.{UseFile, of_class, of_module, use_file}
+use Rattle.sj_emit_module_spec.proofs.Lines.{imports_are, exports_are, in_module}
+use Rattle.sj_emit_module_spec.specs.Laws.{AreImportLines, IsDeclared, IsUse, IsSource, source_of}
+use Rattle.sj_emit_module_spec.specs.Modules.{file_with, called_in, called_elsewhere, name_of, imported, exported, import_lines, module_of}
+use Rattle.sj_emit_module_spec.specs.Order.{each_once_in_order}
 use Rattle.sj_split.proofs.Members.{at_first, further, cons_cases, into_map, from_map}
 use Rattle.sj_split.specs.Modules.{file}
 use Rattle.sj_split.specs.Orders.{Bytes}

@@ -7,11 +7,11 @@ use Rattle.js_mean.specs.Files.{is_good_module, owner}
 use Rattle.js_mean.specs.Proper.{is_among, are_distinct, is_proper_item, item_names, imported_names, is_proper_module}
 use Rattle.js_tree.specs.Terms.{Name, Item, Piece}
 use Rattle.js_tree.specs.declared.items.JsImport.{JsImport}
-use Rattle.module_rules.proofs.Chosen.{this_is, is_it}
-use Rattle.module_rules.proofs.Lines.{imports_are, exports_are, exports_are_declared}
-use Rattle.module_rules.specs.Calls.{call_item_of}
-use Rattle.module_rules.specs.Laws.{AreImportLines, IsUse, source_of}
-use Rattle.module_rules.specs.Modules.{file_with, is_owned_in, item_of, module_of}
+use Rattle.sj_emit_module_spec.proofs.Chosen.{this_is, is_it}
+use Rattle.sj_emit_module_spec.proofs.Lines.{imports_are, exports_are, exports_are_declared}
+use Rattle.sj_emit_module_spec.specs.Calls.{call_item_of}
+use Rattle.sj_emit_module_spec.specs.Laws.{AreImportLines, IsUse, source_of}
+use Rattle.sj_emit_module_spec.specs.Modules.{file_with, is_owned_in, item_of, module_of}
 use Rattle.proper_pieces.proofs.Apart.{AreApart, Differ, both, order_joined, told_apart}
 use Rattle.sj_names.specs.declared.entry_points.EntryPoint.{EntryPoint}
 use Rattle.sj_split.proofs.Least.{not_before_itself}

@@ -6,8 +6,8 @@ use Rattle.js_mean.specs.Proper.{is_among}
 use Rattle.js_mean.specs.States.{Program}
 use Rattle.js_tree.specs.Terms.{Name, Piece}
 use Rattle.js_tree.specs.declared.items.JsImport.{JsImport}
-use Rattle.module_rules.proofs.Lines.{imports_are, in_module}
-use Rattle.module_rules.specs.Laws.{HasFile, IsSource, source_of}
+use Rattle.sj_emit_module_spec.proofs.Lines.{imports_are, in_module}
+use Rattle.sj_emit_module_spec.specs.Laws.{HasFile, IsSource, source_of}
 use Rattle.sj_split.proofs.Members.{at_first, further, into_map}
 use Rattle.sj_split.specs.Modules.{file}
 use Rattle.sj_split.specs.Orders.{Bytes}

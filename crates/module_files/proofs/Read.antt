@@ -2,8 +2,8 @@
 use Rattle.std.proofs.Common.{List, [], ◌∷◌, Some, subst, map}
 use Rattle.js_mean.specs.Shows.{File, IsRead, no_files, one_more}
 use Rattle.js_tree.specs.Terms.{Piece}
-use Rattle.module_rules.proofs.Alone.{alone}
-use Rattle.module_rules.specs.Modules.{module_of}
+use Rattle.sj_emit_module_spec.proofs.Alone.{alone}
+use Rattle.sj_emit_module_spec.specs.Modules.{module_of}
 use Rattle.sj_split.specs.Orders.{Bytes}
 use Rattle.sj_split.specs.declared.plans.PlannedModule.{PlannedModule}
 use Rattle.module_files.specs.Files.{source_of, AreFilesOf}

@@ -8,9 +8,9 @@ use Rattle.js_mean.specs.Files.{Visited, enter, finish, visit, visit_all, import
 use Rattle.js_mean.specs.Proper.{is_among}
 use Rattle.js_tree.specs.Terms.{Name, Piece}
 use Rattle.js_tree.specs.declared.items.JsImport.{JsImport}
-use Rattle.module_rules.proofs.Lines.{imports_are}
-use Rattle.module_rules.specs.Laws.{HasFile, IsSource, source_of}
-use Rattle.plan_laws.proofs.Apart.{apart_cons, apart_none, new_by, no_more}
+use Rattle.sj_emit_module_spec.proofs.Lines.{imports_are}
+use Rattle.sj_emit_module_spec.specs.Laws.{HasFile, IsSource, source_of}
+use Rattle.sj_split_laws.proofs.Apart.{apart_cons, apart_none, new_by, no_more}
 use Rattle.sj_split.proofs.Members.{at_first, further, cons_cases, into_map, from_map}
 use Rattle.sj_split.specs.Modules.{file}
 use Rattle.sj_split.specs.Orders.{Bytes, is_same}

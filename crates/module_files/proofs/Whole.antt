@@ -4,9 +4,9 @@ use Rattle.std.proofs.lemmas.List.Elements.{Contains-append_left}
 use Rattle.js_tree.specs.Terms.{Piece}
 use Rattle.js_tree.specs.declared.items.Binding.{Binding}
 use Rattle.module_names.specs.Names.{Key, Digest}
-use Rattle.module_rules.proofs.Lines.{in_module, stands_somewhere}
-use Rattle.module_rules.specs.Laws.{Uses, by_piece, by_call, IsDeclared}
-use Rattle.plan_laws.proofs.Placing.{placed_classes_are_reached, placed_where_public_or_owning}
+use Rattle.sj_emit_module_spec.proofs.Lines.{in_module, stands_somewhere}
+use Rattle.sj_emit_module_spec.specs.Laws.{Uses, by_piece, by_call, IsDeclared}
+use Rattle.sj_split_laws.proofs.Placing.{placed_classes_are_reached, placed_where_public_or_owning}
 use Rattle.sj_graph.specs.References.{IsGraph, object, reference, reference_by}
 use Rattle.sj_graph.specs.declared.graphs.Graph.{Graph}
 use Rattle.sj_names.specs.declared.entry_points.EntryPoint.{EntryPoint}

@@ -6,8 +6,8 @@ use Rattle.js_mean.specs.States.{Source, Program}
 use Rattle.js_tree.specs.Spelling.{Spells}
 use Rattle.js_tree.specs.Terms.{Name, Item, Piece}
 use Rattle.js_tree.specs.declared.items.Binding.{Binding}
-use Rattle.module_rules.specs.Laws.{Uses, AreClosed}
-use Rattle.module_rules.specs.Modules.{file_with, module_of}
+use Rattle.sj_emit_module_spec.specs.Laws.{Uses, AreClosed}
+use Rattle.sj_emit_module_spec.specs.Modules.{file_with, module_of}
 use Rattle.sj_split.specs.Modules.{file}
 use Rattle.sj_split.specs.Orders.{Bytes}
 use Rattle.sj_split.specs.declared.plans.PlannedModule.{PlannedModule}

@@ -9,9 +9,9 @@ use Rattle.proper_pieces.specs.EmittedMethods.{EmittedMethod}
 use Rattle.proper_pieces.specs.Once.{DefinesOnce}
 use Rattle.proper_pieces.specs.Pieces.{AreLinkedPieces}
 use Rattle.module_names.specs.Names.{Key, Digest}
-use Rattle.module_rules.specs.Laws.{Uses, AreClosed, IsSource}
-use Rattle.module_rules.specs.Modules.{file_with, module_of}
-use Rattle.plan_laws.specs.Laws.{KeepsNamesApart}
+use Rattle.sj_emit_module_spec.specs.Laws.{Uses, AreClosed, IsSource}
+use Rattle.sj_emit_module_spec.specs.Modules.{file_with, module_of}
+use Rattle.sj_split_laws.specs.Laws.{KeepsNamesApart}
 use Rattle.proper_pieces.specs.Laws.{AreNamed}
 use Rattle.proper_pieces.specs.Modules.{module_of as module_of_pieces}
 use Rattle.sj_graph.specs.References.{IsGraph}

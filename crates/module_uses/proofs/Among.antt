@@ -3,10 +3,10 @@ use Rattle.std.proofs.Common.{◌≡◌, ◌&&◌, ◌⊎◌, inl, inr, true, re
 use Rattle.std.specs.List.{list_all}
 use Rattle.std.proofs.lemmas.Bool.{and_parts, or_cases, or_left, or_right}
 use Rattle.running_modules.specs.Built.{Usable, has_cell}
-use Rattle.helper_rules.specs.Helpers.{helper_name}
+use Rattle.sj_emit_help_spec.specs.Helpers.{helper_name}
 use Rattle.js_tree.specs.declared.items.Binding.{Binding}
-use Rattle.sj_emit_expr.specs.Uses.{object_binding, function_binding, class_use, static_use, setter_use, load_use, store_use, test_uses, cast_uses, base_uses, looked_up_uses, call_uses}
-use Rattle.sj_desugar.specs.CalleeVariants as callees
+use Rattle.sj_emit_expr_spec.specs.Uses.{object_binding, function_binding, class_use, static_use, setter_use, load_use, store_use, test_uses, cast_uses, base_uses, looked_up_uses, call_uses}
+use Rattle.sj_desugar_spec.specs.CalleeVariants as callees
 use Rattle.running_modules.specs.Settings.{Top, a_function, a_method, a_constructor, a_dispatch, a_reflection, a_class, some_constants, a_static, a_setter, a_cell, a_loader, a_storer, a_test, a_cast, a_helper, is_usable}
 use Rattle.module_uses.specs.Laws.{RestrictedIsAmong}
 use Rattle.sj_names.specs.declared.references.BaseRef.{BaseRef}

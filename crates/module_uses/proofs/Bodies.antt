@@ -11,10 +11,10 @@ use Rattle.running_modules.proofs.BodyUsesUses.{Gives, GivesReceived, or_first, 
 use Rattle.running_modules.specs.Built.{Usable, can_box, can_look_up, has_base, is_based, may_make, is_built, body_boxes}
 use Rattle.running_modules.specs.BodyUsesLaws.{used_by}
 use Rattle.js_tree.specs.declared.items.Binding.{Binding}
-use Rattle.sj_desugar.specs.Desugar.{desugared_member, body_code, is_mutable_in, result_destination, member}
-use Rattle.sj_emit_expr.specs.Templates.{check_name}
-use Rattle.sj_emit_expr.specs.Uses.{object_binding, function_binding, class_use, static_use, setter_use, load_use, store_use, test_uses, cast_uses, base_uses, type_uses, looked_up_uses, call_uses, uses_of_all}
-use Rattle.sj_desugar.specs.CalleeVariants as callees
+use Rattle.sj_desugar_spec.specs.Desugar.{desugared_member, body_code, is_mutable_in, result_destination, member}
+use Rattle.sj_emit_expr_spec.specs.Templates.{check_name}
+use Rattle.sj_emit_expr_spec.specs.Uses.{object_binding, function_binding, class_use, static_use, setter_use, load_use, store_use, test_uses, cast_uses, base_uses, type_uses, looked_up_uses, call_uses, uses_of_all}
+use Rattle.sj_desugar_spec.specs.CalleeVariants as callees
 use Rattle.sj_infos.specs.Trees.{trees}
 use Rattle.sj_names.specs.declared.method_names.MethodName.{MethodName}
 use Rattle.sj_names.specs.declared.references.BaseRef.{BaseRef}

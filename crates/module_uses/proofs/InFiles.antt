@@ -5,8 +5,8 @@ use Rattle.std.proofs.lemmas.List.Folds.{Any-from_list_any, list_any_at}
 use Rattle.running_modules.proofs.Given.{same_binding}
 use Rattle.js_tree.specs.Terms.{Piece}
 use Rattle.js_tree.specs.declared.items.Binding.{Binding}
-use Rattle.module_rules.proofs.Chosen.{from_own, into_own}
-use Rattle.sj_emit_expr.specs.Uses.{is_same_binding}
+use Rattle.sj_emit_module_spec.proofs.Chosen.{from_own, into_own}
+use Rattle.sj_emit_expr_spec.specs.Uses.{is_same_binding}
 use Rattle.sj_names.proofs.Same.{text-refl}
 use Rattle.sj_names.specs.Same.{is_same_text}
 use Rattle.sj_split.specs.Orders.{Bytes}

@@ -7,7 +7,7 @@ use Rattle.running_modules.specs.Declared.{IsAmong}
 use Rattle.running_modules.specs.Typing.{is_built_with}
 use Rattle.js_tree.specs.Terms.{Piece}
 use Rattle.js_tree.specs.declared.items.Binding.{Binding}
-use Rattle.module_rules.specs.Laws.{Uses}
+use Rattle.sj_emit_module_spec.specs.Laws.{Uses}
 use Rattle.sj_infos.specs.Trees.{trees}
 use Rattle.sj_split.specs.Orders.{Bytes}
 use Rattle.sj_split.specs.declared.plans.PlannedModule.{PlannedModule}

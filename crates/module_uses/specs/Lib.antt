@@ -17,7 +17,7 @@ pub use Rattle.running_modules.specs.Linked
 pub use Rattle.running_modules.specs.LinkedPiecesPieces
 pub use Rattle.running_modules.specs.Reachable
 pub use Rattle.running_modules.specs.Refusals
-pub use Rattle.running_modules.specs.ReachRulesRules
+pub use Rattle.running_modules.specs.SjReachSpecRules
 pub use Rattle.running_modules.specs.Running
 pub use Rattle.running_modules.specs.Used as LinkedPiecesUsed
 pub use Rattle.running_modules.specs.Verdicts

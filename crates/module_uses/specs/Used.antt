@@ -4,9 +4,9 @@ use Rattle.std.specs.List.{list_all, list_any, flat_map}
 use Rattle.running_modules.specs.Built.{Usable}
 use Rattle.js_tree.specs.Terms.{Piece}
 use Rattle.js_tree.specs.declared.items.Binding.{Binding}
-use Rattle.module_rules.specs.Modules.{file_with, is_owned_in, uses_of, called_in}
-use Rattle.sj_emit_expr.specs.Uses.{object_binding, function_binding, class_use, static_use, setter_use, load_use, store_use, test_uses, cast_uses, base_uses, looked_up_uses, call_uses, is_same_binding}
-use Rattle.sj_desugar.specs.CalleeVariants as callees
+use Rattle.sj_emit_module_spec.specs.Modules.{file_with, is_owned_in, uses_of, called_in}
+use Rattle.sj_emit_expr_spec.specs.Uses.{object_binding, function_binding, class_use, static_use, setter_use, load_use, store_use, test_uses, cast_uses, base_uses, looked_up_uses, call_uses, is_same_binding}
+use Rattle.sj_desugar_spec.specs.CalleeVariants as callees
 use Rattle.sj_names.specs.declared.references.BaseRef.{BaseRef}
 use Rattle.sj_split.specs.Orders.{Bytes}
 use Rattle.sj_split.specs.declared.plans.PlannedModule.{PlannedModule}

@@ -30,7 +30,7 @@ pub use Rattle.linked_entries.proofs.Distinct
 pub use Rattle.linked_entries.proofs.Equal
 pub use Rattle.linked_entries.proofs.Kept
 pub use Rattle.linked_entries.proofs.RulesGive
-pub use Rattle.linked_entries.proofs.BuiltFormsTargets as Targets
+pub use Rattle.linked_entries.proofs.AgreeBodyFormsTargets as Targets
 pub use Rattle.linked_entries.proofs.Undenied
 pub use Rattle.linked_entries.proofs.One as LinkedEntriesOne
 pub use Rattle.linked_entries.proofs.Targets as EntryTargets

@@ -13,7 +13,7 @@ use Rattle.linked_entries.proofs.Defined.{last}
 use Rattle.linked_entries.proofs.Derivations.{closed}
 use Rattle.linked_entries.specs.Reachable.{Reachable, Unresolved}
 use Rattle.linked_entries.specs.Refusals.{Refusal, missing_class, wrong_kind, IsOtherKind, needed, no_class, no_class_made, no_module, no_exception}
-use Rattle.linked_entries.specs.ReachRulesRules.{Rule, the_object, above, new_needed, new_made, load_needed, load_made, array_made, throw_needed, throw_made}
+use Rattle.linked_entries.specs.SjReachSpecRules.{Rule, the_object, above, new_needed, new_made, load_needed, load_made, array_made, throw_needed, throw_made}
 use Rattle.sj_local.specs.ClassRules.{is_hijacked_kind, is_rightly_hijacked, is_right_number, keeps_hijacked}
 use Rattle.sj_local.specs.Names.{is_some_name}
 use Rattle.sj_names.proofs.Same.{impossible}

@@ -12,10 +12,10 @@ use Rattle.linked_entries.specs.Standing.{call_type}
 use Rattle.linked_entries.specs.Typing.{is_built_with}
 use Rattle.linked_entries.specs.Rules.{RightMember}
 use Rattle.linked_entries.specs.Built.{Usable}
-use Rattle.file_listings.proofs.ListedClasses.{file_is_listed}
-use Rattle.file_listings.specs.Listed.{AreBytes}
+use Rattle.sj_text_files.proofs.ListedClasses.{file_is_listed}
+use Rattle.sj_text_files.specs.Listed.{AreBytes}
 use Rattle.ir_mean.specs.World.{member_of}
-use Rattle.listing_spelling.specs.Rules.{HasListing, IsListedMethod, IsListedTree}
+use Rattle.sj_text_spec.specs.Rules.{HasListing, IsListedMethod, IsListedTree}
 use Rattle.linked_entries.specs.EmittedMethods.{EmittedMethod, HasFunction}
 use Rattle.linked_entries.proofs.Found.{OwnerOf, owner_of}
 use Rattle.linked_entries.specs.Judged.{IsJudgedClass}

@@ -5,22 +5,22 @@ use Rattle.std.proofs.lemmas.Bool.{and_parts, and_from}
 use Rattle.std.proofs.lemmas.List.Folds.{Any-from_list_any}
 use Rattle.linked_entries.proofs.Members.{has_function-from}
 use Rattle.linked_entries.proofs.Lists.{at_front, further_on}
-use Rattle.linked_entries.specs.BodySoundnessLaws.{null_pointer, arithmetic, class_cast, out_of_bounds, array_store, negative_size, CanRaise}
+use Rattle.linked_entries.specs.AgreeSoundnessLaws.{null_pointer, arithmetic, class_cast, out_of_bounds, array_store, negative_size, CanRaise}
 use Rattle.linked_entries.specs.Built.{Usable, divides, can_put, has_kind}
-use Rattle.helper_rules.specs.Helpers.{helper_name, used_helpers, failure_class}
-use Rattle.helper_rules.specs.declared.kinds.Failure.{Failure}
-use Rattle.helper_rules.specs.declared.kinds.Failure.TheVariants.{NullReceiver, Division, Cast, Index, Store, Size}
-use Rattle.helper_rules.specs.declared.kinds.Helper.{Helper}
-use Rattle.helper_rules.specs.declared.kinds.Helper.TheVariants.{TestOf, CastTo, ConstantsOf, NotNull, IntQuotient, IntRemainder, LongQuotient, LongRemainder, ArrayClass, MakeArray, CheckIndex, Get, Set, Put, Fits, TestOfArray, CastToArray, Throws}
+use Rattle.sj_emit_help_spec.specs.Helpers.{helper_name, used_helpers, failure_class}
+use Rattle.sj_emit_help_spec.specs.declared.kinds.Failure.{Failure}
+use Rattle.sj_emit_help_spec.specs.declared.kinds.Failure.TheVariants.{NullReceiver, Division, Cast, Index, Store, Size}
+use Rattle.sj_emit_help_spec.specs.declared.kinds.Helper.{Helper}
+use Rattle.sj_emit_help_spec.specs.declared.kinds.Helper.TheVariants.{TestOf, CastTo, ConstantsOf, NotNull, IntQuotient, IntRemainder, LongQuotient, LongRemainder, ArrayClass, MakeArray, CheckIndex, Get, Set, Put, Fits, TestOfArray, CastToArray, Throws}
 use Rattle.ir_mean.specs.Meaning.{with_message, without_parameters}
 use Rattle.linked_entries.specs.EmittedMethods.{EmittedMethod, HasFunction}
-use Rattle.linked_entries.specs.ReachRulesRules.{plain_constructor}
+use Rattle.linked_entries.specs.SjReachSpecRules.{plain_constructor}
 use Rattle.linked_entries.proofs.Facts.{made_told}
 use Rattle.linked_entries.specs.Used.{used_of, is_among, makes, uses_helper, is_cast as is_cast_to}
 use Rattle.object_folders.specs.Running.{CanRun, CanBeThrown}
-use Rattle.sj_desugar.specs.Desugar.{member}
-use Rattle.sj_emit_expr.specs.Templates.{check_name}
-use Rattle.sj_emit_expr.specs.Tests.{cast_name}
+use Rattle.sj_desugar_spec.specs.Desugar.{member}
+use Rattle.sj_emit_expr_spec.specs.Templates.{check_name}
+use Rattle.sj_emit_expr_spec.specs.Tests.{cast_name}
 use Rattle.sj_names.proofs.Same.{impossible, text-same}
 use Rattle.sj_names.specs.Same.{is_same_text}
 use Rattle.sj_names.specs.WellKnown.{object}

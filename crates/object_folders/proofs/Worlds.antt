@@ -12,8 +12,8 @@ use Rattle.linked_entries.specs.Bodies.{AreBodies}
 use Rattle.linked_entries.specs.Rules.{RightMember}
 use Rattle.linked_entries.specs.Worlds.{AreClassesKept}
 use Rattle.linked_entries.specs.Built.{has_static, is_static}
-use Rattle.file_listings.specs.Listed.{AreBytes}
-use Rattle.helper_rules.specs.declared.kinds.Helper.{Helper}
+use Rattle.sj_text_files.specs.Listed.{AreBytes}
+use Rattle.sj_emit_help_spec.specs.declared.kinds.Helper.{Helper}
 use Rattle.linked_entries.proofs.Statics.{static_is}
 use Rattle.linked_entries.proofs.Facts.{made_known}
 use Rattle.linked_entries.specs.Used.{used_of, is_among, makes, is_received, is_constructor_without_value, has_static_in, needs_static, is_loaded}

@@ -5,8 +5,8 @@ use Rattle.linked_entries.specs.Accepted.{IsAccepted}
 use Rattle.linked_entries.specs.Bodies.{AreBodies}
 use Rattle.linked_entries.specs.Rules.{RightMember}
 use Rattle.linked_entries.specs.Worlds.{ObjectWorld}
-use Rattle.file_listings.specs.Listed.{AreBytes}
-use Rattle.helper_rules.specs.declared.kinds.Helper.{Helper}
+use Rattle.sj_text_files.specs.Listed.{AreBytes}
+use Rattle.sj_emit_help_spec.specs.declared.kinds.Helper.{Helper}
 use Rattle.linked_entries.specs.Used.{used_of}
 use Rattle.object_folders.specs.Running.{CanRun}
 use Rattle.sj_names.specs.declared.entry_points.EntryPoint.{EntryPoint}

@@ -10,8 +10,8 @@ pub use Rattle.linked_entries.specs.EmittedMethods
 pub use Rattle.linked_entries.specs.Standing
 pub use Rattle.linked_entries.specs.Built
 pub use Rattle.linked_entries.specs.Classes
-pub use Rattle.linked_entries.specs.Pieces as PieceRulesPieces
-pub use Rattle.linked_entries.specs.ReachRulesRules as Rules
+pub use Rattle.linked_entries.specs.Pieces as SjEmitClassSpecPieces
+pub use Rattle.linked_entries.specs.SjReachSpecRules as Rules
 pub use Rattle.linked_entries.specs.Linked
 pub use Rattle.linked_entries.specs.Worlds
 pub use Rattle.linked_entries.specs.Order
@@ -23,7 +23,7 @@ pub use Rattle.linked_entries.specs.Refusals
 pub use Rattle.linked_entries.specs.LinkedPiecesLaws
 pub use Rattle.linked_entries.specs.Once
 pub use Rattle.linked_entries.specs.Stages
-pub use Rattle.linked_entries.specs.TypingRulesRules
+pub use Rattle.linked_entries.specs.SjTypingSpecRules
 pub use Rattle.linked_entries.specs.Typed
 pub use Rattle.linked_entries.specs.Boxes
 pub use Rattle.linked_entries.specs.Kept
@@ -34,4 +34,4 @@ pub use Rattle.linked_entries.specs.Targets
 pub use Rattle.linked_entries.specs.Dispatch
 pub use Rattle.linked_entries.specs.Dispatched
 pub use Rattle.linked_entries.specs.ToldPieces
-pub use Rattle.linked_entries.specs.BodySoundnessLaws
+pub use Rattle.linked_entries.specs.AgreeSoundnessLaws

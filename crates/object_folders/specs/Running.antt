@@ -2,15 +2,15 @@
 use Rattle.std.specs.Prelude.{◌≡◌, true, List}
 use Rattle.std.specs.List.{Contains}
 use Rattle.linked_entries.specs.Typing.{is_built_with}
-use Rattle.linked_entries.specs.BodySoundnessLaws.{IsClassBelow, Answers, AnswersByName}
-use Rattle.helper_rules.specs.Helpers.{failure_class, used_helpers}
-use Rattle.helper_rules.specs.declared.kinds.Failure.{Failure}
-use Rattle.helper_rules.specs.declared.kinds.Failure.TheVariants.{Cast}
-use Rattle.helper_rules.specs.declared.kinds.Helper.{Helper}
-use Rattle.helper_rules.specs.declared.kinds.Helper.TheVariants.{Throws}
+use Rattle.linked_entries.specs.AgreeSoundnessLaws.{IsClassBelow, Answers, AnswersByName}
+use Rattle.sj_emit_help_spec.specs.Helpers.{failure_class, used_helpers}
+use Rattle.sj_emit_help_spec.specs.declared.kinds.Failure.{Failure}
+use Rattle.sj_emit_help_spec.specs.declared.kinds.Failure.TheVariants.{Cast}
+use Rattle.sj_emit_help_spec.specs.declared.kinds.Helper.{Helper}
+use Rattle.sj_emit_help_spec.specs.declared.kinds.Helper.TheVariants.{Throws}
 use Rattle.linked_entries.specs.Used.{used_of, is_cast, is_loaded}
 use Rattle.linked_entries.specs.Reachable.{Reachable}
-use Rattle.linked_entries.specs.ReachRulesRules.{message_constructor, plain_constructor}
+use Rattle.linked_entries.specs.SjReachSpecRules.{message_constructor, plain_constructor}
 use Rattle.linked_entries.specs.EmittedMethods.{EmittedMethod, HasFunction}
 use Rattle.sj_names.specs.WellKnown.{object}
 use Rattle.sj_names.specs.declared.entry_points.EntryPoint.{EntryPoint}

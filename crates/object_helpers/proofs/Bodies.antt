@@ -12,19 +12,19 @@ use Rattle.std.specs.List.{All, list_any}
 use Rattle.std.proofs.lemmas.List.Elements.{All-nil, All-cons, All-head, All-tail, All-contains, Contains-append_right, Contains-append_left}
 use Rattle.body_uses.proofs.Given.{all_from}
 use Rattle.body_uses.proofs.EachTyped.{in_all}
-use Rattle.helper_rules.specs.Helpers.{helper_name}
-use Rattle.helper_rules.specs.Words.{bound, helper, is_name, as_name}
-use Rattle.helper_rules.specs.declared.kinds.Helper.{Helper}
-use Rattle.helper_rules.specs.declared.kinds.Helper.TheVariants as helpers
-use Rattle.helper_rules.specs.declared.kinds.Kind.{Kind}
-use Rattle.helper_rules.specs.declared.kinds.Kind.TheVariants as kinds
+use Rattle.sj_emit_help_spec.specs.Helpers.{helper_name}
+use Rattle.sj_emit_help_spec.specs.Words.{bound, helper, is_name, as_name}
+use Rattle.sj_emit_help_spec.specs.declared.kinds.Helper.{Helper}
+use Rattle.sj_emit_help_spec.specs.declared.kinds.Helper.TheVariants as helpers
+use Rattle.sj_emit_help_spec.specs.declared.kinds.Kind.{Kind}
+use Rattle.sj_emit_help_spec.specs.declared.kinds.Kind.TheVariants as kinds
 use Rattle.js_tree.specs.declared.items.Binding.{Binding}
 use Rattle.proper_pieces.proofs.Names.{function_rank}
 use Rattle.sj_core.specs.Terms as core
-use Rattle.sj_desugar.specs.Desugar.{member, desugared_member, body_code, completed, is_mutable_in, result_destination, callee_of}
-use Rattle.sj_emit_expr.specs.Templates.{check_name, element_setter, called_member}
-use Rattle.sj_emit_expr.specs.Tests.{same_name}
-use Rattle.sj_emit_expr.specs.Uses.{object_binding, function_binding, class_use, static_use, setter_use, load_use, store_use, helper_of, test_uses, cast_uses, base_uses, type_uses, uses_of_all, is_same_binding, once_each, uses, looked_up_uses, call_uses}
+use Rattle.sj_desugar_spec.specs.Desugar.{member, desugared_member, body_code, completed, is_mutable_in, result_destination, callee_of}
+use Rattle.sj_emit_expr_spec.specs.Templates.{check_name, element_setter, called_member}
+use Rattle.sj_emit_expr_spec.specs.Tests.{same_name}
+use Rattle.sj_emit_expr_spec.specs.Uses.{object_binding, function_binding, class_use, static_use, setter_use, load_use, store_use, helper_of, test_uses, cast_uses, base_uses, type_uses, uses_of_all, is_same_binding, once_each, uses, looked_up_uses, call_uses}
 use Rattle.sj_infos.specs.Infos.{asks, asked_in, of_receiver, of_static_call, of_division, of_type, of_cast, of_base, of_array, of_element, is_any, is_other_than_zero, null_pointer, arithmetic, class_cast, index_out_of_bounds, negative_size, of_apply, of_call, no_such_method}
 use Rattle.sj_infos.specs.Infos as infos
 use Rattle.sj_infos.specs.Sure.{sure_among}

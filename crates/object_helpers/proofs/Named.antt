@@ -1,9 +1,9 @@
 -- What is told by the name of a binding: no class, function or field has the name of a helper, and each helper its own.
 use Rattle.std.proofs.Common.{◌≡◌, ℕ, false, sym, ap, ◌∙◌}
 use Rattle.std.specs.Prelude.{◌==◌}
-use Rattle.helper_rules.specs.Helpers.{helper_name}
-use Rattle.helper_rules.specs.Words.{helper}
-use Rattle.helper_rules.specs.declared.kinds.Helper.{Helper}
+use Rattle.sj_emit_help_spec.specs.Helpers.{helper_name}
+use Rattle.sj_emit_help_spec.specs.Words.{helper}
+use Rattle.sj_emit_help_spec.specs.declared.kinds.Helper.{Helper}
 use Rattle.js_tree.specs.declared.items.Binding.{Binding}
 use Rattle.proper_pieces.proofs.Names.{rank, helper_rank}
 use Rattle.sj_names.proofs.Same.{impossible}

@@ -12,14 +12,14 @@ use Rattle.body_uses.specs.Bodies.{AreBodies}
 use Rattle.body_uses.proofs.Uses.{combine}
 use Rattle.body_uses.proofs.EachTyped.{in_all}
 use Rattle.body_uses.proofs.Undenied.{first_or_later}
-use Rattle.helper_rules.specs.Helpers.{helper_name, used_helpers, tests_and_constants, failure_class}
-use Rattle.helper_rules.specs.Words.{bound, helper, all_kinds, worded_kinds, class_name, public_function}
-use Rattle.helper_rules.specs.declared.kinds.Failure.{Failure}
-use Rattle.helper_rules.specs.declared.kinds.Failure.TheVariants as failures
-use Rattle.helper_rules.specs.declared.kinds.Helper.{Helper}
-use Rattle.helper_rules.specs.declared.kinds.Helper.TheVariants as helpers
-use Rattle.helper_rules.specs.declared.kinds.Kind.{Kind}
-use Rattle.helper_rules.specs.declared.kinds.Kind.TheVariants as kinds
+use Rattle.sj_emit_help_spec.specs.Helpers.{helper_name, used_helpers, tests_and_constants, failure_class}
+use Rattle.sj_emit_help_spec.specs.Words.{bound, helper, all_kinds, worded_kinds, class_name, public_function}
+use Rattle.sj_emit_help_spec.specs.declared.kinds.Failure.{Failure}
+use Rattle.sj_emit_help_spec.specs.declared.kinds.Failure.TheVariants as failures
+use Rattle.sj_emit_help_spec.specs.declared.kinds.Helper.{Helper}
+use Rattle.sj_emit_help_spec.specs.declared.kinds.Helper.TheVariants as helpers
+use Rattle.sj_emit_help_spec.specs.declared.kinds.Kind.{Kind}
+use Rattle.sj_emit_help_spec.specs.declared.kinds.Kind.TheVariants as kinds
 use Rattle.js_tree.specs.Terms.{Name, Piece}
 use Rattle.js_tree.specs.declared.items.Binding.{Binding}
 use Rattle.body_uses.specs.Dispatch.{Told, told_uses, Reflected, reflected_uses}
@@ -31,7 +31,7 @@ use Rattle.sj_trees.specs.TypeOf.{type_of_term}
 use Rattle.sj_infos.specs.Receivers.{receiver_class}
 use Rattle.body_uses.specs.Pieces.{piece_of_member, Block, IsBlock, AreBlocks, pieces_of_block, IsUsed, by_piece, by_helper, AreLinkedPieces}
 use Rattle.body_uses.specs.Classes.{HasForm, AreParts, AreClassPieces, absent, present}
-use Rattle.body_uses.specs.PieceRulesPieces.{Parts, pieces, constants_piece, class_piece, class_uses, parent_uses, own_constants, uses_of_entries, entry_uses, box_uses, is_proxy, is_char, all_statics, variable_piece, setter_piece, when, cell_piece, cell_pieces, load_piece, store_piece, init, init_name, test_piece, test_uses, test_binding, cast_piece, kind_of_class, constants_of, class_of as class_pieces_of, module_of, tests_of}
+use Rattle.body_uses.specs.SjEmitClassSpecPieces.{Parts, pieces, constants_piece, class_piece, class_uses, parent_uses, own_constants, uses_of_entries, entry_uses, box_uses, is_proxy, is_char, all_statics, variable_piece, setter_piece, when, cell_piece, cell_pieces, load_piece, store_piece, init, init_name, test_piece, test_uses, test_binding, cast_piece, kind_of_class, constants_of, class_of as class_pieces_of, module_of, tests_of}
 use Rattle.proper_pieces.proofs.Names.{function_rank}
 use Rattle.body_uses.proofs.Derivations.{closed}
 use Rattle.body_uses.specs.Reachable.{Reachable}
@@ -57,7 +57,7 @@ use Rattle.sj_names.specs.declared.folders.SourceFile.{SourceFile}
 use Rattle.sj_names.specs.declared.method_names.MethodName.{MethodName}
 use Rattle.sj_names.specs.declared.method_names.Namespace.TheVariants.{Constructor}
 use Rattle.sj_names.specs.declared.references.BaseRef.{BaseRef}
-use Rattle.sj_emit_expr.specs.Templates.{member_name}
+use Rattle.sj_emit_expr_spec.specs.Templates.{member_name}
 use Rattle.body_uses.specs.EmittedMethods.{EmittedMethod}
 use Rattle.sj_split.proofs.Members.{from_map}
 use Rattle.sj_trees.specs.Term.{Term, load_module, store_module, apply, new_array, array_value, is_instance_of, as_instance_of}

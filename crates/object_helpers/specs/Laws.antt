@@ -3,18 +3,18 @@ use Rattle.sj_core.specs.Lookup.{Lookup}
 use Rattle.std.specs.Prelude.{◌≡◌, ◌⊎◌, List, Some, Contains}
 use Rattle.body_uses.specs.Accepted.{IsAccepted}
 use Rattle.body_uses.specs.Bodies.{AreBodies}
-use Rattle.helper_rules.specs.Helpers.{helper_name, failure_class}
-use Rattle.helper_rules.specs.Words.{helper}
-use Rattle.helper_rules.specs.declared.kinds.Failure.{Failure}
-use Rattle.helper_rules.specs.declared.kinds.Failure.TheVariants.{Store}
-use Rattle.helper_rules.specs.declared.kinds.Helper.{Helper}
-use Rattle.helper_rules.specs.declared.kinds.Helper.TheVariants.{ArrayClass, Throws}
+use Rattle.sj_emit_help_spec.specs.Helpers.{helper_name, failure_class}
+use Rattle.sj_emit_help_spec.specs.Words.{helper}
+use Rattle.sj_emit_help_spec.specs.declared.kinds.Failure.{Failure}
+use Rattle.sj_emit_help_spec.specs.declared.kinds.Failure.TheVariants.{Store}
+use Rattle.sj_emit_help_spec.specs.declared.kinds.Helper.{Helper}
+use Rattle.sj_emit_help_spec.specs.declared.kinds.Helper.TheVariants.{ArrayClass, Throws}
 use Rattle.js_tree.specs.Terms.{Piece}
 use Rattle.body_uses.specs.Pieces.{AreLinkedPieces}
 use Rattle.body_uses.specs.Reachable.{Reachable}
 use Rattle.body_uses.specs.Rules.{message_constructor}
-use Rattle.sj_desugar.specs.Desugar.{desugared_member}
-use Rattle.sj_emit_expr.specs.Uses.{uses}
+use Rattle.sj_desugar_spec.specs.Desugar.{desugared_member}
+use Rattle.sj_emit_expr_spec.specs.Uses.{uses}
 use Rattle.sj_infos.specs.Infos.{asked_in}
 use Rattle.body_uses.specs.Kept.{KeepsTreeRules}
 use Rattle.sj_names.specs.WellKnown.{object}

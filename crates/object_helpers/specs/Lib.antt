@@ -21,7 +21,7 @@ pub use Rattle.body_uses.specs.Running
 pub use Rattle.body_uses.specs.Stages
 pub use Rattle.body_uses.specs.Standing
 pub use Rattle.body_uses.specs.Typed
-pub use Rattle.body_uses.specs.TypingRulesRules
+pub use Rattle.body_uses.specs.SjTypingSpecRules
 pub use Rattle.body_uses.specs.Used
 pub use Rattle.body_uses.specs.Dispatch
 pub use Rattle.body_uses.specs.Dispatched
@@ -32,5 +32,5 @@ pub use Rattle.proper_pieces.specs.Laws as ProperPiecesLaws
 pub use Rattle.proper_pieces.specs.Modules
 pub use Rattle.body_uses.specs.Given
 pub use Rattle.body_uses.specs.Laws as BodyUsesLaws
-pub use Rattle.body_uses.specs.BodySoundnessLaws
+pub use Rattle.body_uses.specs.AgreeSoundnessLaws
 pub use Rattle.body_uses.specs.Targets

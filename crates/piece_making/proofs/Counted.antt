@@ -1,7 +1,7 @@
 -- Parameters, one behind the other.
 use Rattle.std.proofs.Common.{◌≡◌, ℕ, ◌+◌, List, [], ◌∷◌, ◌++◌, ap, sym, ◌∙◌, add-one, append_assoc}
 use Rattle.js_tree.specs.Terms.{Name}
-use Rattle.helper_rules.specs.Words.{parameter, first_parameters}
+use Rattle.sj_emit_help_spec.specs.Words.{parameter, first_parameters}
 
 -- one parameter more behind what is there
 pub one_more : (old names new : List Name) (p : Name) (n : ℕ) → names ≡ old ++ first_parameters n → new ≡ names ++ p ∷ [] → p ≡ parameter n → new ≡ old ++ first_parameters (n + 1)

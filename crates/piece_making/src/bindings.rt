@@ -2,13 +2,13 @@
 ghost use Rattle.std.specs.Prelude.{◌≡◌, [], ◌∷◌, IfOk};
 ghost use Rattle.js_tree.specs.Terms.{Name};
 ghost use Rattle.js_tree.specs.declared.items.Binding.{Binding as Bound};
-ghost use Rattle.helper_rules.specs.Helpers.{of};
-ghost use Rattle.helper_rules.specs.Words as words;
+ghost use Rattle.sj_emit_help_spec.specs.Helpers.{of};
+ghost use Rattle.sj_emit_help_spec.specs.Words as words;
 
 use crate::kinds::helper_name;
 use crate::names::text;
-use helper_rules::Helper;
 use js_tree::Binding;
+use sj_emit_help_spec::Helper;
 use sj_names::{ClassName, NoMemory, OBJECT, Text};
 use std::alloc::Global;
 

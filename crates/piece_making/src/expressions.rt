@@ -1,7 +1,7 @@
 // Expressions.
 ghost use Rattle.std.specs.Prelude.{◌≡◌, ◌++◌, IfOk, OnOk};
 ghost use Rattle.std.specs.Char.Escape.{encode_utf16};
-ghost use Rattle.helper_rules.specs.Words.{units_of as units_in};
+ghost use Rattle.sj_emit_help_spec.specs.Words.{units_of as units_in};
 ghost use Rattle.js_tree.specs.Terms as js;
 ghost use Rattle.js_tree.specs.Views.{expression_view, expressions_view};
 ghost use Rattle.js_tree.specs.declared.operators.BinaryOperator.TheVariants.{And, Or, StrictEqual, StrictNotEqual};

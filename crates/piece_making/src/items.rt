@@ -3,7 +3,7 @@ ghost use Rattle.std.specs.Prelude.{◌≡◌, List, map, IfOk};
 ghost use Rattle.js_tree.specs.Terms as js;
 ghost use Rattle.js_tree.specs.Views.{expression_view, statements_view, property_view, member_view, item_view, piece_view};
 ghost use Rattle.js_tree.specs.declared.items.Binding.{Binding as Bound};
-ghost use Rattle.helper_rules.specs.Words.{bound};
+ghost use Rattle.sj_emit_help_spec.specs.Words.{bound};
 ghost use Rattle.piece_making.specs.Made.{Makes};
 
 use js_tree::{Binding, ClassMember, JsBody, JsExpr, JsItem, JsPiece, JsStmt, ObjectProperty};

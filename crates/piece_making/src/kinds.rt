@@ -1,11 +1,11 @@
 // The names of helpers, and the classes of kinds.
 ghost use Rattle.std.specs.Prelude.{◌≡◌, IsTrue};
 ghost use Rattle.sj_names.specs.Grammar.{is_class_name};
-ghost use Rattle.helper_rules.specs.Helpers.{helper_name as name_of_helper};
-ghost use Rattle.helper_rules.specs.Words.{kind_class, is_name, as_name};
-ghost use Rattle.helper_rules.specs.declared.kinds.Helper.TheVariants.{ConstantsOf, Throws};
+ghost use Rattle.sj_emit_help_spec.specs.Helpers.{helper_name as name_of_helper};
+ghost use Rattle.sj_emit_help_spec.specs.Words.{kind_class, is_name, as_name};
+ghost use Rattle.sj_emit_help_spec.specs.declared.kinds.Helper.TheVariants.{ConstantsOf, Throws};
 
-use helper_rules::{Failure, Helper, Kind};
+use sj_emit_help_spec::{Failure, Helper, Kind};
 
 /// The class of a kind.
 pub fn class_of_kind(kind: Kind) -> &'static str

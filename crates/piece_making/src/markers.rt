@@ -1,7 +1,7 @@
 // What the running code knows of a class: its marker and those of the classes above it.
 ghost use Rattle.std.specs.Prelude.{◌≡◌, map, IfOk};
 ghost use Rattle.js_tree.specs.Views.{property_view};
-ghost use Rattle.helper_rules.specs.Helpers as rules;
+ghost use Rattle.sj_emit_help_spec.specs.Helpers as rules;
 ghost use Rattle.piece_making.specs.Made.{Makes};
 
 use crate::expressions::text_of;

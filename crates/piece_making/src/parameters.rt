@@ -2,7 +2,7 @@
 ghost use Rattle.std.specs.Prelude.{◌≡◌, [], ◌++◌, ◌∷◌, map, IfOk, OnOk};
 ghost use Rattle.js_tree.specs.Terms as js;
 ghost use Rattle.js_tree.specs.Views.{expression_view, expressions_view};
-ghost use Rattle.helper_rules.specs.Words as words;
+ghost use Rattle.sj_emit_help_spec.specs.Words as words;
 ghost use Rattle.piece_making.specs.Made.{Makes};
 
 use js_tree::JsExpr;

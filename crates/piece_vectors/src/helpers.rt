@@ -2,9 +2,9 @@
 use crate::texts::line_of;
 use anyhow::Result;
 use call_cases::{dispatch_of, reflective_of};
-use helper_making::helper_piece;
-use helper_rules::{Failure, Helper, Kind};
 use piece_making::{class_of_kind, helper_name};
+use sj_emit_help::helper_piece;
+use sj_emit_help_spec::{Failure, Helper, Kind};
 use sj_infos::{BodyForm, forms_of};
 use sj_mangling::{MethodBinding, method_binding};
 use sj_names::{ClassName, Member, MethodName};

@@ -1,6 +1,6 @@
 // What a text lists, and where other texts go wrong.
-use listing_spelling::each_has_one_listing;
 use sj_text::{ListingError, parse_listing, print_listing};
+use sj_text_spec::each_has_one_listing;
 use std::alloc::Global;
 use std::test::Fail;
 

@@ -4,7 +4,7 @@ use Rattle.sj_mangling.proofs.Numerals.{numerals_differ}
 use Rattle.sj_mangling.specs.Numerals.{number_text}
 use Rattle.std.proofs.lemmas.List.Elements.{Contains-append_cases}
 use Rattle.linked_pieces.proofs.Equal.{differs}
-use Rattle.helper_rules.specs.Words.{parameter, first_parameters}
+use Rattle.sj_emit_help_spec.specs.Words.{parameter, first_parameters}
 use Rattle.js_mean.specs.Proper.{is_among, are_distinct}
 use Rattle.js_tree.specs.Names.{is_same_text}
 use Rattle.js_tree.specs.Terms.{Name}

@@ -2,18 +2,18 @@
 use Rattle.std.proofs.Common.{◌≡◌, ◌⊎◌, ◌++◌, ◌&&◌, ◌||◌, not, Bool, true, false, ℕ, List, [], ◌∷◌, Option, Some, None, inl, inr, refl, sym, ap, subst, map, length, codes, Contains, append-nil}
 use Rattle.std.specs.List.{list_all, list_any}
 use Rattle.std.proofs.lemmas.List.Elements.{Contains-append_cases}
-use Rattle.helper_rules.specs.Helpers.{Above, helper_piece}
-use Rattle.helper_rules.specs.Words.{parameters_of, all_kinds, units_of}
-use Rattle.helper_rules.specs.declared.kinds.Helper.{Helper}
-use Rattle.helper_rules.specs.declared.kinds.Helper.TheVariants as helpers
-use Rattle.helper_rules.specs.declared.kinds.Failure.{Failure}
-use Rattle.helper_rules.specs.declared.kinds.Failure.TheVariants as failures
+use Rattle.sj_emit_help_spec.specs.Helpers.{Above, helper_piece}
+use Rattle.sj_emit_help_spec.specs.Words.{parameters_of, all_kinds, units_of}
+use Rattle.sj_emit_help_spec.specs.declared.kinds.Helper.{Helper}
+use Rattle.sj_emit_help_spec.specs.declared.kinds.Helper.TheVariants as helpers
+use Rattle.sj_emit_help_spec.specs.declared.kinds.Failure.{Failure}
+use Rattle.sj_emit_help_spec.specs.declared.kinds.Failure.TheVariants as failures
 use Rattle.js_mean.specs.Proper.{Place, are_distinct, declared, are_proper, is_proper_member, is_proper_item, is_constructor}
 use Rattle.js_tree.specs.Terms.{Name, Piece, Statements}
 use Rattle.js_tree.specs.Views.{statements_of}
 use Rattle.linked_pieces.specs.Dispatch.{Told, dispatch_body, dispatch_piece, Reflected, reflected_body, reflective_piece}
 use Rattle.sj_names.specs.MethodNames.{spelled_method}
-use Rattle.linked_pieces.specs.PieceRulesPieces.{Parts, pieces, when, constants_piece, class_piece, entry_member, field_start, all_statics, variable_piece, setter_piece, cell_piece, load_piece, store_piece, cell_pieces, test_piece, kind_of_class, cast_piece, constants_of, class_of, module_of, tests_of}
+use Rattle.linked_pieces.specs.SjEmitClassSpecPieces.{Parts, pieces, when, constants_piece, class_piece, entry_member, field_start, all_statics, variable_piece, setter_piece, cell_piece, load_piece, store_piece, cell_pieces, test_piece, kind_of_class, cast_piece, constants_of, class_of, module_of, tests_of}
 use Rattle.proper_pieces.specs.Laws.{PiecesAreProper}
 use Rattle.linked_pieces.proofs.Modules.{member_proper}
 use Rattle.linked_pieces.specs.Targets.{lookup_in}

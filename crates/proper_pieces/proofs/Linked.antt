@@ -5,9 +5,9 @@ use Rattle.std.specs.Prelude.{is_some}
 use Rattle.std.proofs.lemmas.List.Elements.{Contains-append_cases}
 use Rattle.std.proofs.lemmas.List.Sorted.{Contains-permutation, IsPermutation-sym}
 use Rattle.linked_pieces.proofs.Plain.{class_found}
-use Rattle.helper_rules.specs.Helpers.{Above, helper_name, helper_piece}
-use Rattle.helper_rules.specs.declared.kinds.Helper.{Helper}
-use Rattle.helper_rules.specs.declared.kinds.Helper.TheVariants as helpers
+use Rattle.sj_emit_help_spec.specs.Helpers.{Above, helper_name, helper_piece}
+use Rattle.sj_emit_help_spec.specs.declared.kinds.Helper.{Helper}
+use Rattle.sj_emit_help_spec.specs.declared.kinds.Helper.TheVariants as helpers
 use Rattle.js_mean.specs.Proper.{are_distinct, item_names}
 use Rattle.js_tree.specs.Terms.{Name, Piece}
 use Rattle.linked_pieces.specs.Dispatched.{OfDispatched, HasLesserPiece, AreDispatchPieces}
@@ -18,10 +18,10 @@ use Rattle.linked_pieces.proofs.Fields.{is_same_field, fields_apart, from_key, m
 use Rattle.linked_pieces.proofs.Names.{weaker}
 use Rattle.linked_pieces.proofs.One.{never_class, reached_apart, reached_static}
 use Rattle.linked_pieces.specs.Classes.{AreClassPieces, AreParts, AreStatics, absent, present}
-use Rattle.linked_pieces.specs.PieceRulesPieces.{Parts, pieces}
+use Rattle.linked_pieces.specs.SjEmitClassSpecPieces.{Parts, pieces}
 use Rattle.proper_pieces.specs.Laws.{AreNamed, NamesOfPiecesDiffer}
 use Rattle.proper_pieces.specs.Modules.{item_of}
-use Rattle.sj_emit_expr.specs.Templates.{member_name}
+use Rattle.sj_emit_expr_spec.specs.Templates.{member_name}
 use Rattle.sj_names.proofs.Same.{impossible}
 use Rattle.sj_names.specs.Grammar.{is_class_name}
 use Rattle.sj_names.specs.WellKnown.{is_object}

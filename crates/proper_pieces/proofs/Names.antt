@@ -1,12 +1,12 @@
 -- What is read back from the name of a piece: a number for its prefix, and the class that owns it.
 use Rattle.std.proofs.Common.{◌≡◌, ◌++◌, ℕ, Bool, true, false, [], ◌∷◌, IsTrue, refl, sym, ap, ◌∙◌, arith, append_assoc, if◌then◌else◌}
 use Rattle.std.specs.Prelude.{◌==◌, codes}
-use Rattle.helper_rules.specs.Helpers.{helper_name}
-use Rattle.helper_rules.specs.declared.kinds.Kind.{Kind}
-use Rattle.helper_rules.specs.declared.kinds.Helper.{Helper}
-use Rattle.helper_rules.specs.declared.kinds.Helper.TheVariants as helpers
-use Rattle.helper_rules.specs.declared.kinds.Failure.{Failure}
-use Rattle.helper_rules.specs.declared.kinds.Failure.TheVariants as failures
+use Rattle.sj_emit_help_spec.specs.Helpers.{helper_name}
+use Rattle.sj_emit_help_spec.specs.declared.kinds.Kind.{Kind}
+use Rattle.sj_emit_help_spec.specs.declared.kinds.Helper.{Helper}
+use Rattle.sj_emit_help_spec.specs.declared.kinds.Helper.TheVariants as helpers
+use Rattle.sj_emit_help_spec.specs.declared.kinds.Failure.{Failure}
+use Rattle.sj_emit_help_spec.specs.declared.kinds.Failure.TheVariants as failures
 use Rattle.js_tree.specs.Terms.{Name}
 use Rattle.linked_pieces.specs.Dispatch.{dispatch_name, reflective_name}
 use Rattle.sj_mangling.specs.Bindings.{field_binding, function_name}

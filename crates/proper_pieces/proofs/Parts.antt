@@ -1,11 +1,11 @@
 -- The pieces of a class declare names that differ, each of which the class owns.
 use Rattle.std.proofs.Common.{◌≡◌, ◌≤◌, ◌<◌, ◌⊎◌, ◌++◌, ◌||◌, ℕ, Bool, true, false, List, [], ◌∷◌, Option, Some, None, IsTrue, inl, inr, refl, sym, ap, subst, ◌∙◌, Contains, arith}
 use Rattle.std.proofs.lemmas.List.Elements.{Contains-append_cases}
-use Rattle.helper_rules.specs.Words.{all_kinds}
+use Rattle.sj_emit_help_spec.specs.Words.{all_kinds}
 use Rattle.js_mean.specs.Proper.{item_names}
 use Rattle.js_tree.specs.Terms.{Name, Item, Piece}
 use Rattle.linked_pieces.specs.Order.{AreInOrder}
-use Rattle.linked_pieces.specs.PieceRulesPieces.{Parts, pieces, when, constants_piece, class_piece, all_statics, variable_piece, setter_piece, cell_piece, load_piece, store_piece, cell_pieces, test_piece, kind_of_class, cast_piece, constants_of, class_of, module_of, tests_of}
+use Rattle.linked_pieces.specs.SjEmitClassSpecPieces.{Parts, pieces, when, constants_piece, class_piece, all_statics, variable_piece, setter_piece, cell_piece, load_piece, store_piece, cell_pieces, test_piece, kind_of_class, cast_piece, constants_of, class_of, module_of, tests_of}
 use Rattle.sj_mangling.specs.Bindings.{field_binding}
 use Rattle.sj_mangling.specs.Mangling.{mangled}
 use Rattle.sj_mangling.specs.declared.bindings.FieldBinding.TheVariants.{Variable, Setter}

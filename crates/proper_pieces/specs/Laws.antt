@@ -1,12 +1,12 @@
 -- Laws of the early errors of the pieces of a linked world.
 use Rattle.std.specs.Prelude.{◌≡◌, true, List, None, Contains, IsTrue, map}
-use Rattle.helper_rules.specs.Helpers.{Above, helper_piece}
-use Rattle.helper_rules.specs.declared.kinds.Helper.{Helper}
+use Rattle.sj_emit_help_spec.specs.Helpers.{Above, helper_piece}
+use Rattle.sj_emit_help_spec.specs.declared.kinds.Helper.{Helper}
 use Rattle.js_mean.specs.Proper.{are_distinct, is_proper_item, item_names, is_proper_module}
 use Rattle.js_tree.specs.Terms.{Name, Piece}
 use Rattle.linked_pieces.specs.Dispatch.{Told, dispatch_piece, Reflected, reflective_piece}
 use Rattle.linked_pieces.specs.Pieces.{piece_of_member, AreLinkedPieces}
-use Rattle.linked_pieces.specs.PieceRulesPieces.{Parts, pieces}
+use Rattle.linked_pieces.specs.SjEmitClassSpecPieces.{Parts, pieces}
 use Rattle.proper_pieces.specs.Modules.{item_of, module_of}
 use Rattle.sj_local.specs.Broken.{FirstBroken}
 use Rattle.sj_names.specs.Grammar.{is_class_name}

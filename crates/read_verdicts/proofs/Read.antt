@@ -7,9 +7,9 @@ use Rattle.sj_names.specs.declared.entry_points.EntryPoint.{EntryPoint}
 use Rattle.sj_names.specs.declared.folders.SourceFile.{SourceFile}
 use Rattle.folder_sizes.specs.Sizes.{largest_file, sum, IsOver, IsTooLarge, IsFirstTooLarge}
 use Rattle.folder_sizes.specs.Files.{size_of, sizes}
-use Rattle.folder_verdicts.specs.Verdicts.{Verdict, refused, IsVerdict, too_large}
-use Rattle.folder_verdicts.proofs.Firsts.{in_order}
-use Rattle.folder_verdicts.proofs.Verdict.{one_verdict}
+use Rattle.folder_judging_spec.specs.Verdicts.{Verdict, refused, IsVerdict, too_large}
+use Rattle.folder_judging_spec.proofs.Firsts.{in_order}
+use Rattle.folder_judging_spec.proofs.Verdict.{one_verdict}
 use Rattle.folder_files.specs.Files.{front, IsReadOf, all, up_to}
 use Rattle.read_verdicts.specs.Laws.{VerdictOnWhatIsRead}
 

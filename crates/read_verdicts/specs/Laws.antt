@@ -2,7 +2,7 @@
 use Rattle.std.specs.Prelude.{◌↔◌, List}
 use Rattle.sj_names.specs.declared.entry_points.EntryPoint.{EntryPoint}
 use Rattle.sj_names.specs.declared.folders.SourceFile.{SourceFile}
-use Rattle.folder_verdicts.specs.Verdicts.{Verdict, IsVerdict}
+use Rattle.folder_judging_spec.specs.Verdicts.{Verdict, IsVerdict}
 use Rattle.folder_files.specs.Files.{IsReadOf}
 
 -- the verdict on what is read of a folder is that on the folder

@@ -3,16 +3,16 @@ use Rattle.std.proofs.Common.{◌≡◌, true, List, Option, Some, None, sym, su
 use Rattle.closed_pieces.proofs.DeclaredPiecesBelow.{kind_hijacked, known_class, known_hijacked}
 use Rattle.closed_pieces.proofs.Places.{Stands, own, method, helps, tells, names, stands}
 use Rattle.declared_files.specs.Declared.{AreConstants}
-use Rattle.helper_rules.specs.Helpers.{helper_item, constants}
-use Rattle.helper_rules.specs.Words.{kind_class}
-use Rattle.helper_rules.specs.declared.kinds.Helper.{Helper}
-use Rattle.helper_rules.specs.declared.kinds.Helper.TheVariants as helpers
+use Rattle.sj_emit_help_spec.specs.Helpers.{helper_item, constants}
+use Rattle.sj_emit_help_spec.specs.Words.{kind_class}
+use Rattle.sj_emit_help_spec.specs.declared.kinds.Helper.{Helper}
+use Rattle.sj_emit_help_spec.specs.declared.kinds.Helper.TheVariants as helpers
 use Rattle.js_tree.specs.Terms.{Name, Property, object_item, Piece}
 use Rattle.declared_files.specs.Classes.{AreParts}
-use Rattle.sj_proper.specs.EmittedMethods.{EmittedMethod}
+use Rattle.agree_early_errors.specs.EmittedMethods.{EmittedMethod}
 use Rattle.declared_files.specs.Pieces.{Parts, pieces, class_piece}
 use Rattle.module_files.specs.Pieces.{AreLinkedPieces}
-use Rattle.sj_proper.proofs.Plain.{class_found}
+use Rattle.agree_early_errors.proofs.Plain.{class_found}
 use Rattle.sj_world.specs.Known.{is_known}
 use Rattle.sj_world.specs.Linked.{Linked}
 use Rattle.sj_world.specs.Tables.{AreAncestors}

@@ -18,8 +18,8 @@ use Rattle.closed_pieces.proofs.Worlds.{judged}
 use Rattle.closed_pieces.specs.Closed.{IsClosed, items_of}
 use Rattle.closed_pieces.specs.Entries.{IsLive}
 use Rattle.declared_files.specs.Declarations.{declare}
-use Rattle.file_listings.specs.Listed.{AreBytes}
-use Rattle.helper_rules.specs.declared.kinds.Helper.TheVariants.{ArrayClass}
+use Rattle.sj_text_files.specs.Listed.{AreBytes}
+use Rattle.sj_emit_help_spec.specs.declared.kinds.Helper.TheVariants.{ArrayClass}
 use Rattle.js_mean.specs.Files.{module_among, items_in, owner, running_order}
 use Rattle.js_mean.specs.Proper.{is_among, are_distinct}
 use Rattle.js_mean.specs.States.{Program}
@@ -32,15 +32,15 @@ use Rattle.module_files.proofs.Running.{imports_run_first}
 use Rattle.module_files.proofs.Whole.{plans_are_whole}
 use Rattle.module_files.specs.Files.{program_of, piece_name, StandsIn, DeclaresItself, StandTogether}
 use Rattle.module_names.specs.Names.{Key, Digest}
-use Rattle.module_rules.proofs.Chosen.{this_is, is_it}
-use Rattle.module_rules.proofs.Lines.{Stands, in_module, stands_somewhere}
-use Rattle.module_rules.specs.Laws.{AreClosed, HasFile, IsDeclared, IsSource, IsUse, Uses, by_piece}
-use Rattle.module_rules.specs.Modules.{file_with, is_owned_in, item_of}
+use Rattle.sj_emit_module_spec.proofs.Chosen.{this_is, is_it}
+use Rattle.sj_emit_module_spec.proofs.Lines.{Stands, in_module, stands_somewhere}
+use Rattle.sj_emit_module_spec.specs.Laws.{AreClosed, HasFile, IsDeclared, IsSource, IsUse, Uses, by_piece}
+use Rattle.sj_emit_module_spec.specs.Modules.{file_with, is_owned_in, item_of}
 use Rattle.closed_pieces.specs.Accepted.{IsAccepted}
-use Rattle.sj_proper.specs.EmittedMethods.{EmittedMethod}
+use Rattle.agree_early_errors.specs.EmittedMethods.{EmittedMethod}
 use Rattle.module_files.specs.Pieces.{AreLinkedPieces}
 use Rattle.closed_pieces.specs.Reachable.{Reachable}
-use Rattle.plan_laws.specs.Laws.{KeepsNamesApart}
+use Rattle.sj_split_laws.specs.Laws.{KeepsNamesApart}
 use Rattle.module_files.proofs.Apart.{told_apart}
 use Rattle.module_files.proofs.Linked.{linked_differ, names_distinct}
 use Rattle.module_files.proofs.Parts.{HaveOwnNames}
@@ -51,7 +51,7 @@ use Rattle.sj_graph.specs.declared.graphs.Graph.{Graph}
 use Rattle.sj_names.specs.EntryPoints.{AreEntries}
 use Rattle.sj_names.specs.declared.entry_points.EntryPoint.{EntryPoint}
 use Rattle.sj_names.specs.declared.folders.SourceFile.{SourceFile}
-use Rattle.sj_proper.specs.Emitted.{call_item_of}
+use Rattle.agree_early_errors.specs.Emitted.{call_item_of}
 use Rattle.sj_split.proofs.Members.{at_first, cons_cases, into_map, from_map, into_filter, from_filter}
 use Rattle.sj_split.specs.Modules.{IsPlan, file}
 use Rattle.sj_split.specs.Orders.{Bytes, is_same}

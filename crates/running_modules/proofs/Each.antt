@@ -1,7 +1,7 @@
 -- What holds of each kind of piece that a class can have holds of each piece of a class.
 use Rattle.std.proofs.Common.{◌||◌, ◌++◌, Bool, true, false, List, [], ◌∷◌, inl, inr, subst, Contains}
 use Rattle.std.proofs.lemmas.List.Elements.{Contains-append_cases}
-use Rattle.helper_rules.specs.Words.{all_kinds}
+use Rattle.sj_emit_help_spec.specs.Words.{all_kinds}
 use Rattle.js_tree.specs.Terms.{Name, Piece}
 use Rattle.declared_files.specs.Pieces.{Parts, pieces, when, constants_piece, class_piece, variable_piece, setter_piece, cell_piece, load_piece, store_piece, cell_pieces, all_statics, test_piece, kind_of_class, cast_piece, constants_of, class_of, module_of, tests_of}
 use Rattle.sj_split.proofs.Members.{cons_cases}

@@ -5,8 +5,8 @@ use Rattle.std.proofs.lemmas.List.{append_cancel_right}
 use Rattle.js_mean.specs.Files.{items_in}
 use Rattle.module_files.proofs.Circles.{one_named}
 use Rattle.module_files.proofs.Found.{found}
-use Rattle.module_rules.specs.Modules.{module_of}
-use Rattle.plan_laws.proofs.Names.{names_differ}
+use Rattle.sj_emit_module_spec.specs.Modules.{module_of}
+use Rattle.sj_split_laws.proofs.Names.{names_differ}
 use Rattle.sj_split.specs.Modules.{file}
 use Rattle.sj_split.specs.declared.plans.PlannedModule.{PlannedModule}
 use Rattle.running_modules.specs.Laws.{ModulesHaveTheirItems}

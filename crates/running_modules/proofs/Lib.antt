@@ -57,4 +57,4 @@ pub use Rattle.closed_pieces.proofs.DeclaredPiecesBelow
 pub use Rattle.closed_pieces.proofs.Facts
 pub use Rattle.closed_pieces.proofs.LinkedEntriesOne
 pub use Rattle.closed_pieces.proofs.ReflectedCases
-pub use Rattle.sj_proper.proofs.Plain
+pub use Rattle.agree_early_errors.proofs.Plain

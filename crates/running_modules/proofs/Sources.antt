@@ -9,12 +9,12 @@ use Rattle.js_tree.specs.declared.items.Binding.{Binding}
 use Rattle.module_files.proofs.Circles.{one_named}
 use Rattle.module_files.proofs.Entries.{OfPublic, initializer_of, at_public, one_tag, none_beside_calls}
 use Rattle.module_names.specs.Names.{Key, Digest}
-use Rattle.module_rules.proofs.Lines.{in_module}
-use Rattle.module_rules.specs.Laws.{IsIn, Uses, by_piece, by_call}
-use Rattle.module_rules.specs.Modules.{file_with}
-use Rattle.plan_laws.proofs.Names.{names_differ}
-use Rattle.plan_laws.proofs.Placing.{modules_are_tags, placed_classes_are_reached}
-use Rattle.plan_laws.specs.Laws.{name_of}
+use Rattle.sj_emit_module_spec.proofs.Lines.{in_module}
+use Rattle.sj_emit_module_spec.specs.Laws.{IsIn, Uses, by_piece, by_call}
+use Rattle.sj_emit_module_spec.specs.Modules.{file_with}
+use Rattle.sj_split_laws.proofs.Names.{names_differ}
+use Rattle.sj_split_laws.proofs.Placing.{modules_are_tags, placed_classes_are_reached}
+use Rattle.sj_split_laws.specs.Laws.{name_of}
 use Rattle.sj_graph.specs.References.{IsGraph, object, reference, reference_by}
 use Rattle.sj_graph.specs.declared.graphs.Graph.{Graph}
 use Rattle.sj_names.specs.EntryPoints.{AreEntries}

@@ -2,13 +2,13 @@
 use Rattle.std.proofs.Common.{◌≡◌, List, [], Option, Some, None, refl, sym, subst, Contains}
 use Rattle.closed_pieces.proofs.Places.{Stands, own, method, helps, tells, names, stands}
 use Rattle.closed_pieces.proofs.Parts.{uses_superclass}
-use Rattle.helper_rules.specs.Helpers.{Above, helper_piece}
-use Rattle.helper_rules.specs.Words.{bound, class_name, object_class}
-use Rattle.helper_rules.specs.declared.kinds.Helper.{Helper}
-use Rattle.helper_rules.specs.declared.kinds.Helper.TheVariants as helpers
+use Rattle.sj_emit_help_spec.specs.Helpers.{Above, helper_piece}
+use Rattle.sj_emit_help_spec.specs.Words.{bound, class_name, object_class}
+use Rattle.sj_emit_help_spec.specs.declared.kinds.Helper.{Helper}
+use Rattle.sj_emit_help_spec.specs.declared.kinds.Helper.TheVariants as helpers
 use Rattle.js_tree.specs.Terms.{Name, Item, Piece, subclass_item}
 use Rattle.js_tree.specs.declared.items.Binding.{Binding}
-use Rattle.sj_proper.specs.EmittedMethods.{EmittedMethod}
+use Rattle.agree_early_errors.specs.EmittedMethods.{EmittedMethod}
 use Rattle.declared_files.specs.Pieces.{Parts, pieces, class_piece}
 use Rattle.module_files.specs.Pieces.{AreLinkedPieces}
 use Rattle.sj_split.proofs.Members.{at_first}

@@ -3,28 +3,28 @@ use Rattle.std.specs.Prelude.{◌≡◌, true, List, [], ◌∷◌, ◌++◌, Co
 use Rattle.closed_pieces.specs.Entries.{IsLive}
 use Rattle.declared_files.specs.Declared.{AreConstants}
 use Rattle.declared_files.specs.Placed.{placed, items_until, declare}
-use Rattle.file_listings.specs.Listed.{AreBytes}
-use Rattle.helper_rules.specs.declared.kinds.Helper.TheVariants.{ArrayClass}
+use Rattle.sj_text_files.specs.Listed.{AreBytes}
+use Rattle.sj_emit_help_spec.specs.declared.kinds.Helper.TheVariants.{ArrayClass}
 use Rattle.ir_mean.specs.Shows.{initializers}
 use Rattle.js_mean.specs.Files.{module_among, items_in, running_order}
 use Rattle.js_mean.specs.Shows.{file_of}
 use Rattle.js_tree.specs.Terms.{Name, Property, object_item, Piece}
 use Rattle.module_files.specs.Files.{program_of}
 use Rattle.module_names.specs.Names.{Key, Digest}
-use Rattle.module_rules.specs.Laws.{AreClosed, IsSource}
-use Rattle.module_rules.specs.Modules.{file_with, is_owned_in, item_of}
+use Rattle.sj_emit_module_spec.specs.Laws.{AreClosed, IsSource}
+use Rattle.sj_emit_module_spec.specs.Modules.{file_with, is_owned_in, item_of}
 use Rattle.closed_pieces.specs.Accepted.{IsAccepted}
-use Rattle.sj_proper.specs.EmittedMethods.{EmittedMethod}
+use Rattle.agree_early_errors.specs.EmittedMethods.{EmittedMethod}
 use Rattle.module_files.specs.Pieces.{AreLinkedPieces}
 use Rattle.closed_pieces.specs.Reachable.{Reachable}
-use Rattle.plan_laws.specs.Laws.{KeepsNamesApart}
+use Rattle.sj_split_laws.specs.Laws.{KeepsNamesApart}
 use Rattle.sj_graph.specs.References.{IsGraph}
 use Rattle.sj_graph.specs.declared.graphs.Graph.{Graph}
 use Rattle.sj_names.specs.EntryPoints.{AreEntries}
 use Rattle.sj_names.specs.WellKnown.{object}
 use Rattle.sj_names.specs.declared.entry_points.EntryPoint.{EntryPoint}
 use Rattle.sj_names.specs.declared.folders.SourceFile.{SourceFile}
-use Rattle.sj_proper.specs.Emitted.{call_item_of}
+use Rattle.agree_early_errors.specs.Emitted.{call_item_of}
 use Rattle.sj_split.specs.Modules.{IsPlan, file, module_of}
 use Rattle.sj_split.specs.Orders.{Bytes}
 use Rattle.sj_split.specs.Walks.{Id}

@@ -8,7 +8,7 @@ use Rattle.sj_world.specs.Paths.{stay, on}
 use Rattle.sj_world.specs.Tables.{AreChain}
 use Rattle.sj_world.proofs.Bodies.{stands_itself}
 use Rattle.sj_world.proofs.Searches.{stands_at, contains_at}
-use Rattle.reach_rules.proofs.Lacking.{same_some}
+use Rattle.sj_reach_spec.proofs.Lacking.{same_some}
 use Rattle.sj_baselink.specs.Steps.{Puts}
 use Rattle.sj_baselink.proofs.Putting.{adds_as}
 

@@ -17,9 +17,9 @@ use Rattle.sj_world.specs.declared.facts.Fact.TheVariants.{Body}
 use Rattle.sj_world.specs.declared.linked.MethodEntry.{MethodEntry}
 use Rattle.sj_world.proofs.Once.{resolves_once}
 use Rattle.proxy_targets.specs.Proxies.{IsTargetName}
-use Rattle.reach_rules.specs.Rules.{public_member}
-use Rattle.entry_rules.specs.Entries.{IsTarget, IsInherited, IsMethodEntry, AreEntries, direct, proxy}
-use Rattle.entry_rules.proofs.Owners.{one_owner}
+use Rattle.sj_reach_spec.specs.Rules.{public_member}
+use Rattle.sj_baselink_spec.specs.Entries.{IsTarget, IsInherited, IsMethodEntry, AreEntries, direct, proxy}
+use Rattle.sj_baselink_spec.proofs.Owners.{one_owner}
 use Rattle.sj_baselink.specs.Steps.{Puts, OfOne, AreCalled, AreMade, AreReflective, IsWantedFrom, IsWantedAbove, IsTargetAbove, entry_for, IsReachedEntry, IsOwn, IsOwnEntry, IsDirectOf, IsDirectEntry, IsProxyOf, IsProxyEntry, AreOnceInOrder}
 use Rattle.sj_baselink.proofs.Gathered.{same_next, wanted_here, wanted_there}
 use Rattle.sj_baselink.proofs.Putting.{adds_none, adds_then, adds_as, all_put}

@@ -20,7 +20,7 @@ use Rattle.sj_world.specs.declared.facts.Fact.{Fact}
 use Rattle.sj_world.specs.declared.facts.Fact.TheVariants as fact
 use Rattle.sj_world.proofs.Kept.{put_exact}
 use Rattle.sj_ask.proofs.One.{one_method}
-use Rattle.entry_rules.specs.Entries.{IsWanted, IsReflective}
+use Rattle.sj_baselink_spec.specs.Entries.{IsWanted, IsReflective}
 use Rattle.sj_baselink.specs.Steps.{Adds, Puts, OfOne, IsListed, PutsCalled, AreCalled, AreMade, AreReflective, IsReflectiveIn, IsReflectiveBy, IsWantedFrom, IsWantedAboveFrom, IsWantedAbove}
 use Rattle.sj_baselink.proofs.Putting.{adds_none, adds_as, OfFirst, each_ends, only_these, one_itself, itself_one}
 

@@ -17,7 +17,7 @@ use Rattle.std.proofs.lemmas.Option.{slice_get_within, get_or_from_slice_get}
 use Rattle.sj_names.specs.MethodNames.{spelled_method}
 use Rattle.sj_world.specs.contracts.linked.MethodEntryPartialEq.TheImpl as entry_eq
 use Rattle.sj_world.specs.declared.linked.MethodEntry.{MethodEntry}
-use Rattle.entry_rules.specs.Entries.{entry_cmp}
+use Rattle.sj_baselink_spec.specs.Entries.{entry_cmp}
 use Rattle.sj_baselink.specs.Spelled.{entry_of, IsSpelled}
 use Rattle.sj_baselink.specs.Steps.{AreOnceInOrder}
 use Rattle.sj_baselink.specs.declared.ordered.SpelledEntry.{SpelledEntry}

@@ -15,8 +15,8 @@ use Rattle.sj_world.specs.declared.facts.Fact.{Fact}
 use Rattle.sj_world.specs.declared.facts.Fact.TheVariants.{Made, Body, Called}
 use Rattle.sj_world.specs.declared.linked.MethodEntry.{MethodEntry}
 use Rattle.proxy_targets.specs.Proxies.{IsTargetName}
-use Rattle.reach_rules.specs.Rules.{public_member}
-use Rattle.entry_rules.specs.Entries.{IsTarget, IsWanted, IsInherited, IsDirect, IsReflective, IsProxy, entry_cmp}
+use Rattle.sj_reach_spec.specs.Rules.{public_member}
+use Rattle.sj_baselink_spec.specs.Entries.{IsTarget, IsWanted, IsInherited, IsDirect, IsReflective, IsProxy, entry_cmp}
 
 -- what held holds still, and besides just what has the property
 pub record Adds {S X : Type 0} (Holds : S → X → Type 0) (Is : X → Type 0) (old new : S) : Type 0 where

@@ -1,7 +1,7 @@
 // The entries for methods that are called.
 ghost use Rattle.std.specs.Prelude.{◌≡◌, ◌↔◌, OnOk, IsTrue, Contains};
 ghost use Rattle.sj_names.specs.declared.method_names.MethodName.{MethodName as Method};
-ghost use Rattle.entry_rules.specs.Entries.{IsTarget};
+ghost use Rattle.sj_baselink_spec.specs.Entries.{IsTarget};
 ghost use Rattle.sj_baselink.specs.Steps.{Puts, OfOne, AreMade, AreCalled, IsDirectEntry, IsWantedAbove, IsTargetAbove, IsDirectOf, IsOwnEntry, IsOwn, IsReachedEntry};
 
 use crate::called::{called_names, wanted_above, wanted_names};

@@ -1,6 +1,6 @@
 // The method entries of a world.
 ghost use Rattle.std.specs.Prelude.{IfOk, OnOk};
-ghost use Rattle.entry_rules.specs.Entries.{IsMethodEntry, AreEntries};
+ghost use Rattle.sj_baselink_spec.specs.Entries.{IsMethodEntry, AreEntries};
 ghost use Rattle.sj_baselink.specs.Steps.{Puts};
 
 use crate::direct::put_direct;

@@ -1,4 +1,4 @@
-//! The method entries of a linked folder, as `entry_rules` defines them, and the world that has them.
+//! The method entries of a linked folder, as `sj_baselink_spec` defines them, and the world that has them.
 #![tactic(auto)]
 
 mod called;

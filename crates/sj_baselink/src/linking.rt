@@ -1,6 +1,6 @@
 // A world with what is reachable and its method entries.
 ghost use Rattle.std.specs.Prelude.{IfOk};
-ghost use Rattle.entry_rules.specs.Entries.{IsLinked};
+ghost use Rattle.sj_baselink_spec.specs.Entries.{IsLinked};
 
 use crate::entries::entries_of;
 use sj_names::NoMemory;

@@ -1,6 +1,6 @@
 // Names that are put into a set, and members by their names.
 ghost use Rattle.std.specs.Prelude.{◌≡◌, IfOk, OnOk};
-ghost use Rattle.reach_rules.specs.Rules as rules;
+ghost use Rattle.sj_reach_spec.specs.Rules as rules;
 ghost use Rattle.sj_baselink.specs.Steps.{Puts, entry_for};
 
 use indexmap::IndexSet;

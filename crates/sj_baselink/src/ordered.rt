@@ -3,7 +3,7 @@ ghost use Rattle.std.specs.Prelude.{◌≡◌, IfOk, All, map};
 ghost use Rattle.std.specs.List.{IsDistinct};
 ghost use Rattle.std.specs.List.Sorted.{IsPermutation, IsSorted};
 ghost use Rattle.sj_world.specs.contracts.linked.MethodEntryPartialEq.TheImpl as entry_eq;
-ghost use Rattle.entry_rules.specs.Entries.{entry_cmp};
+ghost use Rattle.sj_baselink_spec.specs.Entries.{entry_cmp};
 ghost use Rattle.sj_baselink.specs.Steps.{AreOnceInOrder};
 ghost use Rattle.sj_baselink.specs.Spelled.{entry_of, IsSpelled};
 

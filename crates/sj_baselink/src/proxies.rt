@@ -1,6 +1,6 @@
 // The entries for reflective names.
 ghost use Rattle.std.specs.Prelude.{◌≡◌, OnOk};
-ghost use Rattle.reach_rules.specs.Rules as rules;
+ghost use Rattle.sj_reach_spec.specs.Rules as rules;
 ghost use Rattle.sj_baselink.specs.Steps.{Puts, OfOne, AreMade, IsProxyOf, IsProxyEntry, entry_for};
 
 use crate::named::{public_member, put_entry};

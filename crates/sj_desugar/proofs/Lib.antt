@@ -1,1 +1,3 @@
-pub use Rattle.sj_world.proofs.LawsHold
+pub mod Rows
+pub mod Runs
+pub mod Spilling

@@ -1,85 +1,38 @@
-// The method entries of a class.
-ghost use Rattle.std.specs.Prelude.{◌≡◌, ◌++◌, OnOk, IfOk};
-ghost use Rattle.js_tree.specs.Views.{expression_view, member_view};
-ghost use Rattle.helper_rules.specs.Words as words;
-ghost use Rattle.piece_making.specs.Made.{Makes};
-ghost use Rattle.sj_emit_expr.specs.Templates.{member_name};
-ghost use Rattle.piece_rules.specs.Pieces as pieces;
+// The method entries of classes.
+ghost use Rattle.std.specs.Prelude.{◌≡◌, map, IfOk};
+ghost use Rattle.std.specs.List.{filter};
+ghost use Rattle.sj_emit_class.specs.Entries.{AreByClass};
+ghost use Rattle.sj_world.specs.Known.{is_same};
 
-use crate::boxing::{boxed_result, put_box};
-use js_tree::{Binding, ClassMember, JsExpr};
-use piece_making::{
-    arguments_behind, arguments_of, bound, call, method, method_call, only_return, parameters_of,
-};
-use sj_mangling::{MethodBinding, function_name, method_binding};
-use sj_names::NoMemory;
-use sj_world::MethodEntry;
+use class_lists::Lists;
+use sj_names::{ClassName, NoMemory};
+use sj_world::{LinkedWorld, MethodEntry};
 use std::alloc::Global;
 
-/// The member of a class for an entry: it hands its call on to a function, or for a reflective name to another entry.
-pub fn entry_member(alloc: Global, entry: &MethodEntry) -> Result<ClassMember, NoMemory>
-    ensures { Makes member_view result (pieces.entry_member entry.now) }
-{
-    method(
-        alloc,
-        method_binding(alloc, MethodBinding::Entry, &entry.name),
-        parameters_of(alloc, &entry.name),
-        only_return(alloc, entry_call(alloc, entry)),
-    )
-}
-
-fn entry_call(alloc: Global, entry: &MethodEntry) -> Result<JsExpr, NoMemory>
-    ensures { Makes expression_view result (pieces.entry_call entry.now) }
-{
-    if entry.name.result.is_none() {
-        proxy_call(alloc, entry)
-    } else {
-        direct_call(alloc, entry)
-    }
-}
-
-fn direct_call(alloc: Global, entry: &MethodEntry) -> Result<JsExpr, NoMemory>
-    ensures { Makes expression_view result (pieces.direct_call entry.now) }
-{
-    call(
-        function_name(alloc, &entry.target),
-        arguments_behind(alloc, Ok(JsExpr::This), &entry.name),
-    )
-}
-
-fn proxy_call(alloc: Global, entry: &MethodEntry) -> Result<JsExpr, NoMemory>
-    ensures { Makes expression_view result (pieces.proxy_call entry.now) }
-{
-    boxed_result(
-        alloc,
-        &entry.target.method,
-        method_call(
-            alloc,
-            Ok(JsExpr::This),
-            method_binding(alloc, MethodBinding::Entry, &entry.target.method),
-            arguments_of(alloc, &entry.name),
-        ),
-    )
-}
-
-/// Puts the bindings that an entry uses behind others.
-pub fn put_uses(
+/// The method entries of a linked world, under the names of their classes. Want of memory is the only error.
+pub fn entries_by_class<'w>(
     alloc: Global,
-    entry: &MethodEntry,
-    bindings: &mut Vec<Binding>,
-) -> Result<(), NoMemory>
-    ensures { OnOk result (bindings.new.items ≡ bindings.old.items ++ pieces.entry_uses entry.now) }
+    w: &'w LinkedWorld,
+) -> Result<Lists<&'w MethodEntry>, NoMemory>
+    ensures { IfOk result (AreByClass w.now.entries) }
 {
-    if entry.name.result.is_none() {
-        put_box(alloc, &entry.target.method, bindings)
-    } else {
-        bindings.push(target_function(alloc, entry)?)?;
-        Ok(())
+    let mut lists = Lists::new(alloc);
+    let entries = w.entries();
+    for entry in entries {
+        lists.put(alloc, &entry.class, entry)?;
     }
+    Ok(lists)
 }
 
-fn target_function(alloc: Global, entry: &MethodEntry) -> Result<Binding, NoMemory>
-    ensures { IfOk result (λ b. b ≡ words.bound entry.now.target.class (member_name entry.now.target)) }
+/// The method entries that the class has, in order, by all of them under the names of their classes. Want of memory is the only error.
+pub fn own_entries<'w>(
+    alloc: Global,
+    w: &LinkedWorld,
+    entries: &Lists<&'w MethodEntry>,
+    class: &ClassName,
+) -> Result<Vec<&'w MethodEntry>, NoMemory>
+    requires { AreByClass w.now.entries entries.now }
+    ensures { IfOk result (λ list. map (λ e. e.now) list.items ≡ filter (λ e. is_same e.class class.now) w.now.entries) }
 {
-    bound(&entry.target.class, function_name(alloc, &entry.target))
+    Ok(Vec::from_slice(alloc, entries.at(class))?)
 }

@@ -1,15 +1,14 @@
-//! The pieces of a class, but for the functions of its methods, and the functions by which calls tell primitive receivers apart.
+//! The pieces of the classes of a linked world, but for the functions of their methods.
 #![tactic(auto)]
 
-mod boxing;
-mod cells;
-mod classes;
-mod dispatch;
 mod entries;
 mod fields;
-mod once;
-mod parts;
-mod tests;
+mod instances;
+mod marks;
+mod needed;
+mod pieces;
+mod ranges;
+mod statics;
 
-pub use dispatch::{Reflected, Told, dispatch_piece, reflective_piece};
-pub use parts::{ClassParts, pieces_of};
+pub use entries::entries_by_class;
+pub use pieces::class_pieces;

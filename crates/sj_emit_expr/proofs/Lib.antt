@@ -1,1 +1,5 @@
-pub use Rattle.sj_desugar.proofs.LawsHold
+pub mod Asked
+pub mod Choices
+pub mod Collected
+pub mod Lists
+pub mod SameMembers

@@ -10,8 +10,8 @@ use Rattle.js_tree.specs.Terms.{Name, Piece}
 use Rattle.js_tree.specs.Views.{piece_view}
 use Rattle.js_tree.specs.declared.items.Binding.{Binding}
 use Rattle.js_tree.specs.declared.items.JsPiece.{JsPiece}
-use Rattle.module_rules.specs.Calls.{called}
-use Rattle.module_rules.specs.Modules.{is_this, initializers_of, called_in, uses_of, item_of, is_owned_in, is_bound_elsewhere}
+use Rattle.sj_emit_module_spec.specs.Calls.{called}
+use Rattle.sj_emit_module_spec.specs.Modules.{is_this, initializers_of, called_in, uses_of, item_of, is_owned_in, is_bound_elsewhere}
 use Rattle.sj_emit_module.specs.Groups.{HoldNames}
 use Rattle.sj_emit_module.specs.Shares.{crossing, crossing_calls}
 use Rattle.sj_emit_module.specs.declared.groups.NameGroups.{NameGroups}

@@ -7,8 +7,8 @@ use Rattle.std.proofs.lemmas.List.Elements.{filter-append}
 use Rattle.std.proofs.lemmas.Slice.Eq.{bytes_eq-Decides}
 use Rattle.js_tree.specs.Terms.{Name, Piece}
 use Rattle.js_tree.specs.declared.items.Binding.{Binding}
-use Rattle.module_rules.specs.Calls.{called}
-use Rattle.module_rules.specs.Modules.{is_this, is_another, initializers_of, called_elsewhere, uses_of, is_owned_elsewhere, is_bound_in, is_bound_elsewhere, exported}
+use Rattle.sj_emit_module_spec.specs.Calls.{called}
+use Rattle.sj_emit_module_spec.specs.Modules.{is_this, is_another, initializers_of, called_elsewhere, uses_of, is_owned_elsewhere, is_bound_in, is_bound_elsewhere, exported}
 use Rattle.sj_emit_module.specs.Shares.{crossing, crossing_calls, crossing_from}
 use Rattle.sj_split.specs.Modules.{file}
 use Rattle.sj_split.specs.Orders.{Bytes, is_same}

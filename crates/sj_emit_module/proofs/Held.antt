@@ -9,9 +9,9 @@ use Rattle.std.proofs.lemmas.Slice.Eq.{bytes_eq-Decides}
 use Rattle.indexmap.specs.IndexSet.{insert_all, insert_key}
 use Rattle.js_tree.specs.Terms.{Name}
 use Rattle.js_tree.specs.declared.items.Binding.{Binding}
-use Rattle.module_rules.proofs.InOrder.{same_in_order}
-use Rattle.module_rules.specs.Modules.{name_of, is_this, is_bound_in, is_bound_elsewhere, files_of, names_in}
-use Rattle.module_rules.specs.Order.{each_once_in_order}
+use Rattle.sj_emit_module_spec.proofs.InOrder.{same_in_order}
+use Rattle.sj_emit_module_spec.specs.Modules.{name_of, is_this, is_bound_in, is_bound_elsewhere, files_of, names_in}
+use Rattle.sj_emit_module_spec.specs.Order.{each_once_in_order}
 use Rattle.sj_emit_module.specs.Groups.{HoldNames, names_at}
 use Rattle.sj_emit_module.specs.declared.groups.NameGroups.{NameGroups}
 use Rattle.sj_split.specs.Orders.{Bytes, is_same}

@@ -6,8 +6,8 @@ use Rattle.std.specs.Cmp.Lexicographic.{nat_list_eq_equiv}
 use Rattle.std.proofs.lemmas.List.{map-append}
 use Rattle.js_tree.specs.Terms.{Name, Item, Piece}
 use Rattle.js_tree.specs.declared.items.Binding.{Binding}
-use Rattle.module_rules.specs.Calls.{called}
-use Rattle.module_rules.specs.Modules.{is_this, initializers_of, called_in, uses_of, item_of, is_owned_in, is_bound_elsewhere}
+use Rattle.sj_emit_module_spec.specs.Calls.{called}
+use Rattle.sj_emit_module_spec.specs.Modules.{is_this, initializers_of, called_in, uses_of, item_of, is_owned_in, is_bound_elsewhere}
 use Rattle.sj_emit_module.proofs.Added.{more_taken}
 use Rattle.sj_emit_module.specs.Groups.{HoldNames}
 use Rattle.sj_emit_module.specs.Shares.{crossing, crossing_calls, crossing_from}

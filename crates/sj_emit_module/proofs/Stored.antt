@@ -3,7 +3,7 @@ use Rattle.std.proofs.Common.{◌≡◌, ◌+◌, ℕ, Bool, true, false, List, 
 use Rattle.std.specs.Prelude.{◌||◌, if◌then◌else◌}
 use Rattle.std.proofs.lemmas.List.Folds.{list_any-append}
 use Rattle.js_tree.specs.Terms.{Name}
-use Rattle.module_rules.specs.Modules.{file_with}
+use Rattle.sj_emit_module_spec.specs.Modules.{file_with}
 use Rattle.sj_emit_module.proofs.Added.{more_taken}
 use Rattle.sj_emit_module.specs.Files.{first_of}
 use Rattle.sj_split.specs.Modules.{file, is_among}

@@ -3,9 +3,9 @@ use Rattle.std.proofs.Common.{◌≡◌, ◌++◌, List, Option, map, ◌∙◌}
 use Rattle.std.specs.Prelude.{filter}
 use Rattle.js_tree.specs.Terms.{Name, Module, Piece}
 use Rattle.js_tree.specs.declared.items.Binding.{Binding}
-use Rattle.module_rules.specs.Calls.{call_item_of}
-use Rattle.module_rules.specs.Modules.{file_with, called_in, called_elsewhere, item_of, name_of, is_owned_in, imported, exported, import_lines, module_of}
-use Rattle.module_rules.specs.Order.{each_once_in_order}
+use Rattle.sj_emit_module_spec.specs.Calls.{call_item_of}
+use Rattle.sj_emit_module_spec.specs.Modules.{file_with, called_in, called_elsewhere, item_of, name_of, is_owned_in, imported, exported, import_lines, module_of}
+use Rattle.sj_emit_module_spec.specs.Order.{each_once_in_order}
 use Rattle.sj_split.specs.Modules.{file}
 use Rattle.sj_split.specs.Orders.{Bytes}
 use Rattle.sj_split.specs.declared.plans.PlannedModule.{PlannedModule}

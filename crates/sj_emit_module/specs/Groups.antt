@@ -4,7 +4,7 @@ use Rattle.indexmap.specs.IndexMap.{get}
 use Rattle.indexmap.specs.IndexSet.{IndexSet, insert_all}
 use Rattle.js_tree.specs.Terms.{Name}
 use Rattle.js_tree.specs.declared.items.Binding.{Binding}
-use Rattle.module_rules.specs.Modules.{files_of, names_in}
+use Rattle.sj_emit_module_spec.specs.Modules.{files_of, names_in}
 use Rattle.sj_emit_module.specs.declared.groups.NameGroups.{NameGroups}
 use Rattle.sj_split.specs.Orders.{Bytes, is_same}
 

@@ -4,9 +4,9 @@ use Rattle.std.specs.List.{flat_map}
 use Rattle.js_tree.specs.Terms.{Name, Piece}
 use Rattle.js_tree.specs.Views.{item_view}
 use Rattle.js_tree.specs.declared.items.Binding.{Binding}
-use Rattle.module_rules.specs.Calls.{called}
-use Rattle.module_rules.specs.Modules.{file_with, called_in, called_elsewhere, uses_of, item_of, name_of, is_owned_in, is_bound_elsewhere, exported}
-use Rattle.module_rules.specs.Order.{each_once_in_order}
+use Rattle.sj_emit_module_spec.specs.Calls.{called}
+use Rattle.sj_emit_module_spec.specs.Modules.{file_with, called_in, called_elsewhere, uses_of, item_of, name_of, is_owned_in, is_bound_elsewhere, exported}
+use Rattle.sj_emit_module_spec.specs.Order.{each_once_in_order}
 use Rattle.sj_emit_module.specs.Files.{file_in}
 use Rattle.sj_emit_module.specs.Groups.{names_at}
 use Rattle.sj_emit_module.specs.Lists.{items_at}

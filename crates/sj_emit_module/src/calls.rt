@@ -1,8 +1,8 @@
 // The calls of initializers.
 ghost use Rattle.std.specs.Prelude.{◌≡◌, ◌++◌, ◌∷◌, [], IfOk, OnOk, map};
 ghost use Rattle.js_tree.specs.Views.{item_view};
-ghost use Rattle.module_rules.specs.Calls as calls;
-ghost use Rattle.module_rules.specs.Calls.{call_item_of};
+ghost use Rattle.sj_emit_module_spec.specs.Calls as calls;
+ghost use Rattle.sj_emit_module_spec.specs.Calls.{call_item_of};
 
 use js_tree::{Binding, JsExpr, JsItem};
 use sj_mangling::function_name;

@@ -1,7 +1,7 @@
 // The files in which classes stand.
 ghost use Rattle.std.specs.Prelude.{◌≡◌, ◌++◌, Some, None, IfOk, OnOk, codes, option_copied, if◌then◌else◌};
 ghost use Rattle.js_tree.specs.Terms.{Name};
-ghost use Rattle.module_rules.specs.Modules.{file_with};
+ghost use Rattle.sj_emit_module_spec.specs.Modules.{file_with};
 ghost use Rattle.sj_emit_module.specs.Files.{file_in, first_of};
 ghost use Rattle.sj_split.specs.Modules.{is_among};
 ghost use Rattle.sj_split.specs.Orders.{is_same};

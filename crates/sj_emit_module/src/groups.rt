@@ -2,7 +2,7 @@
 ghost use Rattle.std.specs.Prelude.{◌≡◌, [], IfOk, OnOk, if◌then◌else◌};
 ghost use Rattle.indexmap.specs.IndexSet.{insert_key};
 ghost use Rattle.js_tree.specs.Terms.{Name};
-ghost use Rattle.module_rules.specs.Order.{each_once_in_order};
+ghost use Rattle.sj_emit_module_spec.specs.Order.{each_once_in_order};
 ghost use Rattle.sj_emit_module.specs.Groups.{names_at};
 ghost use Rattle.sj_split.specs.Orders.{Bytes, is_same};
 

@@ -2,8 +2,8 @@
 ghost use Rattle.std.specs.Prelude.{◌≡◌, ◌∷◌, ◌++◌, [], List, Option, IfOk, OnOk, map, filter};
 ghost use Rattle.js_tree.specs.Terms.{Name};
 ghost use Rattle.js_tree.specs.declared.items.Binding.{Binding as Bound};
-ghost use Rattle.module_rules.specs.Modules as rules;
-ghost use Rattle.module_rules.specs.Modules.{is_bound_elsewhere, import_lines};
+ghost use Rattle.sj_emit_module_spec.specs.Modules as rules;
+ghost use Rattle.sj_emit_module_spec.specs.Modules.{is_bound_elsewhere, import_lines};
 ghost use Rattle.sj_emit_module.specs.Files.{file_in};
 ghost use Rattle.sj_emit_module.specs.Groups.{HoldNames};
 ghost use Rattle.sj_split.specs.Orders.{Bytes};

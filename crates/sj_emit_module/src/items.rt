@@ -1,7 +1,7 @@
 // The items of modules.
 ghost use Rattle.std.specs.Prelude.{◌≡◌, ◌++◌, ◌∷◌, [], IfOk, OnOk, map, filter};
 ghost use Rattle.js_tree.specs.Views.{item_view, piece_view};
-ghost use Rattle.module_rules.specs.Modules.{is_owned_in, item_of};
+ghost use Rattle.sj_emit_module_spec.specs.Modules.{is_owned_in, item_of};
 ghost use Rattle.sj_emit_module.specs.Files.{file_in};
 ghost use Rattle.sj_emit_module.specs.Lists.{items_at};
 ghost use Rattle.sj_split.specs.Orders.{Bytes};

@@ -1,7 +1,7 @@
 // The module of a planned module.
 ghost use Rattle.std.specs.Prelude.{◌<◌, IfOk, map, length};
 ghost use Rattle.js_tree.specs.Views.{module_view, piece_view};
-ghost use Rattle.module_rules.specs.Modules.{IsModuleOf};
+ghost use Rattle.sj_emit_module_spec.specs.Modules.{IsModuleOf};
 
 use crate::shares::Shares;
 use js_tree::{JsModule, JsPiece};

@@ -1,6 +1,6 @@
 // Texts in byte order, each once.
 ghost use Rattle.std.specs.Prelude.{◌≡◌, IfOk};
-ghost use Rattle.module_rules.specs.Order.{each_once_in_order};
+ghost use Rattle.sj_emit_module_spec.specs.Order.{each_once_in_order};
 
 use indexmap::IndexSet;
 use sj_names::{NoMemory, Text};

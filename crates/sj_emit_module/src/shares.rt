@@ -2,7 +2,7 @@
 ghost use Rattle.std.specs.Prelude.{◌≡◌, List, IfOk, map};
 ghost use Rattle.js_tree.specs.Terms.{Piece};
 ghost use Rattle.js_tree.specs.Views.{module_view, piece_view};
-ghost use Rattle.module_rules.specs.Modules.{module_of};
+ghost use Rattle.sj_emit_module_spec.specs.Modules.{module_of};
 ghost use Rattle.sj_emit_module.specs.Shares.{AreShares};
 ghost use Rattle.sj_split.specs.declared.plans.PlannedModule.{PlannedModule as Planned};
 

@@ -3,7 +3,7 @@ ghost use Rattle.std.specs.Prelude.{◌≡◌, ◌++◌, ◌∷◌, [], List, If
 ghost use Rattle.std.specs.List.{flat_map};
 ghost use Rattle.js_tree.specs.Views.{piece_view};
 ghost use Rattle.js_tree.specs.declared.items.Binding.{Binding as Bound};
-ghost use Rattle.module_rules.specs.Modules.{called_in, is_owned_in, uses_of};
+ghost use Rattle.sj_emit_module_spec.specs.Modules.{called_in, is_owned_in, uses_of};
 ghost use Rattle.sj_emit_module.specs.Files.{file_in};
 ghost use Rattle.sj_emit_module.specs.Groups.{HoldNames};
 ghost use Rattle.sj_emit_module.specs.Lists.{items_at};

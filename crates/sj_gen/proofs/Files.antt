@@ -19,22 +19,22 @@ use Rattle.sj_trees.specs.declared.operators.BinaryOp.{BinaryOp}
 use Rattle.sj_trees.specs.declared.classes.MethodDef.{MethodDef}
 use Rattle.sj_trees.specs.declared.classes.ClassKind.{ClassKind}
 use Rattle.sj_trees.specs.declared.classes.ClassDef.{ClassDef}
-use Rattle.sj_format.specs.Spelling.{IsEach, IsBytes}
-use Rattle.sj_format.specs.Tables.{IsText, IsString, IsName}
-use Rattle.sj_format.specs.References.{IsMethodName, IsReference, IsParameter, plain_reference}
-use Rattle.sj_format.specs.Codes.{kinds, member_tags}
-use Rattle.sj_format.specs.Types.{IsOption}
-use Rattle.sj_format.specs.declared.members.MemberDef.TheVariants.{Method}
-use Rattle.sj_format.specs.Classes.{IsBody, IsParam, IsMethod, IsMember, IsClass}
-use Rattle.sj_format.specs.Trees.{IsTree}
-use Rattle.sj_format.specs.Files.{IsMagic, IsVersion, IsTables, IsContents, FileIs}
-use Rattle.sj_format.specs.declared.codes.MemberTag.TheVariants as tags
-use Rattle.sj_written.specs.Classes.{class_fields}
-use Rattle.sj_written.specs.Tables.{tables_of}
-use Rattle.sj_written.specs.Renumbered.{renumbered_class}
-use Rattle.sj_written.specs.Laws.{IsOfSomeFile, IsReadBack}
-use Rattle.sj_written.specs.Written.{written_class}
-use Rattle.sj_written.proofs.WrittenFile as written
+use Rattle.sj_read_spec.specs.Spelling.{IsEach, IsBytes}
+use Rattle.sj_read_spec.specs.Tables.{IsText, IsString, IsName}
+use Rattle.sj_read_spec.specs.References.{IsMethodName, IsReference, IsParameter, plain_reference}
+use Rattle.sj_read_spec.specs.Codes.{kinds, member_tags}
+use Rattle.sj_read_spec.specs.Types.{IsOption}
+use Rattle.sj_read_spec.specs.declared.members.MemberDef.TheVariants.{Method}
+use Rattle.sj_read_spec.specs.Classes.{IsBody, IsParam, IsMethod, IsMember, IsClass}
+use Rattle.sj_read_spec.specs.Trees.{IsTree}
+use Rattle.sj_read_spec.specs.Files.{IsMagic, IsVersion, IsTables, IsContents, FileIs}
+use Rattle.sj_read_spec.specs.declared.codes.MemberTag.TheVariants as tags
+use Rattle.sj_write_spec.specs.Classes.{class_fields}
+use Rattle.sj_write_spec.specs.Tables.{tables_of}
+use Rattle.sj_write_spec.specs.Renumbered.{renumbered_class}
+use Rattle.sj_write_spec.specs.Laws.{IsOfSomeFile, IsReadBack}
+use Rattle.sj_write_spec.specs.Written.{written_class}
+use Rattle.sj_write_spec.proofs.WrittenFile as written
 use Rattle.sj_gen.specs.Classes.{object_name, function_name, main_name, parameter_name, parameters, with_number, class_name, body_of, function_of, main_body, main_of, class_with, class_of, object_of}
 use Rattle.sj_gen.proofs.Names.{numbered_class, decimal_digits}
 use Rattle.sj_gen.proofs.Made.{Made, AreBytes, seq, gives, one_byte, number, found, tested, coded, entry, named, as_bytes, text, none_of, one_more, list_of, marked, nothing_there, something_there}

@@ -4,10 +4,10 @@ use Rattle.std.specs.List.{AllByRecursion}
 use Rattle.std.specs.Int.{bytes_high_first, byte_at}
 use Rattle.std.specs.Str.{is_utf8}
 use Rattle.byteorder.specs.Endian.{big_bytes}
-use Rattle.sj_format.specs.Spelling.{Spelling, ◌then◌, Gives_value, Found, Tested, IsByte, IsNumber, IsBytes, IsEach, IsList}
-use Rattle.sj_format.specs.Types.{IsCode, IsMark, mark_with, IsOption}
-use Rattle.sj_format.specs.Tables.{IsEntry, IsName, IsText}
-use Rattle.sj_written.proofs.Bytes.{number_spelled}
+use Rattle.sj_read_spec.specs.Spelling.{Spelling, ◌then◌, Gives_value, Found, Tested, IsByte, IsNumber, IsBytes, IsEach, IsList}
+use Rattle.sj_read_spec.specs.Types.{IsCode, IsMark, mark_with, IsOption}
+use Rattle.sj_read_spec.specs.Tables.{IsEntry, IsName, IsText}
+use Rattle.sj_write_spec.proofs.Bytes.{number_spelled}
 
 abbrev pub AreBytes : List ℕ → Type 0
 AreBytes = AllByRecursion (λ b. b < 256)

@@ -16,10 +16,10 @@ use Rattle.sj_trees.specs.declared.forms.LeafForm.TheVariants as leaves
 use Rattle.sj_trees.specs.declared.forms.StatementForm.TheVariants as statements
 use Rattle.sj_trees.specs.declared.forms.CallForm.TheVariants as calls
 use Rattle.sj_trees.specs.declared.forms.OperationForm.TheVariants as operations
-use Rattle.sj_format.specs.Tables.{Tables}
-use Rattle.sj_format.specs.Codes.{plain_types, namespaces}
-use Rattle.sj_format.specs.Types.{IsPosition, IsType, IsTypeOf, IsNamespace}
-use Rattle.sj_format.specs.Trees.{IsTree, IsLeaf, IsStatement, IsCall, IsOperation}
+use Rattle.sj_read_spec.specs.Tables.{Tables}
+use Rattle.sj_read_spec.specs.Codes.{plain_types, namespaces}
+use Rattle.sj_read_spec.specs.Types.{IsPosition, IsType, IsTypeOf, IsNamespace}
+use Rattle.sj_read_spec.specs.Trees.{IsTree, IsLeaf, IsStatement, IsCall, IsOperation}
 use Rattle.sj_gen.specs.Classes.{object_name, function_name, main_name, parameter_name, parameter, empty_text}
 use Rattle.sj_gen.proofs.Made.{Made, seq, gives, one_byte, number, found, tested, coded, entry, named, none_of, one_more, list_of}
 

@@ -5,7 +5,7 @@ use Rattle.std.specs.Cmp.Lexicographic.{slice_cmp}
 use Rattle.std.specs.Ordering.{nat_cmp}
 use Rattle.sj_names.specs.declared.folders.SourceFile.{SourceFile}
 use Rattle.sj_trees.specs.declared.classes.ClassDef.{ClassDef}
-use Rattle.sj_written.specs.Written.{written_class}
+use Rattle.sj_write_spec.specs.Written.{written_class}
 use Rattle.sj_gen.specs.Classes.{class_of, object_of}
 
 -- the file of a class, whose path is the name of the class and `.sjsir`

@@ -1,7 +1,7 @@
 -- The generated files are those of the generated classes.
 use Rattle.std.specs.Prelude.{ℕ, ◌≤◌, Bool}
-use Rattle.sj_format.specs.Files.{FileIs}
-use Rattle.sj_written.specs.Written.{written_class}
+use Rattle.sj_read_spec.specs.Files.{FileIs}
+use Rattle.sj_write_spec.specs.Written.{written_class}
 use Rattle.sj_gen.specs.Classes.{class_of, object_of}
 
 pub record GeneratedFilesAreReadBack : Type 0 where

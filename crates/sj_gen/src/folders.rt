@@ -2,7 +2,7 @@
 ghost use Rattle.std.specs.Prelude.{◌≡◌, ◌≤◌, IfOk};
 ghost use Rattle.sj_gen.specs.Classes as classes;
 ghost use Rattle.sj_gen.specs.Folder as spec;
-ghost use Rattle.sj_written.specs.Classes.{NamesItsFiles};
+ghost use Rattle.sj_write_spec.specs.Classes.{NamesItsFiles};
 
 use crate::classes::{numbered_class, object_class};
 use sj_names::{Bytes, Folder, Items, NoMemory, SourceFile, Text};

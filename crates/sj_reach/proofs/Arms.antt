@@ -13,7 +13,7 @@ use Rattle.sj_trees.specs.declared.classes.ClassDef.{ClassDef}
 use Rattle.sj_trees.specs.declared.classes.FieldDef.{FieldDef}
 use Rattle.sj_trees.specs.declared.classes.MethodDef.{MethodDef}
 use Rattle.sj_world.specs.Members.{IsField, IsMethod, IsMethodOf}
-use Rattle.reach_rules.proofs.One.{one_method}
+use Rattle.sj_reach_spec.proofs.One.{one_method}
 use Rattle.sj_infos.specs.Infos.{asked_by}
 use Rattle.sj_infos.specs.Once.{FirstsOf, nothing, new, again}
 use Rattle.sj_infos.specs.declared.infos.Info.{Info}
@@ -21,7 +21,7 @@ use Rattle.sj_world.specs.Known.{Name, Classes, class_of}
 use Rattle.sj_world.specs.Paths.{IsFirst, HasNone}
 use Rattle.sj_world.specs.Tables.{AreAncestors}
 use Rattle.std.proofs.lemmas.List.Elements.{Contains-append_left, Contains-push, Contains-push_cases}
-use Rattle.reach_rules.specs.Refusals.{IsUndefined, LacksField}
+use Rattle.sj_reach_spec.specs.Refusals.{IsUndefined, LacksField}
 use Rattle.sj_reach.specs.Conclusions.{Conclusion, Adds, Among}
 use Rattle.proxy_targets.specs.Proxies.{IsTargetName}
 use Rattle.sj_reach.specs.Steps.{OfMember, OfAncestors, OfDispatch, OfTargets, OfSeenInfo, OfBody, IfNew, OfProxy, OfReflective}

@@ -18,8 +18,8 @@ use Rattle.sj_world.specs.Resolution.{Answer, Resolves, target, abstract, missin
 use Rattle.sj_world.specs.declared.facts.Fact.{Fact}
 use Rattle.sj_world.specs.declared.facts.Fact.TheVariants as fact
 use Rattle.sj_world.proofs.OnCycles.{among}
-use Rattle.reach_rules.specs.Rules.{public_member, Reads, IsAsked, of_entry, of_new, of_load, of_call, of_throw, IsCalledOn, on_made, on_hijacked, Rule, the_object, entry_class, above, above_hijacked, asked_body, new_needed, new_made, load_needed, load_made, load_used, field_class, field_needed, static_class, resolved_class, resolved_body, call_class, call_hijacked, call, dispatched, reflective, reflective_hijacked, array_made, class_named, throw_needed, throw_made}
-use Rattle.reach_rules.specs.Refusals.{Refusal, HasNeededParents, needed, hijacked as by_hijacked, missing_class, wrong_kind, abstract_target, IsOtherKind, Asks, no_class, no_member, no_body, no_field, no_class_above, no_interface_above, no_class_made, no_module, no_exception, no_target, no_target_body, no_method, no_hijacked_body, no_dispatched_body, no_dispatched_method, no_reflective_body}
+use Rattle.sj_reach_spec.specs.Rules.{public_member, Reads, IsAsked, of_entry, of_new, of_load, of_call, of_throw, IsCalledOn, on_made, on_hijacked, Rule, the_object, entry_class, above, above_hijacked, asked_body, new_needed, new_made, load_needed, load_made, load_used, field_class, field_needed, static_class, resolved_class, resolved_body, call_class, call_hijacked, call, dispatched, reflective, reflective_hijacked, array_made, class_named, throw_needed, throw_made}
+use Rattle.sj_reach_spec.specs.Refusals.{Refusal, HasNeededParents, needed, hijacked as by_hijacked, missing_class, wrong_kind, abstract_target, IsOtherKind, Asks, no_class, no_member, no_body, no_field, no_class_above, no_interface_above, no_class_made, no_module, no_exception, no_target, no_target_body, no_method, no_hijacked_body, no_dispatched_body, no_dispatched_method, no_reflective_body}
 use Rattle.sj_reach.specs.Conclusions.{Conclusion, follows, told, tells, report, Just, Among}
 use Rattle.proxy_targets.specs.Proxies.{IsTargetName}
 use Rattle.sj_reach.specs.Steps.{OfClass, OfSuperclass, OfParents, OfNeededIn, OfNeeded, OfHijackedIn, OfAsked, at_resolved, at_receiver, OfReceiver, at_dispatch, OfDispatch, OfProxy, at_hijacked, OfMaking, OfInfo, OfEntry, OfStart}

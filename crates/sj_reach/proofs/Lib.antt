@@ -5,6 +5,6 @@ pub mod Sight
 pub mod Turns
 pub mod Worked
 pub mod Once
-pub use Rattle.reach_rules.proofs.Derivations
-pub use Rattle.reach_rules.proofs.Grows
-pub use Rattle.reach_rules.proofs.One
+pub use Rattle.sj_reach_spec.proofs.Derivations
+pub use Rattle.sj_reach_spec.proofs.Grows
+pub use Rattle.sj_reach_spec.proofs.One

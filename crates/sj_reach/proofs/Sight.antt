@@ -12,7 +12,7 @@ use Rattle.sj_names.specs.declared.method_names.MethodName.{MethodName}
 use Rattle.sj_names.specs.contracts.method_names.MethodNamePartialEq.TheImpl as method_eq
 use Rattle.sj_trees.specs.declared.classes.MethodDef.{MethodDef}
 use Rattle.sj_world.specs.Members.{IsMethodOf}
-use Rattle.reach_rules.proofs.One.{one_method}
+use Rattle.sj_reach_spec.proofs.One.{one_method}
 use Rattle.sj_infos.specs.Infos.{asked_by}
 use Rattle.sj_infos.specs.Once.{FirstsOf}
 use Rattle.sj_infos.specs.declared.infos.Info.{Info}
@@ -21,8 +21,8 @@ use Rattle.sj_world.specs.Ancestors.{IsAncestor}
 use Rattle.sj_world.specs.Known.{Name, Classes, is_same}
 use Rattle.sj_world.specs.declared.facts.Fact.{Fact}
 use Rattle.sj_world.specs.declared.facts.Fact.TheVariants as fact
-use Rattle.reach_rules.specs.Rules.{Reads}
-use Rattle.reach_rules.proofs.Grows.{reads-grow}
+use Rattle.sj_reach_spec.specs.Rules.{Reads}
+use Rattle.sj_reach_spec.proofs.Grows.{reads-grow}
 use Rattle.sj_reach.specs.Seen.{IsEmpty, SeesMade, SeesCalled, SeesNames, SeesReflective, SeesInfo, SeesInfos, IsReadIn, SeesBody, SeesFact, IsSeen}
 use Rattle.sj_reach.specs.declared.seen.Seen.{Seen}
 use Rattle.sj_world.proofs.Kept.{put_exact, IsOneOfFirst, first_split, first_join, no_first, all_first, first_in}

@@ -13,8 +13,8 @@ use Rattle.sj_world.specs.Ancestors.{IsAncestor}
 use Rattle.sj_world.specs.Known.{Name, Classes}
 use Rattle.sj_world.specs.declared.facts.Fact.{Fact}
 use Rattle.sj_world.specs.declared.facts.Fact.TheVariants as fact
-use Rattle.reach_rules.specs.Rules.{Reads}
-use Rattle.reach_rules.proofs.Grows.{reads-grow}
+use Rattle.sj_reach_spec.specs.Rules.{Reads}
+use Rattle.sj_reach_spec.proofs.Grows.{reads-grow}
 use Rattle.sj_reach.specs.Conclusions.{Conclusion, Among}
 use Rattle.sj_reach.specs.Steps.{OfDispatch, OfProxy, OfInfo, OfSeenInfo, OfFact}
 use Rattle.sj_reach.specs.Seen.{IsSeen}

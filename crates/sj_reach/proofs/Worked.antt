@@ -10,9 +10,9 @@ use Rattle.sj_names.specs.declared.entry_points.EntryPoint.{EntryPoint}
 use Rattle.sj_world.specs.Known.{Classes}
 use Rattle.sj_world.specs.declared.facts.Fact.{Fact}
 use Rattle.sj_world.specs.declared.facts.Fact.TheVariants as fact
-use Rattle.reach_rules.specs.Reachable.{Reachable}
-use Rattle.reach_rules.specs.Rules.{Rule}
-use Rattle.reach_rules.proofs.Derivations.{closed, derived-all}
+use Rattle.sj_reach_spec.specs.Reachable.{Reachable}
+use Rattle.sj_reach_spec.specs.Rules.{Rule}
+use Rattle.sj_reach_spec.proofs.Derivations.{closed, derived-all}
 use Rattle.sj_reach.specs.Answers.{IsTold, StandOnce, AllFound}
 use Rattle.sj_reach.specs.Conclusions.{Conclusion, follows, told, Holds, Adds}
 use Rattle.sj_reach.specs.Seen.{IsEmpty, IsSeen, SeesFact}

@@ -4,8 +4,8 @@ use Rattle.sj_names.specs.declared.entry_points.EntryPoint.{EntryPoint}
 use Rattle.sj_world.specs.Known.{Classes, is_same}
 use Rattle.sj_world.specs.Refusals.{is_before}
 use Rattle.sj_world.specs.declared.facts.Fact.{Fact}
-use Rattle.reach_rules.specs.Reachable.{Reachable, Unresolved}
-use Rattle.reach_rules.specs.Refusals.{Refusal, code, place}
+use Rattle.sj_reach_spec.specs.Reachable.{Reachable, Unresolved}
+use Rattle.sj_reach_spec.specs.Refusals.{Refusal, code, place}
 use Rattle.sj_reach.specs.declared.findings.Report.{Report}
 use Rattle.sj_reach.specs.declared.findings.Findings.{Findings}
 use Rattle.sj_reach.specs.declared.errors.ReachError.{ReachError}

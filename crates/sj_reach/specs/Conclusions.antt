@@ -1,7 +1,7 @@
 -- What is concluded while facts are gone through, and what a step adds to what was found.
 use Rattle.std.specs.Prelude.{◌≡◌, ◌⊎◌, List, ◌++◌, Contains}
 use Rattle.sj_world.specs.declared.facts.Fact.{Fact}
-use Rattle.reach_rules.specs.Refusals as refusals
+use Rattle.sj_reach_spec.specs.Refusals as refusals
 use Rattle.sj_reach.specs.declared.findings.Report.{Report}
 use Rattle.sj_reach.specs.declared.findings.Findings.{Findings}
 

@@ -14,7 +14,7 @@ use Rattle.sj_world.specs.Facts.{PutsBelow}
 use Rattle.sj_world.specs.Known.{Name, Classes}
 use Rattle.sj_world.specs.declared.facts.Fact.{Fact}
 use Rattle.sj_world.specs.declared.facts.Fact.TheVariants as fact
-use Rattle.reach_rules.specs.Rules.{Reads}
+use Rattle.sj_reach_spec.specs.Rules.{Reads}
 use Rattle.sj_reach.specs.declared.seen.Seen.{Seen}
 
 pub record IsEmpty (seen : Seen) : Type 0 where

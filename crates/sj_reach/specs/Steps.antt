@@ -20,8 +20,8 @@ use Rattle.sj_world.specs.declared.facts.Fact.{Fact}
 use Rattle.sj_world.specs.declared.facts.Fact.TheVariants as fact
 use Rattle.class_lists.specs.Lists.{items_at}
 use Rattle.class_lists.specs.declared.lists.Lists.{Lists}
-use Rattle.reach_rules.specs.Rules.{entry_member, plain_constructor, message_constructor, public_member, constructor_member}
-use Rattle.reach_rules.specs.Refusals.{missing_class, missing_method, missing_field, wrong_kind, abstract_target, IsOtherKind, IsUndefined, IsAbstract, LacksField, IsPresent}
+use Rattle.sj_reach_spec.specs.Rules.{entry_member, plain_constructor, message_constructor, public_member, constructor_member}
+use Rattle.sj_reach_spec.specs.Refusals.{missing_class, missing_method, missing_field, wrong_kind, abstract_target, IsOtherKind, IsUndefined, IsAbstract, LacksField, IsPresent}
 use Rattle.proxy_targets.specs.Proxies.{IsTargetName}
 use Rattle.sj_reach.specs.declared.seen.Seen.{Seen}
 use Rattle.sj_reach.specs.Conclusions.{Conclusion, follows, tells, Just, Among}

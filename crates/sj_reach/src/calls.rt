@@ -1,8 +1,8 @@
 // What calls run that are found from a class on.
 ghost use Rattle.std.specs.Prelude.{OnOk};
 ghost use Rattle.sj_names.specs.WellKnown.{is_hijacked as hijacked};
-ghost use Rattle.reach_rules.specs.Refusals.{IsPresent, missing_method, abstract_target};
-ghost use Rattle.reach_rules.specs.Rules as rules;
+ghost use Rattle.sj_reach_spec.specs.Refusals.{IsPresent, missing_method, abstract_target};
+ghost use Rattle.sj_reach_spec.specs.Rules as rules;
 ghost use Rattle.sj_reach.specs.Conclusions.{Adds, Just, follows, tells};
 ghost use Rattle.sj_reach.specs.Steps as steps;
 

@@ -1,7 +1,7 @@
 // What follows from what a body asks for.
 ghost use Rattle.std.specs.Prelude.{◌≡◌, ◌⊎◌, OnOk, IfOk};
 ghost use Rattle.sj_names.specs.WellKnown.{hijacked as the_hijacked, object};
-ghost use Rattle.reach_rules.specs.Refusals.{LacksField, missing_field};
+ghost use Rattle.sj_reach_spec.specs.Refusals.{LacksField, missing_field};
 ghost use Rattle.sj_reach.specs.Conclusions.{Adds, Just, Among, follows, tells};
 ghost use Rattle.sj_reach.specs.Steps as steps;
 

@@ -2,7 +2,7 @@
 ghost use Rattle.std.specs.Prelude.{◌≡◌, ◌↔◌, IfOk, IsTrue, MatchOption, Some};
 ghost use Rattle.sj_names.specs.WellKnown.{init};
 ghost use Rattle.sj_names.specs.declared.references.TypeRef.TheVariants as reference;
-ghost use Rattle.reach_rules.specs.Rules as rules;
+ghost use Rattle.sj_reach_spec.specs.Rules as rules;
 
 use sj_names::{
     ClassName, EntryPoint, FieldName, INIT, Member, MethodName, Namespace, NoMemory, Shared,

@@ -1,6 +1,6 @@
 // What follows from a class that is needed.
 ghost use Rattle.std.specs.Prelude.{◌↔◌, OnOk, IsTrue};
-ghost use Rattle.reach_rules.specs.Refusals.{IsOtherKind};
+ghost use Rattle.sj_reach_spec.specs.Refusals.{IsOtherKind};
 ghost use Rattle.sj_reach.specs.Conclusions.{Adds, Among};
 ghost use Rattle.sj_reach.specs.Steps as steps;
 

@@ -1,6 +1,6 @@
 // What is told of references that don't resolve.
 ghost use Rattle.std.specs.Prelude.{◌≡◌, ◌++◌, IfOk, OnOk, codes, string_bytes};
-ghost use Rattle.reach_rules.specs.Refusals as refusals;
+ghost use Rattle.sj_reach_spec.specs.Refusals as refusals;
 ghost use Rattle.sj_reach.specs.Conclusions.{Adds, Just, tells};
 
 use crate::findings::Findings;

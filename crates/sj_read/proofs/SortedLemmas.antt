@@ -2,9 +2,9 @@
 use Rattle.std.proofs.Common.{◌≡◌, List, [], ◌∷◌, ◌++◌, length, refl, sym, ap, ◌∙◌, append_assoc, append-nil, arith}
 use Rattle.sj_trees.specs.declared.classes.FieldDef.{FieldDef}
 use Rattle.sj_trees.specs.declared.classes.MethodDef.{MethodDef}
-use Rattle.sj_format.specs.declared.members.MemberDef.{MemberDef}
-use Rattle.sj_format.specs.declared.members.MemberDef.TheVariants.{Field, Method}
-use Rattle.sj_format.specs.Classes.{fields_in, methods_in}
+use Rattle.sj_read_spec.specs.declared.members.MemberDef.{MemberDef}
+use Rattle.sj_read_spec.specs.declared.members.MemberDef.TheVariants.{Field, Method}
+use Rattle.sj_read_spec.specs.Classes.{fields_in, methods_in}
 
 pub fields_more : (front now all : List FieldDef) (m : MemberDef) (items rest : List MemberDef) → items ≡ m ∷ rest → now ≡ front ++ fields_in (m ∷ []) → front ++ fields_in items ≡ all → now ++ fields_in rest ≡ all
 fields_more front now all (Field f) items rest steps put so_far =

@@ -2,12 +2,12 @@
 use Rattle.std.proofs.Common.{◌≡◌, ℕ, zero, suc, ◌-◌, List, length, Ok, Err, refl, sym, ap, ◌∙◌, arith}
 use Rattle.sj_trees.specs.declared.positions.Position.{Position}
 use Rattle.sj_trees.specs.declared.forms.Form.{Form}
-use Rattle.sj_format.specs.Codes.{reserved_trees}
+use Rattle.sj_read_spec.specs.Codes.{reserved_trees}
 use Rattle.sj_trees.specs.Forms.{among, form_codes}
-use Rattle.sj_format.specs.Reading.{Reading, ◌>>=◌}
-use Rattle.sj_format.specs.Tables.{Tables}
-use Rattle.sj_format.specs.Types.{code_at, position_at}
-use Rattle.sj_format.specs.Trees.{form_at, tree_at}
+use Rattle.sj_read_spec.specs.Reading.{Reading, ◌>>=◌}
+use Rattle.sj_read_spec.specs.Tables.{Tables}
+use Rattle.sj_read_spec.specs.Types.{code_at, position_at}
+use Rattle.sj_read_spec.specs.Trees.{form_at, tree_at}
 use Rattle.sj_read.specs.declared.stops.Stop.{Stop}
 use Rattle.sj_read.specs.declared.stops.Stop.TheVariants.{NoMemory, Bad}
 use Rattle.sj_read.specs.Stops.{StopsAs}

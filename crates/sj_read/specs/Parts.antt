@@ -7,14 +7,14 @@ use Rattle.sj_trees.specs.Term.{Term}
 use Rattle.sj_trees.specs.declared.types.IrType.{IrType}
 use Rattle.sj_trees.specs.declared.classes.MethodDef.{MethodDef}
 use Rattle.sj_trees.specs.declared.classes.ClassDef.{ClassDef}
-use Rattle.sj_format.specs.declared.members.MemberDef.{MemberDef}
-use Rattle.sj_format.specs.Codes.{kinds, reserved_kinds}
+use Rattle.sj_read_spec.specs.declared.members.MemberDef.{MemberDef}
+use Rattle.sj_read_spec.specs.Codes.{kinds, reserved_kinds}
 use Rattle.sj_trees.specs.Forms.{among}
-use Rattle.sj_format.specs.Reading.{Reading, ◌>>=◌, bytes_at, list_at}
-use Rattle.sj_format.specs.Tables.{Tables, entry_at, name_at, text_at, string_at}
-use Rattle.sj_format.specs.References.{method_name_at}
-use Rattle.sj_format.specs.Types.{code_at, mark_at, option_at, position_at, namespace_at, type_at}
-use Rattle.sj_format.specs.Classes.{body_at, param_at, member_at, fields_in, methods_in}
+use Rattle.sj_read_spec.specs.Reading.{Reading, ◌>>=◌, bytes_at, list_at}
+use Rattle.sj_read_spec.specs.Tables.{Tables, entry_at, name_at, text_at, string_at}
+use Rattle.sj_read_spec.specs.References.{method_name_at}
+use Rattle.sj_read_spec.specs.Types.{code_at, mark_at, option_at, position_at, namespace_at, type_at}
+use Rattle.sj_read_spec.specs.Classes.{body_at, param_at, member_at, fields_in, methods_in}
 use Rattle.sj_read.specs.declared.classes.MethodHead.{MethodHead}
 use Rattle.sj_read.specs.declared.classes.Implementation.{Implementation}
 use Rattle.sj_read.specs.declared.classes.MethodTail.{MethodTail}

@@ -1,6 +1,6 @@
 -- What a reader of the code gives, beside the reading function.
 use Rattle.std.specs.Prelude.{◌≡◌, Result, Ok, Err}
-use Rattle.sj_format.specs.declared.faults.Fault.{Fault}
+use Rattle.sj_read_spec.specs.declared.faults.Fault.{Fault}
 use Rattle.sj_read.specs.declared.stops.Stop.{Stop}
 use Rattle.sj_read.specs.declared.stops.Stop.TheVariants.{NoMemory, Bad}
 

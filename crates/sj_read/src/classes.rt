@@ -3,10 +3,10 @@ ghost use Rattle.std.specs.Prelude.{◌≡◌, ◌++◌, ◌∷◌, [], IfOk, If
 ghost use Rattle.std.specs.Option.{option_copied};
 ghost use Rattle.sj_names.specs.Grammar.{is_class_name};
 ghost use Rattle.sj_trees.specs.View.{view};
-ghost use Rattle.sj_format.specs.Reading.{bytes_at, list_at};
-ghost use Rattle.sj_format.specs.Tables.{name_at};
-ghost use Rattle.sj_format.specs.Types.{option_at};
-ghost use Rattle.sj_format.specs.Classes.{param_at, field_at, method_at, member_at, fields_in, methods_in};
+ghost use Rattle.sj_read_spec.specs.Reading.{bytes_at, list_at};
+ghost use Rattle.sj_read_spec.specs.Tables.{name_at};
+ghost use Rattle.sj_read_spec.specs.Types.{option_at};
+ghost use Rattle.sj_read_spec.specs.Classes.{param_at, field_at, method_at, member_at, fields_in, methods_in};
 ghost use Rattle.sj_read.specs.Parts.{method_head_at, seen_implementation, seen_tail, body_and_hash_at, implementation_at, method_tail_at, method_of_parts, members_in, members_at, class_head_at, class_tail_at, class_parts_at, class_of_parts};
 ghost use Rattle.sj_read.specs.Stops.{Gives};
 
@@ -18,8 +18,8 @@ use crate::stops::{Stop, bad};
 use crate::tables::{class_name_of, field_name_of, local_name_of, method_name_of, position_of};
 use crate::trees::tree_of;
 use crate::types::{kind_of, member_tag_of, namespace_of, type_of};
-use sj_format::{MemberDef, MemberTag};
 use sj_names::{ClassName, MethodName, Namespace, Shared};
+use sj_read_spec::{MemberDef, MemberTag};
 use sj_trees::{Body, ClassDef, ClassKind, Code, FieldDef, IrType, MethodDef, ParamDef, Position};
 use std::alloc::{AllocError, Global};
 
@@ -32,7 +32,7 @@ struct ParamItem<'t>(&'t FileTables);
 
 impl Item for ParamItem<'_> {
     ghost use Rattle.sj_trees.specs.declared.classes.ParamDef.{ParamDef};
-    ghost use Rattle.sj_format.specs.Classes.{param_at};
+    ghost use Rattle.sj_read_spec.specs.Classes.{param_at};
 
     type Value = ParamDef;
 
@@ -42,7 +42,7 @@ impl Item for ParamItem<'_> {
 
     ghost reading = { λ s. param_at s.0.now };
 
-    #[tactic(auto, unfolding(sj_format::specs::Classes::param_at))]
+    #[tactic(auto, unfolding(sj_read_spec::specs::Classes::param_at))]
     fn read<'a>(&self, _alloc: Global, bytes: &'a [u8]) -> Result<(ParamDef, &'a [u8]), Stop> {
         let (name, rest) = local_name_of(self.0.names(), bytes)?;
         let (mutable, rest) = mark_of(rest)?;
@@ -86,7 +86,7 @@ fn array_of(bytes: &[u8]) -> Result<(&[u8; 20], &[u8]), Stop>
 }
 
 // A field behind its tag.
-#[tactic(auto, unfolding(sj_format::specs::Classes::field_at))]
+#[tactic(auto, unfolding(sj_read_spec::specs::Classes::field_at))]
 fn field_of<'a>(tables: &FileTables, bytes: &'a [u8]) -> Result<(FieldDef, &'a [u8]), Stop>
     ensures { Gives (λ x. (x.0, x.1.now)) result (field_at tables.now bytes.now) }
 {
@@ -169,7 +169,7 @@ fn joined<'a, A: Drop, B: Drop>(
 }
 
 // The body and the hash of a method that has a body.
-#[tactic(auto, unfolding(sj_format::specs::Classes::body_at))]
+#[tactic(auto, unfolding(sj_read_spec::specs::Classes::body_at))]
 fn body_and_hash_of<'a>(
     alloc: Global,
     tables: &FileTables,
@@ -260,8 +260,8 @@ fn method_of<'a>(
 struct MemberItem<'t>(&'t FileTables);
 
 impl Item for MemberItem<'_> {
-    ghost use Rattle.sj_format.specs.declared.members.MemberDef.{MemberDef};
-    ghost use Rattle.sj_format.specs.Classes.{member_at};
+    ghost use Rattle.sj_read_spec.specs.declared.members.MemberDef.{MemberDef};
+    ghost use Rattle.sj_read_spec.specs.Classes.{member_at};
 
     type Value = MemberDef;
 
@@ -271,7 +271,7 @@ impl Item for MemberItem<'_> {
 
     ghost reading = { λ s. member_at s.0.now };
 
-    #[tactic(auto, unfolding(sj_format::specs::Classes::member_at))]
+    #[tactic(auto, unfolding(sj_read_spec::specs::Classes::member_at))]
     fn read<'a>(&self, alloc: Global, bytes: &'a [u8]) -> Result<(MemberDef, &'a [u8]), Stop> {
         let (tag, rest) = member_tag_of(bytes)?;
         match tag {
@@ -343,7 +343,7 @@ struct InterfaceItem<'t>(&'t [NameEntry]);
 impl Item for InterfaceItem<'_> {
     ghost use Rattle.std.specs.Prelude.{List, ℕ};
     ghost use Rattle.sj_names.specs.Grammar.{is_class_name};
-    ghost use Rattle.sj_format.specs.Tables.{name_at};
+    ghost use Rattle.sj_read_spec.specs.Tables.{name_at};
 
     type Value = ClassName;
 

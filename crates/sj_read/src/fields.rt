@@ -2,9 +2,9 @@
 ghost use Rattle.std.specs.Prelude.{◌≡◌, true, false, length, MatchOption, Some};
 ghost use Rattle.std.specs.Int.{w8, w16, w32, w64};
 ghost use Rattle.std.specs.Str.{is_utf8};
-ghost use Rattle.sj_format.specs.Reading.{byte_at, number_at, bytes_at};
-ghost use Rattle.sj_format.specs.Tables.{below_at, entry_at, text_at, string_at};
-ghost use Rattle.sj_format.specs.Types.{mark_at, signed_at};
+ghost use Rattle.sj_read_spec.specs.Reading.{byte_at, number_at, bytes_at};
+ghost use Rattle.sj_read_spec.specs.Tables.{below_at, entry_at, text_at, string_at};
+ghost use Rattle.sj_read_spec.specs.Types.{mark_at, signed_at};
 ghost use Rattle.sj_read.specs.Stops.{Gives};
 
 use crate::stops::{Stop, bad};

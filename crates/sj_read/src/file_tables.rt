@@ -16,7 +16,7 @@ pub struct FileTables {
 }
 
 impl Model for FileTables {
-    ghost use Rattle.sj_format.specs.Tables.{Tables};
+    ghost use Rattle.sj_read_spec.specs.Tables.{Tables};
 
     ghost Value = { Tables };
 

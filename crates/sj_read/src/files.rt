@@ -3,11 +3,11 @@ ghost use Rattle.std.specs.Prelude.{◌≡◌, ℕ, length, nat_eq, codes, IfOk,
 ghost use Rattle.sj_names.specs.Counting.{raised};
 ghost use Rattle.sj_trees.specs.declared.classes.ClassDef.{ClassDef};
 ghost use Rattle.sj_trees.specs.declared.refusals.Code.{Code};
-ghost use Rattle.sj_format.specs.Files.{magic_at, version_text_at, version_at, tables_at, contents_at, file_of, FileIs, Fails};
-ghost use Rattle.sj_format.specs.Classes.{class_at};
+ghost use Rattle.sj_read_spec.specs.Files.{magic_at, version_text_at, version_at, tables_at, contents_at, file_of, FileIs, Fails};
+ghost use Rattle.sj_read_spec.specs.Classes.{class_at};
 ghost use Rattle.sj_read.specs.Parts.{text_tables_at, more_tables_at};
 ghost use Rattle.sj_read.specs.Stops.{Gives};
-ghost use Rattle.sj_format.specs.Answers.{Reads};
+ghost use Rattle.sj_read_spec.specs.Answers.{Reads};
 
 use crate::classes::{class_of_parts, class_parts_of};
 use crate::fields::{bytes_of, number_of, short_of};
@@ -120,7 +120,7 @@ fn class_of(alloc: Global, tables: FileTables, bytes: &[u8]) -> Result<(ClassDef
 }
 
 // A class and what stands in front of it.
-#[tactic(auto, unfolding(sj_format::specs::Files::contents_at))]
+#[tactic(auto, unfolding(sj_read_spec::specs::Files::contents_at))]
 fn contents_of(alloc: Global, bytes: &[u8]) -> Result<(ClassDef, &[u8]), Stop>
     ensures { Gives (λ x. (x.0, x.1.now)) result (contents_at bytes.now) }
 {
@@ -131,7 +131,7 @@ fn contents_of(alloc: Global, bytes: &[u8]) -> Result<(ClassDef, &[u8]), Stop>
 }
 
 // The class of a file.
-#[tactic(auto, unfolding(sj_format::specs::Files::file_of))]
+#[tactic(auto, unfolding(sj_read_spec::specs::Files::file_of))]
 fn file_of(alloc: Global, bytes: &[u8]) -> Result<ClassDef, Stop>
     ensures { Gives (λ c. c) result (file_of bytes.now) }
 {

@@ -1,6 +1,6 @@
 // Lists of things that don't hold each other.
 ghost use Rattle.std.specs.Prelude.{◌≡◌, map};
-ghost use Rattle.sj_format.specs.Reading.{many_at, list_at};
+ghost use Rattle.sj_read_spec.specs.Reading.{many_at, list_at};
 ghost use Rattle.sj_read.specs.Stops.{Gives};
 
 use crate::fields::number_of;
@@ -12,7 +12,7 @@ pub trait Item {
     type Value: Drop;
 
     ghost use Rattle.std.specs.Prelude.{List, ℕ};
-    ghost use Rattle.sj_format.specs.Reading.{Reading};
+    ghost use Rattle.sj_read_spec.specs.Reading.{Reading};
     ghost use Rattle.sj_read.specs.Stops.{Gives};
 
     ghost Seen: { Type 0 };

@@ -1,7 +1,7 @@
 // Trees without trees in them.
 ghost use Rattle.std.specs.Prelude.{◌≡◌};
 ghost use Rattle.sj_trees.specs.View.{view};
-ghost use Rattle.sj_format.specs.Trees.{leaf_at};
+ghost use Rattle.sj_read_spec.specs.Trees.{leaf_at};
 ghost use Rattle.sj_read.specs.Stops.{Gives};
 
 use crate::fields::{
@@ -14,7 +14,7 @@ use crate::types::type_of;
 use sj_trees::{LeafForm, Position, Tree};
 
 // A form without trees in it.
-#[tactic(auto, unfolding(sj_format::specs::Trees::leaf_at))]
+#[tactic(auto, unfolding(sj_read_spec::specs::Trees::leaf_at))]
 pub fn leaf_of<'a>(
     tables: &FileTables,
     tag: LeafForm,

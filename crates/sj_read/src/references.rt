@@ -1,7 +1,7 @@
 // References to types, and the table of method names.
 ghost use Rattle.std.specs.Prelude.{◌≡◌};
-ghost use Rattle.sj_format.specs.References.{plain_base, plain_reference, base_at, array_at, array_reference_at, reference_of, parameter_at, result_at, method_name_at};
-ghost use Rattle.sj_format.specs.Reading.{list_at};
+ghost use Rattle.sj_read_spec.specs.References.{plain_base, plain_reference, base_at, array_at, array_reference_at, reference_of, parameter_at, result_at, method_name_at};
+ghost use Rattle.sj_read_spec.specs.Reading.{list_at};
 ghost use Rattle.sj_read.specs.Stops.{Gives};
 
 use crate::fields::byte_of;
@@ -59,7 +59,7 @@ fn base_of<'a>(names: &[NameEntry], bytes: &'a [u8]) -> Result<(BaseRef, &'a [u8
 }
 
 // An array behind its code.
-#[tactic(auto, unfolding(sj_format::specs::References::array_at))]
+#[tactic(auto, unfolding(sj_read_spec::specs::References::array_at))]
 fn array_of<'a>(names: &[NameEntry], bytes: &'a [u8]) -> Result<(ArrayRef, &'a [u8]), Stop>
     ensures { Gives (λ x. (x.0, x.1.now)) result (array_at names.now bytes.now) }
 {
@@ -72,7 +72,7 @@ fn array_of<'a>(names: &[NameEntry], bytes: &'a [u8]) -> Result<(ArrayRef, &'a [
 }
 
 // An array with its code.
-#[tactic(auto, unfolding(sj_format::specs::References::array_reference_at))]
+#[tactic(auto, unfolding(sj_read_spec::specs::References::array_reference_at))]
 pub fn array_reference_of<'a>(
     names: &[NameEntry],
     bytes: &'a [u8],
@@ -87,7 +87,7 @@ pub fn array_reference_of<'a>(
 }
 
 // A reference other than V behind its code, which begins at `front`.
-#[tactic(auto, unfolding(sj_format::specs::References::reference_of))]
+#[tactic(auto, unfolding(sj_read_spec::specs::References::reference_of))]
 fn reference_behind<'a>(
     names: &[NameEntry],
     code: u8,
@@ -116,7 +116,7 @@ struct ParameterItem<'t>(&'t [NameEntry]);
 
 impl Item for ParameterItem<'_> {
     ghost use Rattle.sj_names.specs.declared.references.TypeRef.{TypeRef};
-    ghost use Rattle.sj_format.specs.References.{parameter_at};
+    ghost use Rattle.sj_read_spec.specs.References.{parameter_at};
 
     type Value = TypeRef;
 
@@ -165,7 +165,7 @@ pub struct MethodNameItem<'t>(pub &'t [NameEntry]);
 
 impl Item for MethodNameItem<'_> {
     ghost use Rattle.sj_names.specs.declared.method_names.MethodName.{MethodName};
-    ghost use Rattle.sj_format.specs.References.{method_name_at};
+    ghost use Rattle.sj_read_spec.specs.References.{method_name_at};
 
     type Value = MethodName;
 
@@ -175,7 +175,7 @@ impl Item for MethodNameItem<'_> {
 
     ghost reading = { λ s. method_name_at s.0.now };
 
-    #[tactic(auto, unfolding(sj_format::specs::References::method_name_at))]
+    #[tactic(auto, unfolding(sj_read_spec::specs::References::method_name_at))]
     fn read<'a>(&self, alloc: Global, bytes: &'a [u8]) -> Result<(MethodName, &'a [u8]), Stop> {
         let (simple, rest) = simple_name_of(self.0, bytes)?;
         let (params, rest) = parameters_of(alloc, self.0, rest)?;

@@ -1,9 +1,9 @@
 // Why a reader stops.
 ghost use Rattle.std.specs.Prelude.{◌≡◌};
-ghost use Rattle.sj_format.specs.Reading.{fault};
+ghost use Rattle.sj_read_spec.specs.Reading.{fault};
 
-use sj_format::Fault;
 use sj_names::NoMemory;
+use sj_read_spec::Fault;
 use sj_trees::Code;
 use std::alloc::{AllocError, AllocFailed};
 

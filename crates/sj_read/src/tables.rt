@@ -1,8 +1,8 @@
 // The four tables in front of the class, and how the class names their entries.
 ghost use Rattle.std.specs.Prelude.{◌≡◌, List, ℕ, map, length};
 ghost use Rattle.sj_names.specs.Grammar.{is_class_name, is_plain_name, is_simple_name};
-ghost use Rattle.sj_format.specs.Tables.{entry_at, name_at, text_at, string_at};
-ghost use Rattle.sj_format.specs.Types.{position_at};
+ghost use Rattle.sj_read_spec.specs.Tables.{entry_at, name_at, text_at, string_at};
+ghost use Rattle.sj_read_spec.specs.Types.{position_at};
 ghost use Rattle.sj_read.specs.Stops.{Gives};
 
 use crate::fields::{below_of, entry_of, number_of, string_of, text_of};
@@ -20,7 +20,7 @@ pub struct TextItem;
 
 impl Item for TextItem {
     ghost use Rattle.std.specs.Prelude.{List, ℕ};
-    ghost use Rattle.sj_format.specs.Tables.{text_at};
+    ghost use Rattle.sj_read_spec.specs.Tables.{text_at};
 
     type Value = Text;
 
@@ -41,7 +41,7 @@ pub struct NameItem;
 
 impl Item for NameItem {
     ghost use Rattle.std.specs.Prelude.{List, ℕ};
-    ghost use Rattle.sj_format.specs.Tables.{text_at};
+    ghost use Rattle.sj_read_spec.specs.Tables.{text_at};
 
     type Value = NameEntry;
 
@@ -63,7 +63,7 @@ pub struct StringItem;
 
 impl Item for StringItem {
     ghost use Rattle.std.specs.Prelude.{List, ℕ};
-    ghost use Rattle.sj_format.specs.Tables.{string_at};
+    ghost use Rattle.sj_read_spec.specs.Tables.{string_at};
 
     type Value = Units;
 
@@ -168,7 +168,7 @@ pub fn units_of<'a>(strings: &[Units], bytes: &'a [u8]) -> Result<(Units, &'a [u
 }
 
 // A position in one of so many source files.
-#[tactic(auto, unfolding(sj_format::specs::Types::position_at))]
+#[tactic(auto, unfolding(sj_read_spec::specs::Types::position_at))]
 pub fn position_of(files: usize, bytes: &[u8]) -> Result<(Position, &[u8]), Stop>
     ensures { Gives (λ x. (x.0, x.1.now)) result (position_at files bytes.now) }
 {

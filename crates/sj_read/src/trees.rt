@@ -1,9 +1,9 @@
 // Trees.
 ghost use Rattle.std.specs.Prelude.{◌≡◌, map};
 ghost use Rattle.sj_trees.specs.View.{view, view_case};
-ghost use Rattle.sj_format.specs.Reading.{many_at, list_at};
-ghost use Rattle.sj_format.specs.Types.{signed_at};
-ghost use Rattle.sj_format.specs.Trees.{tree_at, case_at, statement_at, branch_at, call_at, operation_at};
+ghost use Rattle.sj_read_spec.specs.Reading.{many_at, list_at};
+ghost use Rattle.sj_read_spec.specs.Types.{signed_at};
+ghost use Rattle.sj_read_spec.specs.Trees.{tree_at, case_at, statement_at, branch_at, call_at, operation_at};
 ghost use Rattle.sj_read.specs.Stops.{Gives};
 ghost use Rattle.std.specs.Int.{w32};
 
@@ -30,7 +30,7 @@ struct KeyItem;
 impl Item for KeyItem {
     ghost use Rattle.std.specs.Prelude.{ℤ};
     ghost use Rattle.std.specs.Int.{w32};
-    ghost use Rattle.sj_format.specs.Types.{signed_at};
+    ghost use Rattle.sj_read_spec.specs.Types.{signed_at};
 
     type Value = i32;
 
@@ -54,7 +54,7 @@ fn keys_of(alloc: Global, bytes: &[u8]) -> Result<(Items<i32>, &[u8]), Stop>
 }
 
 // A tree in which trees stand one in another `depth` times at most, itself counted.
-#[tactic(auto, unfolding(sj_format::specs::Trees::tree_at))]
+#[tactic(auto, unfolding(sj_read_spec::specs::Trees::tree_at))]
 #[cycle(trees)]
 pub fn tree_of<'a>(
     alloc: Global,
@@ -115,7 +115,7 @@ fn trees_of<'a>(
 }
 
 // A case of a match.
-#[tactic(auto, unfolding(sj_format::specs::Trees::case_at))]
+#[tactic(auto, unfolding(sj_read_spec::specs::Trees::case_at))]
 #[cycle(trees)]
 fn case_of<'a>(
     alloc: Global,
@@ -176,7 +176,7 @@ fn statement_of<'a>(
 }
 
 // A definition of a local variable.
-#[tactic(auto, unfolding(sj_format::specs::Trees::statement_at))]
+#[tactic(auto, unfolding(sj_read_spec::specs::Trees::statement_at))]
 #[cycle(trees)]
 fn var_def_of<'a>(
     alloc: Global,
@@ -195,7 +195,7 @@ fn var_def_of<'a>(
 }
 
 // Statements in a row.
-#[tactic(auto, unfolding(sj_format::specs::Trees::statement_at))]
+#[tactic(auto, unfolding(sj_read_spec::specs::Trees::statement_at))]
 #[cycle(trees)]
 fn block_of<'a>(
     alloc: Global,
@@ -212,7 +212,7 @@ fn block_of<'a>(
 }
 
 // A labeled block.
-#[tactic(auto, unfolding(sj_format::specs::Trees::statement_at))]
+#[tactic(auto, unfolding(sj_read_spec::specs::Trees::statement_at))]
 #[cycle(trees)]
 fn labeled_of<'a>(
     alloc: Global,
@@ -230,7 +230,7 @@ fn labeled_of<'a>(
 }
 
 // An assignment.
-#[tactic(auto, unfolding(sj_format::specs::Trees::statement_at))]
+#[tactic(auto, unfolding(sj_read_spec::specs::Trees::statement_at))]
 #[cycle(trees)]
 fn assign_of<'a>(
     alloc: Global,
@@ -247,7 +247,7 @@ fn assign_of<'a>(
 }
 
 // A jump to the end of a labeled block.
-#[tactic(auto, unfolding(sj_format::specs::Trees::statement_at))]
+#[tactic(auto, unfolding(sj_read_spec::specs::Trees::statement_at))]
 #[cycle(trees)]
 fn return_of<'a>(
     alloc: Global,
@@ -264,7 +264,7 @@ fn return_of<'a>(
 }
 
 // A throw.
-#[tactic(auto, unfolding(sj_format::specs::Trees::statement_at))]
+#[tactic(auto, unfolding(sj_read_spec::specs::Trees::statement_at))]
 #[cycle(trees)]
 fn throw_of<'a>(
     alloc: Global,
@@ -280,7 +280,7 @@ fn throw_of<'a>(
 }
 
 // A module's instance set.
-#[tactic(auto, unfolding(sj_format::specs::Trees::statement_at))]
+#[tactic(auto, unfolding(sj_read_spec::specs::Trees::statement_at))]
 #[cycle(trees)]
 fn store_module_of<'a>(
     alloc: Global,
@@ -297,7 +297,7 @@ fn store_module_of<'a>(
 }
 
 // A line of output.
-#[tactic(auto, unfolding(sj_format::specs::Trees::statement_at))]
+#[tactic(auto, unfolding(sj_read_spec::specs::Trees::statement_at))]
 #[cycle(trees)]
 fn log_of<'a>(
     alloc: Global,
@@ -335,7 +335,7 @@ fn branch_of<'a>(
 }
 
 // A choice.
-#[tactic(auto, unfolding(sj_format::specs::Trees::branch_at))]
+#[tactic(auto, unfolding(sj_read_spec::specs::Trees::branch_at))]
 #[cycle(trees)]
 fn if_of<'a>(
     alloc: Global,
@@ -357,7 +357,7 @@ fn if_of<'a>(
 }
 
 // A loop that tests in front.
-#[tactic(auto, unfolding(sj_format::specs::Trees::branch_at))]
+#[tactic(auto, unfolding(sj_read_spec::specs::Trees::branch_at))]
 #[cycle(trees)]
 fn while_of<'a>(
     alloc: Global,
@@ -374,7 +374,7 @@ fn while_of<'a>(
 }
 
 // A loop that tests behind.
-#[tactic(auto, unfolding(sj_format::specs::Trees::branch_at))]
+#[tactic(auto, unfolding(sj_read_spec::specs::Trees::branch_at))]
 #[cycle(trees)]
 fn do_while_of<'a>(
     alloc: Global,
@@ -391,7 +391,7 @@ fn do_while_of<'a>(
 }
 
 // A block with a handler.
-#[tactic(auto, unfolding(sj_format::specs::Trees::branch_at))]
+#[tactic(auto, unfolding(sj_read_spec::specs::Trees::branch_at))]
 #[cycle(trees)]
 fn try_catch_of<'a>(
     alloc: Global,
@@ -410,7 +410,7 @@ fn try_catch_of<'a>(
 }
 
 // A block with a finalizer.
-#[tactic(auto, unfolding(sj_format::specs::Trees::branch_at))]
+#[tactic(auto, unfolding(sj_read_spec::specs::Trees::branch_at))]
 #[cycle(trees)]
 fn try_finally_of<'a>(
     alloc: Global,
@@ -427,7 +427,7 @@ fn try_finally_of<'a>(
 }
 
 // A choice by a number.
-#[tactic(auto, unfolding(sj_format::specs::Trees::branch_at))]
+#[tactic(auto, unfolding(sj_read_spec::specs::Trees::branch_at))]
 #[cycle(trees)]
 fn match_of<'a>(
     alloc: Global,
@@ -468,7 +468,7 @@ fn call_of<'a>(
 }
 
 // A new object.
-#[tactic(auto, unfolding(sj_format::specs::Trees::call_at))]
+#[tactic(auto, unfolding(sj_read_spec::specs::Trees::call_at))]
 #[cycle(trees)]
 fn new_of<'a>(
     alloc: Global,
@@ -487,7 +487,7 @@ fn new_of<'a>(
 }
 
 // A field of an object.
-#[tactic(auto, unfolding(sj_format::specs::Trees::call_at))]
+#[tactic(auto, unfolding(sj_read_spec::specs::Trees::call_at))]
 #[cycle(trees)]
 fn select_of<'a>(
     alloc: Global,
@@ -506,7 +506,7 @@ fn select_of<'a>(
 }
 
 // A call that the receiver's class decides.
-#[tactic(auto, unfolding(sj_format::specs::Trees::call_at))]
+#[tactic(auto, unfolding(sj_read_spec::specs::Trees::call_at))]
 #[cycle(trees)]
 fn apply_of<'a>(
     alloc: Global,
@@ -529,7 +529,7 @@ fn apply_of<'a>(
 }
 
 // A call on a receiver.
-#[tactic(auto, unfolding(sj_format::specs::Trees::call_at))]
+#[tactic(auto, unfolding(sj_read_spec::specs::Trees::call_at))]
 #[cycle(trees)]
 fn apply_statically_of<'a>(
     alloc: Global,
@@ -554,7 +554,7 @@ fn apply_statically_of<'a>(
 }
 
 // A call of a static method.
-#[tactic(auto, unfolding(sj_format::specs::Trees::call_at))]
+#[tactic(auto, unfolding(sj_read_spec::specs::Trees::call_at))]
 #[cycle(trees)]
 fn apply_static_of<'a>(
     alloc: Global,
@@ -602,7 +602,7 @@ fn operation_of<'a>(
 }
 
 // An operator with one operand.
-#[tactic(auto, unfolding(sj_format::specs::Trees::operation_at))]
+#[tactic(auto, unfolding(sj_read_spec::specs::Trees::operation_at))]
 #[cycle(trees)]
 fn unary_op_of<'a>(
     alloc: Global,
@@ -619,7 +619,7 @@ fn unary_op_of<'a>(
 }
 
 // An operator with two operands.
-#[tactic(auto, unfolding(sj_format::specs::Trees::operation_at))]
+#[tactic(auto, unfolding(sj_read_spec::specs::Trees::operation_at))]
 #[cycle(trees)]
 fn binary_op_of<'a>(
     alloc: Global,
@@ -637,7 +637,7 @@ fn binary_op_of<'a>(
 }
 
 // A new array.
-#[tactic(auto, unfolding(sj_format::specs::Trees::operation_at))]
+#[tactic(auto, unfolding(sj_read_spec::specs::Trees::operation_at))]
 #[cycle(trees)]
 fn new_array_of<'a>(
     alloc: Global,
@@ -654,7 +654,7 @@ fn new_array_of<'a>(
 }
 
 // An array of items.
-#[tactic(auto, unfolding(sj_format::specs::Trees::operation_at))]
+#[tactic(auto, unfolding(sj_read_spec::specs::Trees::operation_at))]
 #[cycle(trees)]
 fn array_value_of<'a>(
     alloc: Global,
@@ -672,7 +672,7 @@ fn array_value_of<'a>(
 }
 
 // The length of an array.
-#[tactic(auto, unfolding(sj_format::specs::Trees::operation_at))]
+#[tactic(auto, unfolding(sj_read_spec::specs::Trees::operation_at))]
 #[cycle(trees)]
 fn array_length_of<'a>(
     alloc: Global,
@@ -688,7 +688,7 @@ fn array_length_of<'a>(
 }
 
 // An item of an array.
-#[tactic(auto, unfolding(sj_format::specs::Trees::operation_at))]
+#[tactic(auto, unfolding(sj_read_spec::specs::Trees::operation_at))]
 #[cycle(trees)]
 fn array_select_of<'a>(
     alloc: Global,
@@ -706,7 +706,7 @@ fn array_select_of<'a>(
 }
 
 // A test of a type.
-#[tactic(auto, unfolding(sj_format::specs::Trees::operation_at))]
+#[tactic(auto, unfolding(sj_read_spec::specs::Trees::operation_at))]
 #[cycle(trees)]
 fn is_instance_of_of<'a>(
     alloc: Global,
@@ -723,7 +723,7 @@ fn is_instance_of_of<'a>(
 }
 
 // A cast.
-#[tactic(auto, unfolding(sj_format::specs::Trees::operation_at))]
+#[tactic(auto, unfolding(sj_read_spec::specs::Trees::operation_at))]
 #[cycle(trees)]
 fn as_instance_of_of<'a>(
     alloc: Global,

@@ -1,10 +1,10 @@
 // Types and codes.
 ghost use Rattle.std.specs.Prelude.{◌≡◌};
 ghost use Rattle.sj_trees.specs.Operators.{unary_with, binary_with};
-ghost use Rattle.sj_format.specs.Codes.{reserved_trees, kinds, reserved_kinds, member_tags, reserved_members, plain_types, reserved_types};
+ghost use Rattle.sj_read_spec.specs.Codes.{reserved_trees, kinds, reserved_kinds, member_tags, reserved_members, plain_types, reserved_types};
 ghost use Rattle.sj_trees.specs.Forms.{among, form_codes};
-ghost use Rattle.sj_format.specs.Types.{coded, code_at, namespace_at, type_of, type_at};
-ghost use Rattle.sj_format.specs.Trees.{unary_at, binary_at};
+ghost use Rattle.sj_read_spec.specs.Types.{coded, code_at, namespace_at, type_of, type_at};
+ghost use Rattle.sj_read_spec.specs.Trees.{unary_at, binary_at};
 ghost use Rattle.sj_read.specs.Stops.{Gives};
 
 use crate::fields::byte_of;
@@ -12,11 +12,11 @@ use crate::names::NameEntry;
 use crate::references::array_reference_of;
 use crate::stops::{Stop, bad};
 use crate::tables::class_name_of;
-use sj_format::{
+use sj_names::Namespace;
+use sj_read_spec::{
     MemberTag, kind_with, namespace_with, plain_type, reserved_kind, reserved_member,
     reserved_namespace, reserved_operator, reserved_tree, reserved_type,
 };
-use sj_names::Namespace;
 use sj_trees::{BinaryOp, ClassKind, Code, Form, IrType, Reserved, UnaryOp};
 
 // What a code stands for that begins at `front`.
@@ -99,7 +99,7 @@ pub fn binary_of(bytes: &[u8]) -> Result<(BinaryOp, &[u8]), Stop>
 }
 
 // A type.
-#[tactic(auto, unfolding(sj_format::specs::Types::type_of))]
+#[tactic(auto, unfolding(sj_read_spec::specs::Types::type_of))]
 pub fn type_of<'a>(names: &[NameEntry], bytes: &'a [u8]) -> Result<(IrType, &'a [u8]), Stop>
     ensures { Gives (λ x. (x.0, x.1.now)) result (type_at names.now bytes.now) }
 {

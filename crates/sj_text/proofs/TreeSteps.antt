@@ -1,6 +1,6 @@
 -- One level of the reader of trees, at a fuel that isn't zero.
 use Rattle.std.proofs.Common.{◌≡◌, ℕ, zero, suc, ◌-◌, List, length, Err, refl, ap, arith}
-use Rattle.listing_spelling.specs.Reading.{tree_at, tree_level}
+use Rattle.sj_text_spec.specs.Reading.{tree_at, tree_level}
 
 pub tree_none : (n : ℕ) (bytes : List ℕ) → n ≡ 0 → tree_at n bytes ≡ Err (length bytes)
 unfolding tree_at

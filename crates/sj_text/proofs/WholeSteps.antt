@@ -4,9 +4,9 @@ use Rattle.exact_place.specs.Place.{Place}
 use Rattle.exact_place.specs.Reading.{Reading}
 use Rattle.exact_place.proofs.Steps.{good_is}
 use Rattle.sj_trees.specs.declared.classes.ClassDef.{ClassDef}
-use Rattle.listing_spelling.specs.Spelling.{Lists}
-use Rattle.listing_spelling.specs.Reading.{listing_at}
-use Rattle.listing_spelling.proofs.Whole.{listing_read, class_listed, listing_place, no_listing}
+use Rattle.sj_text_spec.specs.Spelling.{Lists}
+use Rattle.sj_text_spec.specs.Reading.{listing_at}
+use Rattle.sj_text_spec.proofs.Whole.{listing_read, class_listed, listing_place, no_listing}
 
 at_fuel : (bytes : List ℕ) (total : Reading ClassDef) → listing_at (length bytes + 1) bytes ≡ total → listing_at (suc (length bytes)) bytes ≡ total
 at_fuel bytes total e = ap (λ (n : ℕ). listing_at n bytes) (sym (add-one (length bytes))) ∙ e

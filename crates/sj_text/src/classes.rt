@@ -2,17 +2,17 @@
 ghost use Rattle.std.specs.Prelude.{◌≡◌, ◌∷◌, [], None, Some, IfOk, IfErr, codes};
 ghost use Rattle.exact_place.specs.Reading.{lead_at, map_at, value_at};
 ghost use Rattle.text_scan.specs.Gives.{Gives};
-ghost use Rattle.listing_spelling.specs.Names as names;
-ghost use Rattle.listing_spelling.specs.Reading as reading;
+ghost use Rattle.sj_text_spec.specs.Names as names;
+ghost use Rattle.sj_text_spec.specs.Reading as reading;
 
 use crate::forms::NOWHERE;
 use crate::trees::{ended, tree_of};
-use listing_read::{
+use sj_names::{ClassName, Shared, Text};
+use sj_text_parts::{
     Part, bracketed_of, class_field, field_field, kind_field, mark_field, method_field, name_field,
     namespace_field, type_field,
 };
-use listing_scan::class_name_of;
-use sj_names::{ClassName, Shared, Text};
+use sj_text_scan::class_name_of;
 use sj_trees::{Body, ClassDef, FieldDef, MethodDef, ParamDef};
 use std::alloc::Global;
 use text_scan::{Stop, literal, next_is};
@@ -23,7 +23,7 @@ struct InterfacePart(usize);
 
 impl Part for InterfacePart {
     ghost use Rattle.std.specs.Prelude.{List, ℕ};
-    ghost use Rattle.listing_spelling.specs.Names.{class_name_at};
+    ghost use Rattle.sj_text_spec.specs.Names.{class_name_at};
 
     type Value = ClassName;
 
@@ -38,7 +38,7 @@ impl Part for InterfacePart {
     }
 }
 
-#[tactic(auto, unfolding(listing_spelling::specs::Reading::param_at))]
+#[tactic(auto, unfolding(sj_text_spec::specs::Reading::param_at))]
 fn param_of<'a>(alloc: Global, fuel: usize, bytes: &'a [u8]) -> Result<(ParamDef, &'a [u8]), Stop>
     ensures { Gives (λ x. (x.0, x.1.now)) result (reading.param_at fuel bytes.now) }
 {
@@ -55,7 +55,7 @@ struct ParamPart(usize);
 
 impl Part for ParamPart {
     ghost use Rattle.sj_trees.specs.declared.classes.ParamDef.{ParamDef as Listed};
-    ghost use Rattle.listing_spelling.specs.Reading.{param_at};
+    ghost use Rattle.sj_text_spec.specs.Reading.{param_at};
 
     type Value = ParamDef;
 
@@ -70,7 +70,7 @@ impl Part for ParamPart {
     }
 }
 
-#[tactic(auto, unfolding(listing_spelling::specs::Reading::member_field_at))]
+#[tactic(auto, unfolding(sj_text_spec::specs::Reading::member_field_at))]
 fn field_of<'a>(alloc: Global, fuel: usize, bytes: &'a [u8]) -> Result<(FieldDef, &'a [u8]), Stop>
     ensures { Gives (λ x. (x.0, x.1.now)) result (reading.member_field_at fuel bytes.now) }
 {
@@ -97,7 +97,7 @@ struct FieldPart(usize);
 
 impl Part for FieldPart {
     ghost use Rattle.sj_trees.specs.declared.classes.FieldDef.{FieldDef as Listed};
-    ghost use Rattle.listing_spelling.specs.Reading.{member_field_at};
+    ghost use Rattle.sj_text_spec.specs.Reading.{member_field_at};
 
     type Value = FieldDef;
 
@@ -133,7 +133,7 @@ fn some_body<'a>(
 }
 
 /// A body, or `-` where there is none.
-#[tactic(auto, unfolding(listing_spelling::specs::Reading::body_at))]
+#[tactic(auto, unfolding(sj_text_spec::specs::Reading::body_at))]
 fn body_of<'a>(
     alloc: Global,
     fuel: usize,
@@ -169,7 +169,7 @@ fn params_field<'a>(
     Ok((Shared::from_vec(params)?, rest))
 }
 
-#[tactic(auto, unfolding(listing_spelling::specs::Reading::method_at))]
+#[tactic(auto, unfolding(sj_text_spec::specs::Reading::method_at))]
 fn method_of<'a>(alloc: Global, fuel: usize, bytes: &'a [u8]) -> Result<(MethodDef, &'a [u8]), Stop>
     ensures { Gives (λ x. (x.0, x.1.now)) result (reading.method_at fuel bytes.now) }
 {
@@ -199,7 +199,7 @@ struct MethodPart(usize);
 
 impl Part for MethodPart {
     ghost use Rattle.sj_trees.specs.declared.classes.MethodDef.{MethodDef as Listed};
-    ghost use Rattle.listing_spelling.specs.Reading.{method_at};
+    ghost use Rattle.sj_text_spec.specs.Reading.{method_at};
 
     type Value = MethodDef;
 
@@ -215,7 +215,7 @@ impl Part for MethodPart {
 }
 
 /// A superclass, or `-` where there is none.
-#[tactic(auto, unfolding(listing_spelling::specs::Reading::superclass_at))]
+#[tactic(auto, unfolding(sj_text_spec::specs::Reading::superclass_at))]
 fn superclass_of<'a>(
     alloc: Global,
     fuel: usize,
@@ -285,7 +285,7 @@ fn no_file(alloc: Global) -> Result<Shared<Text>, Stop>
 }
 
 /// A class.
-#[tactic(auto, unfolding(listing_spelling::specs::Reading::class_at))]
+#[tactic(auto, unfolding(sj_text_spec::specs::Reading::class_at))]
 pub fn class_of<'a>(
     alloc: Global,
     fuel: usize,

@@ -3,10 +3,10 @@ ghost use Rattle.std.specs.Prelude.{◌≡◌, ◌==◌, codes, map};
 ghost use Rattle.exact_place.specs.Reading.{lead_at};
 ghost use Rattle.sj_trees.specs.View.{view, view_case, terms_view, cases_view};
 ghost use Rattle.text_scan.specs.Gives.{Gives};
-ghost use Rattle.listing_spelling.specs.Reading as reading;
+ghost use Rattle.sj_text_spec.specs.Reading as reading;
 ghost use Rattle.sj_trees.specs.declared.forms.LeafForm.TheVariants as leaves;
 
-use listing_read::{
+use sj_text_parts::{
     byte_field, char_field, class_field, field_field, int_field, long_field, mark_field,
     name_field, short_field, string_field, type_field,
 };
@@ -32,7 +32,7 @@ pub fn ended_tree<'a>(tree: Tree, bytes: &'a [u8]) -> Read<'a>
     Ok((tree, rest))
 }
 
-#[tactic(auto, unfolding(listing_spelling::specs::Reading::leaf_at))]
+#[tactic(auto, unfolding(sj_text_spec::specs::Reading::leaf_at))]
 fn load_module_of<'a>(alloc: Global, fuel: usize, bytes: &'a [u8]) -> Read<'a>
     ensures { Gives (λ x. (view x.0, x.1.now)) result (reading.leaf_at (reading.tree_at fuel) fuel leaves.LoadModule bytes.now) }
 {
@@ -40,7 +40,7 @@ fn load_module_of<'a>(alloc: Global, fuel: usize, bytes: &'a [u8]) -> Read<'a>
     ended_tree(Tree::LoadModule(NOWHERE, class), rest)
 }
 
-#[tactic(auto, unfolding(listing_spelling::specs::Reading::leaf_at))]
+#[tactic(auto, unfolding(sj_text_spec::specs::Reading::leaf_at))]
 fn select_static_of<'a>(alloc: Global, fuel: usize, bytes: &'a [u8]) -> Read<'a>
     ensures { Gives (λ x. (view x.0, x.1.now)) result (reading.leaf_at (reading.tree_at fuel) fuel leaves.SelectStatic bytes.now) }
 {
@@ -50,7 +50,7 @@ fn select_static_of<'a>(alloc: Global, fuel: usize, bytes: &'a [u8]) -> Read<'a>
     ended_tree(Tree::SelectStatic(NOWHERE, class, field, tpe), rest)
 }
 
-#[tactic(auto, unfolding(listing_spelling::specs::Reading::leaf_at))]
+#[tactic(auto, unfolding(sj_text_spec::specs::Reading::leaf_at))]
 fn string_literal_of<'a>(alloc: Global, fuel: usize, bytes: &'a [u8]) -> Read<'a>
     ensures { Gives (λ x. (view x.0, x.1.now)) result (reading.leaf_at (reading.tree_at fuel) fuel leaves.StringLiteral bytes.now) }
 {
@@ -58,7 +58,7 @@ fn string_literal_of<'a>(alloc: Global, fuel: usize, bytes: &'a [u8]) -> Read<'a
     ended_tree(Tree::StringLiteral(NOWHERE, text), rest)
 }
 
-#[tactic(auto, unfolding(listing_spelling::specs::Reading::leaf_at))]
+#[tactic(auto, unfolding(sj_text_spec::specs::Reading::leaf_at))]
 fn var_ref_of<'a>(alloc: Global, fuel: usize, bytes: &'a [u8]) -> Read<'a>
     ensures { Gives (λ x. (view x.0, x.1.now)) result (reading.leaf_at (reading.tree_at fuel) fuel leaves.VarRef bytes.now) }
 {
@@ -67,7 +67,7 @@ fn var_ref_of<'a>(alloc: Global, fuel: usize, bytes: &'a [u8]) -> Read<'a>
     ended_tree(Tree::VarRef(NOWHERE, name, tpe), rest)
 }
 
-#[tactic(auto, unfolding(listing_spelling::specs::Reading::leaf_at))]
+#[tactic(auto, unfolding(sj_text_spec::specs::Reading::leaf_at))]
 fn this_of<'a>(alloc: Global, fuel: usize, bytes: &'a [u8]) -> Read<'a>
     ensures { Gives (λ x. (view x.0, x.1.now)) result (reading.leaf_at (reading.tree_at fuel) fuel leaves.This bytes.now) }
 {
@@ -76,7 +76,7 @@ fn this_of<'a>(alloc: Global, fuel: usize, bytes: &'a [u8]) -> Read<'a>
 }
 
 /// A form without trees in it, behind its name.
-#[tactic(auto, unfolding(listing_spelling::specs::Reading::leaf_at))]
+#[tactic(auto, unfolding(sj_text_spec::specs::Reading::leaf_at))]
 pub fn leaf_of<'a>(alloc: Global, fuel: usize, form: LeafForm, bytes: &'a [u8]) -> Read<'a>
     ensures { Gives (λ x. (view x.0, x.1.now)) result (reading.leaf_at (reading.tree_at fuel) fuel form bytes.now) }
 {

@@ -9,5 +9,5 @@ mod trees;
 mod whole;
 
 pub use error::ListingError;
-pub use listing_print::print_listing;
+pub use sj_text_print::print_listing;
 pub use whole::parse_listing;

@@ -3,19 +3,19 @@ ghost use Rattle.std.specs.Prelude.{◌≡◌, [], ◌∷◌, ◌++◌, ◌==◌
 ghost use Rattle.exact_place.specs.Reading.{after_at, lead_at, list_at, literal_at, value_at};
 ghost use Rattle.sj_trees.specs.View.{view, view_case, terms_view, cases_view};
 ghost use Rattle.text_scan.specs.Gives.{Gives};
-ghost use Rattle.listing_spelling.specs.Reading as reading;
+ghost use Rattle.sj_text_spec.specs.Reading as reading;
 ghost use Rattle.sj_trees.specs.declared.forms.StatementForm.TheVariants as statements;
 ghost use Rattle.sj_trees.specs.declared.forms.BranchForm.TheVariants as branches;
 ghost use Rattle.sj_trees.specs.declared.forms.CallForm.TheVariants as calls;
 ghost use Rattle.sj_trees.specs.declared.forms.OperationForm.TheVariants as operations;
 
 use crate::forms::{NOWHERE, Read, ended_tree, leaf_of};
-use listing_read::{
+use sj_names::Items;
+use sj_text_parts::{
     Part, array_field, binary_field, bracketed_of, class_field, field_field, form_of, label_field,
     mark_field, method_field, name_field, namespace_field, type_field, unary_field,
 };
-use listing_scan::int_of;
-use sj_names::Items;
+use sj_text_scan::int_of;
 use sj_trees::{BranchForm, CallForm, Form, MatchCase, OperationForm, StatementForm, Tree};
 use std::alloc::Global;
 use text_scan::{Stop, literal, next_is};
@@ -75,7 +75,7 @@ pub fn tree_of<'a>(alloc: Global, fuel: usize, bytes: &'a [u8]) -> Read<'a>
 
 /// A tree whose own trees are read with this much fuel.
 #[cycle(trees)]
-#[tactic(auto, unfolding(listing_spelling::specs::Reading::tree_level))]
+#[tactic(auto, unfolding(sj_text_spec::specs::Reading::tree_level))]
 fn level_of<'a>(alloc: Global, fuel: usize, bytes: &'a [u8]) -> Read<'a>
     ensures { Gives (λ x. (view x.0, x.1.now)) result (reading.tree_level (reading.tree_at fuel) fuel bytes.now) }
 {
@@ -86,7 +86,7 @@ fn level_of<'a>(alloc: Global, fuel: usize, bytes: &'a [u8]) -> Read<'a>
 
 /// The fields of a form, behind its name.
 #[cycle(trees)]
-#[tactic(auto, unfolding(listing_spelling::specs::Reading::fields_at))]
+#[tactic(auto, unfolding(sj_text_spec::specs::Reading::fields_at))]
 fn fields_of<'a>(alloc: Global, fuel: usize, form: Form, bytes: &'a [u8]) -> Read<'a>
     ensures { Gives (λ x. (view x.0, x.1.now)) result (reading.fields_at (reading.tree_at fuel) fuel form bytes.now) }
 {
@@ -160,7 +160,7 @@ fn some_trees_of<'a>(
 
 /// Trees in brackets.
 #[cycle(trees)]
-#[tactic(auto, unfolding(listing_spelling::specs::Reading::bracketed_at))]
+#[tactic(auto, unfolding(sj_text_spec::specs::Reading::bracketed_at))]
 fn trees_of<'a>(alloc: Global, fuel: usize, bytes: &'a [u8]) -> Result<(Vec<Tree>, &'a [u8]), Stop>
     ensures { Gives (λ x. (map view x.0.items, x.1.now)) result (reading.bracketed_at fuel (reading.tree_at fuel) bytes.now) }
 {
@@ -175,7 +175,7 @@ fn trees_of<'a>(alloc: Global, fuel: usize, bytes: &'a [u8]) -> Result<(Vec<Tree
 
 /// Trees in brackets behind a space.
 #[cycle(trees)]
-#[tactic(auto, unfolding(listing_spelling::specs::Reading::trees_at))]
+#[tactic(auto, unfolding(sj_text_spec::specs::Reading::trees_at))]
 fn trees_field<'a>(
     alloc: Global,
     fuel: usize,
@@ -192,7 +192,7 @@ struct KeyPart;
 
 impl Part for KeyPart {
     ghost use Rattle.std.specs.Prelude.{ℤ, ◌^◌};
-    ghost use Rattle.listing_spelling.specs.Reading.{integer_at};
+    ghost use Rattle.sj_text_spec.specs.Reading.{integer_at};
 
     type Value = i32;
 
@@ -209,7 +209,7 @@ impl Part for KeyPart {
 
 /// A case: its keys and its tree.
 #[cycle(trees)]
-#[tactic(auto, unfolding(listing_spelling::specs::Reading::case_at))]
+#[tactic(auto, unfolding(sj_text_spec::specs::Reading::case_at))]
 fn case_of<'a>(alloc: Global, fuel: usize, bytes: &'a [u8]) -> Result<(MatchCase, &'a [u8]), Stop>
     ensures { Gives (λ x. (view_case x.0, x.1.now)) result (reading.case_at (reading.tree_at fuel) fuel bytes.now) }
 {
@@ -277,7 +277,7 @@ fn some_cases_of<'a>(
 
 /// Cases in brackets.
 #[cycle(trees)]
-#[tactic(auto, unfolding(listing_spelling::specs::Reading::bracketed_at))]
+#[tactic(auto, unfolding(sj_text_spec::specs::Reading::bracketed_at))]
 fn cases_of<'a>(
     alloc: Global,
     fuel: usize,
@@ -296,7 +296,7 @@ fn cases_of<'a>(
 
 /// Cases in brackets behind a space.
 #[cycle(trees)]
-#[tactic(auto, unfolding(listing_spelling::specs::Reading::cases_at))]
+#[tactic(auto, unfolding(sj_text_spec::specs::Reading::cases_at))]
 fn cases_field<'a>(
     alloc: Global,
     fuel: usize,
@@ -308,7 +308,7 @@ fn cases_field<'a>(
 }
 
 #[cycle(trees)]
-#[tactic(auto, unfolding(listing_spelling::specs::Reading::statement_at))]
+#[tactic(auto, unfolding(sj_text_spec::specs::Reading::statement_at))]
 fn var_def_of<'a>(alloc: Global, fuel: usize, bytes: &'a [u8]) -> Read<'a>
     ensures { Gives (λ x. (view x.0, x.1.now)) result (reading.statement_at (reading.tree_at fuel) fuel statements.VarDef bytes.now) }
 {
@@ -320,7 +320,7 @@ fn var_def_of<'a>(alloc: Global, fuel: usize, bytes: &'a [u8]) -> Read<'a>
 }
 
 #[cycle(trees)]
-#[tactic(auto, unfolding(listing_spelling::specs::Reading::statement_at))]
+#[tactic(auto, unfolding(sj_text_spec::specs::Reading::statement_at))]
 fn block_of<'a>(alloc: Global, fuel: usize, bytes: &'a [u8]) -> Read<'a>
     ensures { Gives (λ x. (view x.0, x.1.now)) result (reading.statement_at (reading.tree_at fuel) fuel statements.Block bytes.now) }
 {
@@ -329,7 +329,7 @@ fn block_of<'a>(alloc: Global, fuel: usize, bytes: &'a [u8]) -> Read<'a>
 }
 
 #[cycle(trees)]
-#[tactic(auto, unfolding(listing_spelling::specs::Reading::statement_at))]
+#[tactic(auto, unfolding(sj_text_spec::specs::Reading::statement_at))]
 fn labeled_of<'a>(alloc: Global, fuel: usize, bytes: &'a [u8]) -> Read<'a>
     ensures { Gives (λ x. (view x.0, x.1.now)) result (reading.statement_at (reading.tree_at fuel) fuel statements.Labeled bytes.now) }
 {
@@ -340,7 +340,7 @@ fn labeled_of<'a>(alloc: Global, fuel: usize, bytes: &'a [u8]) -> Read<'a>
 }
 
 #[cycle(trees)]
-#[tactic(auto, unfolding(listing_spelling::specs::Reading::statement_at))]
+#[tactic(auto, unfolding(sj_text_spec::specs::Reading::statement_at))]
 fn assign_of<'a>(alloc: Global, fuel: usize, bytes: &'a [u8]) -> Read<'a>
     ensures { Gives (λ x. (view x.0, x.1.now)) result (reading.statement_at (reading.tree_at fuel) fuel statements.Assign bytes.now) }
 {
@@ -350,7 +350,7 @@ fn assign_of<'a>(alloc: Global, fuel: usize, bytes: &'a [u8]) -> Read<'a>
 }
 
 #[cycle(trees)]
-#[tactic(auto, unfolding(listing_spelling::specs::Reading::statement_at))]
+#[tactic(auto, unfolding(sj_text_spec::specs::Reading::statement_at))]
 fn return_of<'a>(alloc: Global, fuel: usize, bytes: &'a [u8]) -> Read<'a>
     ensures { Gives (λ x. (view x.0, x.1.now)) result (reading.statement_at (reading.tree_at fuel) fuel statements.Return bytes.now) }
 {
@@ -360,7 +360,7 @@ fn return_of<'a>(alloc: Global, fuel: usize, bytes: &'a [u8]) -> Read<'a>
 }
 
 #[cycle(trees)]
-#[tactic(auto, unfolding(listing_spelling::specs::Reading::statement_at))]
+#[tactic(auto, unfolding(sj_text_spec::specs::Reading::statement_at))]
 fn throw_of<'a>(alloc: Global, fuel: usize, bytes: &'a [u8]) -> Read<'a>
     ensures { Gives (λ x. (view x.0, x.1.now)) result (reading.statement_at (reading.tree_at fuel) fuel statements.Throw bytes.now) }
 {
@@ -369,7 +369,7 @@ fn throw_of<'a>(alloc: Global, fuel: usize, bytes: &'a [u8]) -> Read<'a>
 }
 
 #[cycle(trees)]
-#[tactic(auto, unfolding(listing_spelling::specs::Reading::statement_at))]
+#[tactic(auto, unfolding(sj_text_spec::specs::Reading::statement_at))]
 fn store_module_of<'a>(alloc: Global, fuel: usize, bytes: &'a [u8]) -> Read<'a>
     ensures { Gives (λ x. (view x.0, x.1.now)) result (reading.statement_at (reading.tree_at fuel) fuel statements.StoreModule bytes.now) }
 {
@@ -379,7 +379,7 @@ fn store_module_of<'a>(alloc: Global, fuel: usize, bytes: &'a [u8]) -> Read<'a>
 }
 
 #[cycle(trees)]
-#[tactic(auto, unfolding(listing_spelling::specs::Reading::statement_at))]
+#[tactic(auto, unfolding(sj_text_spec::specs::Reading::statement_at))]
 fn log_of<'a>(alloc: Global, fuel: usize, bytes: &'a [u8]) -> Read<'a>
     ensures { Gives (λ x. (view x.0, x.1.now)) result (reading.statement_at (reading.tree_at fuel) fuel statements.Log bytes.now) }
 {
@@ -389,7 +389,7 @@ fn log_of<'a>(alloc: Global, fuel: usize, bytes: &'a [u8]) -> Read<'a>
 
 /// A form that sets, leaves, throws or writes, or holds statements in a row.
 #[cycle(trees)]
-#[tactic(auto, unfolding(listing_spelling::specs::Reading::statement_at))]
+#[tactic(auto, unfolding(sj_text_spec::specs::Reading::statement_at))]
 fn statement_of<'a>(alloc: Global, fuel: usize, form: StatementForm, bytes: &'a [u8]) -> Read<'a>
     ensures { Gives (λ x. (view x.0, x.1.now)) result (reading.statement_at (reading.tree_at fuel) fuel form bytes.now) }
 {
@@ -406,7 +406,7 @@ fn statement_of<'a>(alloc: Global, fuel: usize, form: StatementForm, bytes: &'a 
 }
 
 #[cycle(trees)]
-#[tactic(auto, unfolding(listing_spelling::specs::Reading::branch_at))]
+#[tactic(auto, unfolding(sj_text_spec::specs::Reading::branch_at))]
 fn if_of<'a>(alloc: Global, fuel: usize, bytes: &'a [u8]) -> Read<'a>
     ensures { Gives (λ x. (view x.0, x.1.now)) result (reading.branch_at (reading.tree_at fuel) fuel branches.If bytes.now) }
 {
@@ -421,7 +421,7 @@ fn if_of<'a>(alloc: Global, fuel: usize, bytes: &'a [u8]) -> Read<'a>
 }
 
 #[cycle(trees)]
-#[tactic(auto, unfolding(listing_spelling::specs::Reading::branch_at))]
+#[tactic(auto, unfolding(sj_text_spec::specs::Reading::branch_at))]
 fn while_of<'a>(alloc: Global, fuel: usize, bytes: &'a [u8]) -> Read<'a>
     ensures { Gives (λ x. (view x.0, x.1.now)) result (reading.branch_at (reading.tree_at fuel) fuel branches.While bytes.now) }
 {
@@ -431,7 +431,7 @@ fn while_of<'a>(alloc: Global, fuel: usize, bytes: &'a [u8]) -> Read<'a>
 }
 
 #[cycle(trees)]
-#[tactic(auto, unfolding(listing_spelling::specs::Reading::branch_at))]
+#[tactic(auto, unfolding(sj_text_spec::specs::Reading::branch_at))]
 fn do_while_of<'a>(alloc: Global, fuel: usize, bytes: &'a [u8]) -> Read<'a>
     ensures { Gives (λ x. (view x.0, x.1.now)) result (reading.branch_at (reading.tree_at fuel) fuel branches.DoWhile bytes.now) }
 {
@@ -441,7 +441,7 @@ fn do_while_of<'a>(alloc: Global, fuel: usize, bytes: &'a [u8]) -> Read<'a>
 }
 
 #[cycle(trees)]
-#[tactic(auto, unfolding(listing_spelling::specs::Reading::branch_at))]
+#[tactic(auto, unfolding(sj_text_spec::specs::Reading::branch_at))]
 fn try_catch_of<'a>(alloc: Global, fuel: usize, bytes: &'a [u8]) -> Read<'a>
     ensures { Gives (λ x. (view x.0, x.1.now)) result (reading.branch_at (reading.tree_at fuel) fuel branches.TryCatch bytes.now) }
 {
@@ -453,7 +453,7 @@ fn try_catch_of<'a>(alloc: Global, fuel: usize, bytes: &'a [u8]) -> Read<'a>
 }
 
 #[cycle(trees)]
-#[tactic(auto, unfolding(listing_spelling::specs::Reading::branch_at))]
+#[tactic(auto, unfolding(sj_text_spec::specs::Reading::branch_at))]
 fn try_finally_of<'a>(alloc: Global, fuel: usize, bytes: &'a [u8]) -> Read<'a>
     ensures { Gives (λ x. (view x.0, x.1.now)) result (reading.branch_at (reading.tree_at fuel) fuel branches.TryFinally bytes.now) }
 {
@@ -463,7 +463,7 @@ fn try_finally_of<'a>(alloc: Global, fuel: usize, bytes: &'a [u8]) -> Read<'a>
 }
 
 #[cycle(trees)]
-#[tactic(auto, unfolding(listing_spelling::specs::Reading::branch_at))]
+#[tactic(auto, unfolding(sj_text_spec::specs::Reading::branch_at))]
 fn match_of<'a>(alloc: Global, fuel: usize, bytes: &'a [u8]) -> Read<'a>
     ensures { Gives (λ x. (view x.0, x.1.now)) result (reading.branch_at (reading.tree_at fuel) fuel branches.Match bytes.now) }
 {
@@ -476,7 +476,7 @@ fn match_of<'a>(alloc: Global, fuel: usize, bytes: &'a [u8]) -> Read<'a>
 
 /// A form that chooses, repeats or catches.
 #[cycle(trees)]
-#[tactic(auto, unfolding(listing_spelling::specs::Reading::branch_at))]
+#[tactic(auto, unfolding(sj_text_spec::specs::Reading::branch_at))]
 fn branch_of<'a>(alloc: Global, fuel: usize, form: BranchForm, bytes: &'a [u8]) -> Read<'a>
     ensures { Gives (λ x. (view x.0, x.1.now)) result (reading.branch_at (reading.tree_at fuel) fuel form bytes.now) }
 {
@@ -491,7 +491,7 @@ fn branch_of<'a>(alloc: Global, fuel: usize, form: BranchForm, bytes: &'a [u8]) 
 }
 
 #[cycle(trees)]
-#[tactic(auto, unfolding(listing_spelling::specs::Reading::call_at))]
+#[tactic(auto, unfolding(sj_text_spec::specs::Reading::call_at))]
 fn new_of<'a>(alloc: Global, fuel: usize, bytes: &'a [u8]) -> Read<'a>
     ensures { Gives (λ x. (view x.0, x.1.now)) result (reading.call_at (reading.tree_at fuel) fuel calls.New bytes.now) }
 {
@@ -502,7 +502,7 @@ fn new_of<'a>(alloc: Global, fuel: usize, bytes: &'a [u8]) -> Read<'a>
 }
 
 #[cycle(trees)]
-#[tactic(auto, unfolding(listing_spelling::specs::Reading::call_at))]
+#[tactic(auto, unfolding(sj_text_spec::specs::Reading::call_at))]
 fn select_of<'a>(alloc: Global, fuel: usize, bytes: &'a [u8]) -> Read<'a>
     ensures { Gives (λ x. (view x.0, x.1.now)) result (reading.call_at (reading.tree_at fuel) fuel calls.Select bytes.now) }
 {
@@ -514,7 +514,7 @@ fn select_of<'a>(alloc: Global, fuel: usize, bytes: &'a [u8]) -> Read<'a>
 }
 
 #[cycle(trees)]
-#[tactic(auto, unfolding(listing_spelling::specs::Reading::call_at))]
+#[tactic(auto, unfolding(sj_text_spec::specs::Reading::call_at))]
 fn apply_of<'a>(alloc: Global, fuel: usize, bytes: &'a [u8]) -> Read<'a>
     ensures { Gives (λ x. (view x.0, x.1.now)) result (reading.call_at (reading.tree_at fuel) fuel calls.Apply bytes.now) }
 {
@@ -526,7 +526,7 @@ fn apply_of<'a>(alloc: Global, fuel: usize, bytes: &'a [u8]) -> Read<'a>
 }
 
 #[cycle(trees)]
-#[tactic(auto, unfolding(listing_spelling::specs::Reading::call_at))]
+#[tactic(auto, unfolding(sj_text_spec::specs::Reading::call_at))]
 fn apply_statically_of<'a>(alloc: Global, fuel: usize, bytes: &'a [u8]) -> Read<'a>
     ensures { Gives (λ x. (view x.0, x.1.now)) result (reading.call_at (reading.tree_at fuel) fuel calls.ApplyStatically bytes.now) }
 {
@@ -543,7 +543,7 @@ fn apply_statically_of<'a>(alloc: Global, fuel: usize, bytes: &'a [u8]) -> Read<
 }
 
 #[cycle(trees)]
-#[tactic(auto, unfolding(listing_spelling::specs::Reading::call_at))]
+#[tactic(auto, unfolding(sj_text_spec::specs::Reading::call_at))]
 fn apply_static_of<'a>(alloc: Global, fuel: usize, bytes: &'a [u8]) -> Read<'a>
     ensures { Gives (λ x. (view x.0, x.1.now)) result (reading.call_at (reading.tree_at fuel) fuel calls.ApplyStatic bytes.now) }
 {
@@ -560,7 +560,7 @@ fn apply_static_of<'a>(alloc: Global, fuel: usize, bytes: &'a [u8]) -> Read<'a>
 
 /// A form that calls a method or reads a field of an object.
 #[cycle(trees)]
-#[tactic(auto, unfolding(listing_spelling::specs::Reading::call_at))]
+#[tactic(auto, unfolding(sj_text_spec::specs::Reading::call_at))]
 fn call_of<'a>(alloc: Global, fuel: usize, form: CallForm, bytes: &'a [u8]) -> Read<'a>
     ensures { Gives (λ x. (view x.0, x.1.now)) result (reading.call_at (reading.tree_at fuel) fuel form bytes.now) }
 {
@@ -574,7 +574,7 @@ fn call_of<'a>(alloc: Global, fuel: usize, form: CallForm, bytes: &'a [u8]) -> R
 }
 
 #[cycle(trees)]
-#[tactic(auto, unfolding(listing_spelling::specs::Reading::operation_at))]
+#[tactic(auto, unfolding(sj_text_spec::specs::Reading::operation_at))]
 fn unary_op_of<'a>(alloc: Global, fuel: usize, bytes: &'a [u8]) -> Read<'a>
     ensures { Gives (λ x. (view x.0, x.1.now)) result (reading.operation_at (reading.tree_at fuel) fuel operations.UnaryOp bytes.now) }
 {
@@ -584,7 +584,7 @@ fn unary_op_of<'a>(alloc: Global, fuel: usize, bytes: &'a [u8]) -> Read<'a>
 }
 
 #[cycle(trees)]
-#[tactic(auto, unfolding(listing_spelling::specs::Reading::operation_at))]
+#[tactic(auto, unfolding(sj_text_spec::specs::Reading::operation_at))]
 fn binary_op_of<'a>(alloc: Global, fuel: usize, bytes: &'a [u8]) -> Read<'a>
     ensures { Gives (λ x. (view x.0, x.1.now)) result (reading.operation_at (reading.tree_at fuel) fuel operations.BinaryOp bytes.now) }
 {
@@ -595,7 +595,7 @@ fn binary_op_of<'a>(alloc: Global, fuel: usize, bytes: &'a [u8]) -> Read<'a>
 }
 
 #[cycle(trees)]
-#[tactic(auto, unfolding(listing_spelling::specs::Reading::operation_at))]
+#[tactic(auto, unfolding(sj_text_spec::specs::Reading::operation_at))]
 fn new_array_of<'a>(alloc: Global, fuel: usize, bytes: &'a [u8]) -> Read<'a>
     ensures { Gives (λ x. (view x.0, x.1.now)) result (reading.operation_at (reading.tree_at fuel) fuel operations.NewArray bytes.now) }
 {
@@ -605,7 +605,7 @@ fn new_array_of<'a>(alloc: Global, fuel: usize, bytes: &'a [u8]) -> Read<'a>
 }
 
 #[cycle(trees)]
-#[tactic(auto, unfolding(listing_spelling::specs::Reading::operation_at))]
+#[tactic(auto, unfolding(sj_text_spec::specs::Reading::operation_at))]
 fn array_value_of<'a>(alloc: Global, fuel: usize, bytes: &'a [u8]) -> Read<'a>
     ensures { Gives (λ x. (view x.0, x.1.now)) result (reading.operation_at (reading.tree_at fuel) fuel operations.ArrayValue bytes.now) }
 {
@@ -615,7 +615,7 @@ fn array_value_of<'a>(alloc: Global, fuel: usize, bytes: &'a [u8]) -> Read<'a>
 }
 
 #[cycle(trees)]
-#[tactic(auto, unfolding(listing_spelling::specs::Reading::operation_at))]
+#[tactic(auto, unfolding(sj_text_spec::specs::Reading::operation_at))]
 fn array_length_of<'a>(alloc: Global, fuel: usize, bytes: &'a [u8]) -> Read<'a>
     ensures { Gives (λ x. (view x.0, x.1.now)) result (reading.operation_at (reading.tree_at fuel) fuel operations.ArrayLength bytes.now) }
 {
@@ -624,7 +624,7 @@ fn array_length_of<'a>(alloc: Global, fuel: usize, bytes: &'a [u8]) -> Read<'a>
 }
 
 #[cycle(trees)]
-#[tactic(auto, unfolding(listing_spelling::specs::Reading::operation_at))]
+#[tactic(auto, unfolding(sj_text_spec::specs::Reading::operation_at))]
 fn array_select_of<'a>(alloc: Global, fuel: usize, bytes: &'a [u8]) -> Read<'a>
     ensures { Gives (λ x. (view x.0, x.1.now)) result (reading.operation_at (reading.tree_at fuel) fuel operations.ArraySelect bytes.now) }
 {
@@ -635,7 +635,7 @@ fn array_select_of<'a>(alloc: Global, fuel: usize, bytes: &'a [u8]) -> Read<'a>
 }
 
 #[cycle(trees)]
-#[tactic(auto, unfolding(listing_spelling::specs::Reading::operation_at))]
+#[tactic(auto, unfolding(sj_text_spec::specs::Reading::operation_at))]
 fn is_instance_of_of<'a>(alloc: Global, fuel: usize, bytes: &'a [u8]) -> Read<'a>
     ensures { Gives (λ x. (view x.0, x.1.now)) result (reading.operation_at (reading.tree_at fuel) fuel operations.IsInstanceOf bytes.now) }
 {
@@ -645,7 +645,7 @@ fn is_instance_of_of<'a>(alloc: Global, fuel: usize, bytes: &'a [u8]) -> Read<'a
 }
 
 #[cycle(trees)]
-#[tactic(auto, unfolding(listing_spelling::specs::Reading::operation_at))]
+#[tactic(auto, unfolding(sj_text_spec::specs::Reading::operation_at))]
 fn as_instance_of_of<'a>(alloc: Global, fuel: usize, bytes: &'a [u8]) -> Read<'a>
     ensures { Gives (λ x. (view x.0, x.1.now)) result (reading.operation_at (reading.tree_at fuel) fuel operations.AsInstanceOf bytes.now) }
 {
@@ -656,7 +656,7 @@ fn as_instance_of_of<'a>(alloc: Global, fuel: usize, bytes: &'a [u8]) -> Read<'a
 
 /// An operator, an array's form or a test.
 #[cycle(trees)]
-#[tactic(auto, unfolding(listing_spelling::specs::Reading::operation_at))]
+#[tactic(auto, unfolding(sj_text_spec::specs::Reading::operation_at))]
 fn operation_of<'a>(alloc: Global, fuel: usize, form: OperationForm, bytes: &'a [u8]) -> Read<'a>
     ensures { Gives (λ x. (view x.0, x.1.now)) result (reading.operation_at (reading.tree_at fuel) fuel form bytes.now) }
 {

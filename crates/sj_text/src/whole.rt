@@ -2,8 +2,8 @@
 ghost use Rattle.std.specs.Prelude.{◌≡◌, ◌⊎◌, ◌+◌, ℕ, length, Err, [], IfOk};
 ghost use Rattle.exact_place.specs.Place.{Place};
 ghost use Rattle.sj_trees.specs.declared.classes.ClassDef.{ClassDef};
-ghost use Rattle.listing_spelling.specs.Spelling.{Lists};
-ghost use Rattle.listing_spelling.specs.Reading as reading;
+ghost use Rattle.sj_text_spec.specs.Spelling.{Lists};
+ghost use Rattle.sj_text_spec.specs.Reading as reading;
 ghost use Rattle.text_scan.specs.Gives.{Gives, Fails};
 
 use crate::classes::class_of;
@@ -13,7 +13,7 @@ use std::alloc::Global;
 use text_scan::Stop;
 
 /// The class that the bytes list, all of them.
-#[tactic(auto, unfolding(listing_spelling::specs::Reading::listing_at))]
+#[tactic(auto, unfolding(sj_text_spec::specs::Reading::listing_at))]
 fn whole_class(alloc: Global, fuel: usize, bytes: &[u8]) -> Result<ClassDef, Stop>
     ensures { Gives (λ c. (c, [])) result (reading.listing_at fuel bytes.now) }
 {

@@ -3,16 +3,16 @@ ghost use Rattle.std.specs.Prelude.{◌≡◌, Some, Ok, IfOk, OnOk};
 ghost use Rattle.sj_trees.specs.View.{view, terms_view, cases_view};
 ghost use Rattle.sj_ask.specs.Answers.{IsAnswer};
 ghost use Rattle.sj_ask.specs.Sizes.{next, counted, counted_all, counted_cases};
-ghost use Rattle.typing_rules.specs.Numbers.{counted_parts};
+ghost use Rattle.sj_typing_spec.specs.Numbers.{counted_parts};
 ghost use Rattle.sj_ask.specs.Tasks as tasks;
 ghost use Rattle.sj_ask.specs.Tasks.{asks_sub, asks_field};
 ghost use Rattle.sj_ask.specs.Runs.{Ran};
-ghost use Rattle.typing_rules.specs.Nodes.{inside};
-ghost use Rattle.typing_rules.specs.Checks as checks;
-ghost use Rattle.typing_rules.specs.Answered as answered;
-ghost use Rattle.typing_rules.specs.Answered.{AsRun, seen, agreed, ended};
-ghost use Rattle.typing_rules.specs.Rows as rows;
-ghost use Rattle.typing_rules.specs.Typed as typed;
+ghost use Rattle.sj_typing_spec.specs.Nodes.{inside};
+ghost use Rattle.sj_typing_spec.specs.Checks as checks;
+ghost use Rattle.sj_typing_spec.specs.Answered as answered;
+ghost use Rattle.sj_typing_spec.specs.Answered.{AsRun, seen, agreed, ended};
+ghost use Rattle.sj_typing_spec.specs.Rows as rows;
+ghost use Rattle.sj_typing_spec.specs.Typed as typed;
 ghost use Rattle.sj_ask.specs.declared.errors.TypeError.{TypeError};
 
 use crate::rows::row_of;
@@ -20,8 +20,8 @@ use crate::types::is_type;
 use sj_ask::{Answer, Oracle, Question, TypeError};
 use sj_names::{LabelName, Namespace, NoMemory};
 use sj_trees::{FieldDef, IrType, MatchCase, Tree};
+use sj_typing_spec::{Checked, FieldUse, Fit, Label, Row};
 use std::alloc::Global;
-use typing_rules::{Checked, FieldUse, Fit, Label, Row};
 
 #[tactic(auto, unfolding(sj_ask::specs::Sizes::next))]
 fn next(place: u32) -> u32

@@ -1,12 +1,12 @@
 // The subtypes that a tree asks for.
 ghost use Rattle.std.specs.Prelude.{◌≡◌, ◌++◌, ◌∷◌, [], IfOk, OnOk};
 ghost use Rattle.sj_trees.specs.View.{view, terms_view, cases_view};
-ghost use Rattle.typing_rules.specs.Rows as rows;
+ghost use Rattle.sj_typing_spec.specs.Rows as rows;
 
 use sj_names::{NoMemory, TypeRef};
 use sj_trees::{IrType, MatchCase, Tree, type_of};
+use sj_typing_spec::Fit;
 use std::alloc::Global;
-use typing_rules::Fit;
 
 fn fit_of(alloc: Global, tree: &Tree, above: IrType) -> Result<Fit, NoMemory>
     ensures { IfOk result (λ f. f ≡ rows.fit (view tree.now) above) }

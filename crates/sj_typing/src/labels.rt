@@ -1,10 +1,10 @@
 // The labels around a tree.
 ghost use Rattle.std.specs.Prelude.{◌≡◌, option_map};
-ghost use Rattle.typing_rules.specs.Labels as around;
+ghost use Rattle.sj_typing_spec.specs.Labels as around;
 
 use sj_names::LabelName;
 use sj_trees::IrType;
-use typing_rules::Label;
+use sj_typing_spec::Label;
 
 /// The type of the innermost label of this name; the outermost stands first.
 pub fn type_of_label<'l>(labels: &'l [Label], name: &LabelName) -> Option<&'l IrType>

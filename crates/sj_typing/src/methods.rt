@@ -3,8 +3,8 @@ ghost use Rattle.std.specs.Prelude.{◌≡◌, IsSome};
 ghost use Rattle.sj_names.specs.Counting.{raised};
 ghost use Rattle.sj_trees.specs.View.{view};
 ghost use Rattle.sj_ask.specs.Answers.{IsAnswer};
-ghost use Rattle.typing_rules.specs.Checks as checks;
-ghost use Rattle.typing_rules.specs.Answered.{AsRun, agreed, IsVerdict};
+ghost use Rattle.sj_typing_spec.specs.Checks as checks;
+ghost use Rattle.sj_typing_spec.specs.Answered.{AsRun, agreed, IsVerdict};
 
 use crate::checks::{ask_sub, check};
 use sj_ask::{Oracle, TypeError};

@@ -5,10 +5,10 @@ ghost use Rattle.sj_trees.specs.View.{view, terms_view, cases_view};
 ghost use Rattle.sj_trees.specs.TypeOf.{type_of_term};
 ghost use Rattle.sj_trees.specs.Types.{class_type, element_type};
 ghost use Rattle.sj_trees.specs.declared.types.IrType.TheVariants as types;
-ghost use Rattle.typing_rules.specs.Labels as around;
+ghost use Rattle.sj_typing_spec.specs.Labels as around;
 ghost use Rattle.sj_trees.specs.SameTypes.{is_same_type};
-ghost use Rattle.typing_rules.specs.Rows as rows;
-ghost use Rattle.typing_rules.specs.Rules as rules;
+ghost use Rattle.sj_typing_spec.specs.Rows as rows;
+ghost use Rattle.sj_typing_spec.specs.Rules as rules;
 
 use crate::fits::{add_all, add_arguments, add_cases, add_fit, add_yield, are_as_many};
 use crate::labels::type_of_label;
@@ -18,8 +18,8 @@ use crate::types::{
 };
 use sj_names::{ArrayRef, ClassName, FieldName, Items, LabelName, MethodName, Namespace, NoMemory};
 use sj_trees::{BinaryOp, IrType, MatchCase, Tree, type_of};
+use sj_typing_spec::{FieldUse, Fit, Label, Row};
 use std::alloc::Global;
-use typing_rules::{FieldUse, Fit, Label, Row};
 
 fn no_row(alloc: Global) -> Row
     ensures { result ≡ rows.no_row }

@@ -3,8 +3,8 @@ ghost use Rattle.std.specs.Prelude.{◌≡◌, IfOk, codes};
 ghost use Rattle.sj_world.specs.Known.{is_same};
 ghost use Rattle.sj_trees.specs.View.{view};
 ghost use Rattle.sj_trees.specs.SameTypes.{is_same_type};
-ghost use Rattle.typing_rules.specs.Rows as rows;
-ghost use Rattle.typing_rules.specs.Rules as rules;
+ghost use Rattle.sj_typing_spec.specs.Rows as rows;
+ghost use Rattle.sj_typing_spec.specs.Rules as rules;
 
 use sj_names::{ClassName, MethodName, Namespace, NoMemory, SimpleName};
 use sj_trees::{BinaryOp, IrType, Tree, UnaryOp};

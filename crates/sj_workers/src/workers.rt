@@ -2,12 +2,12 @@
 ghost use Rattle.std.specs.Prelude.{◌≡◌, IsSome};
 ghost use Rattle.sj_names.specs.Counting.{raised};
 ghost use Rattle.sj_names.specs.declared.counters.Meter.{Meter};
-ghost use Rattle.sj_format.specs.Answers.{Reads};
+ghost use Rattle.sj_read_spec.specs.Answers.{Reads};
 ghost use Rattle.sj_ask.specs.Answers.{IsAnswer};
-ghost use Rattle.typing_rules.specs.Answered.{AsRun, agreed, IsVerdict};
-ghost use Rattle.typing_rules.specs.Checks.{check_task};
+ghost use Rattle.sj_typing_spec.specs.Answered.{AsRun, agreed, IsVerdict};
+ghost use Rattle.sj_typing_spec.specs.Checks.{check_task};
 ghost use Rattle.sj_core.specs.Views.{method_view};
-ghost use Rattle.emit_questions.specs.Laws.{AsEmitted};
+ghost use Rattle.sj_emit_expr_questions.specs.Laws.{AsEmitted};
 
 use js_tree::JsMember;
 use sj_ask::{Oracle, TypeError, WorldOracle};
@@ -42,7 +42,7 @@ pub trait Workers {
         ensures told { AsRun (IsAnswer (⟦<Recorder<WorldOracle<'static>> as Oracle>⟧.stand oracle.old)) (check_task m.now m.now.body) (agreed result) (⟦<Recorder<WorldOracle<'static>> as Oracle>⟧.told oracle.old) (⟦<Recorder<WorldOracle<'static>> as Oracle>⟧.told oracle.new) }
         ensures counted { meter self.new ≡ record (meter self.old) { checked = raised (meter self.old).checked } };
 
-    /// Emits the function of a method, as `sj_emitter::emit_member` does.
+    /// Emits the function of a method, as `sj_emit_expr::emit_member` does.
     fn emit_member(
         &mut self,
         alloc: Global,

@@ -1,4 +1,4 @@
-//! The workers of a program: they read by `sj_read`, check by `sj_typing` and emit by `sj_emitter`, and count on one meter.
+//! The workers of a program: they read by `sj_read`, check by `sj_typing` and emit by `sj_emit_expr`, and count on one meter.
 #![tactic(auto)]
 
 use js_tree::JsMember;
@@ -38,6 +38,6 @@ impl Workers for Workshop {
         m: &CoreMethod,
         oracle: &mut Recorder<WorldOracle<'_>>,
     ) -> Result<JsMember, NoMemory> {
-        sj_emitter::emit_member(alloc, m, oracle, &mut self.meter)
+        sj_emit_expr::emit_member(alloc, m, oracle, &mut self.meter)
     }
 }

@@ -4,18 +4,18 @@ use Rattle.std.specs.List.{list_any, flat_map}
 use Rattle.byteorder.specs.Endian.{big_bytes}
 use Rattle.sj_names.specs.declared.method_names.MethodName.{MethodName}
 use Rattle.sj_trees.specs.declared.classes.ClassDef.{ClassDef}
-use Rattle.sj_format.specs.Tables.{Tables}
-use Rattle.sj_written.specs.Fields.{Fields, nothing, number_field, plain_field, name_field, method_field, string_field, file_field, both, list_fields, each}
+use Rattle.sj_read_spec.specs.Tables.{Tables}
+use Rattle.sj_write_spec.specs.Fields.{Fields, nothing, number_field, plain_field, name_field, method_field, string_field, file_field, both, list_fields, each}
 use Rattle.sj_names.specs.declared.references.BaseRef.{BaseRef}
 use Rattle.sj_names.specs.declared.references.TypeRef.{TypeRef}
 use Rattle.sj_units.specs.Modified.{modified_bytes}
-use Rattle.sj_written.specs.References.{base_fields, reference_fields, result_fields, names_in_method, method_name_fields}
-use Rattle.sj_written.specs.Classes.{class_fields}
-use Rattle.sj_written.specs.Tables.{same_text, same_method, with_entry, with_entries, index_of, files_used, names_used, methods_used, strings_used, tables_of}
-use Rattle.sj_written.specs.Written.{spelled, written_class, table_bytes, counted_bytes, header_bytes, tables_bytes}
-use Rattle.sj_written.proofs.Entries.{Has, Extends, extends_self, extends_then, entry_extends, entry_has, entries_extend, entries_have, entries_then, entries_there, entries_came, has_either, has_extended, index_extended, index_entry}
-use Rattle.sj_written.proofs.WrittenFile.{method_names, has_head, has_tail}
-use Rattle.sj_written.proofs.Same.{text_decides, method_decides}
+use Rattle.sj_write_spec.specs.References.{base_fields, reference_fields, result_fields, names_in_method, method_name_fields}
+use Rattle.sj_write_spec.specs.Classes.{class_fields}
+use Rattle.sj_write_spec.specs.Tables.{same_text, same_method, with_entry, with_entries, index_of, files_used, names_used, methods_used, strings_used, tables_of}
+use Rattle.sj_write_spec.specs.Written.{spelled, written_class, table_bytes, counted_bytes, header_bytes, tables_bytes}
+use Rattle.sj_write_spec.proofs.Entries.{Has, Extends, extends_self, extends_then, entry_extends, entry_has, entries_extend, entries_have, entries_then, entries_there, entries_came, has_either, has_extended, index_extended, index_entry}
+use Rattle.sj_write_spec.proofs.WrittenFile.{method_names, has_head, has_tail}
+use Rattle.sj_write_spec.proofs.Same.{text_decides, method_decides}
 use Rattle.sj_write.specs.Writing.{Writing, unwritten, knowing, with_index, with_methods, all_entered, put, finished}
 
 abbrev HasText : List (List ℕ) → List ℕ → Type 0

@@ -3,8 +3,8 @@ use Rattle.std.proofs.Common.{◌≡◌, List, [], ◌∷◌, ◌++◌, length, 
 use Rattle.sj_trees.specs.declared.trees.Tree.{Tree}
 use Rattle.sj_trees.specs.declared.trees.MatchCase.{MatchCase}
 use Rattle.sj_trees.specs.View.{terms_view, cases_view}
-use Rattle.sj_written.specs.Trees.{count_terms, count_cases}
-use Rattle.sj_written.specs.Tables.{same_text, with_entry, with_entries}
+use Rattle.sj_write_spec.specs.Trees.{count_terms, count_cases}
+use Rattle.sj_write_spec.specs.Tables.{same_text, with_entry, with_entries}
 use Rattle.sj_write.specs.Writing.{Writing, all_entered, with_names}
 
 entries_then : (table xs ys : List (List ℕ)) → with_entries same_text table (xs ++ ys) ≡ with_entries same_text (with_entries same_text table xs) ys

@@ -3,8 +3,8 @@ use Rattle.std.proofs.Common.{◌≡◌, ◌<◌, ℕ, ◌+◌, List, ◌∷◌,
 use Rattle.std.proofs.lemmas.List.{drop_more}
 use Rattle.sj_trees.specs.Forms.{form_of, form_code}
 use Rattle.sj_trees.specs.Term.{Term, var_def, skip, block_of, labeled, assign, return_to, if_then, while_loop, do_while, try_catch, try_finally, throw, match_on, new_object, load_module, store_module, select, select_static, apply, apply_statically, apply_static, unary_op, binary_op, new_array, array_value, array_length, array_select, is_instance_of, as_instance_of, undefined_literal, null_literal, boolean_literal, char_literal, byte_literal, short_literal, int_literal, long_literal, string_literal, var_ref, this_ref, log_line}
-use Rattle.sj_written.specs.Fields.{HasFiles, byte}
-use Rattle.sj_written.specs.Trees.{term_fields, each_term, each_case}
+use Rattle.sj_write_spec.specs.Fields.{HasFiles, byte}
+use Rattle.sj_write_spec.specs.Trees.{term_fields, each_term, each_case}
 use Rattle.sj_write.specs.TreeFields.{field_written, fields_written}
 use Rattle.sj_write.specs.Writing.{Writing, put}
 use Rattle.tree_fields.specs.Fields.{fields_of, field_seen}

@@ -2,10 +2,10 @@
 use Rattle.std.specs.Prelude.{ℕ, List}
 use Rattle.std.specs.Int.{w8, w16, w32, w64}
 use Rattle.sj_trees.specs.Operators.{unary_code, binary_code}
-use Rattle.sj_written.specs.Fields as file
-use Rattle.sj_written.specs.Fields.{Fields, nothing, number_field, byte, mark, signed, each, position_fields}
-use Rattle.sj_written.specs.References.{type_fields, array_fields}
-use Rattle.sj_written.specs.Trees.{namespace_code, term_fields, terms_fields, cases_fields}
+use Rattle.sj_write_spec.specs.Fields as file
+use Rattle.sj_write_spec.specs.Fields.{Fields, nothing, number_field, byte, mark, signed, each, position_fields}
+use Rattle.sj_write_spec.specs.References.{type_fields, array_fields}
+use Rattle.sj_write_spec.specs.Trees.{namespace_code, term_fields, terms_fields, cases_fields}
 use Rattle.tree_fields.specs.Fields.{FieldTerm, no_field, position_field, name_field, type_field, mark_field, method_field, namespace_field, unary_field, binary_field, array_field, unit_field, byte_field, short_field, int_field, long_field, text_field, tree_field, trees_field, cases_field}
 
 -- one field, with these source files

@@ -4,11 +4,11 @@ use Rattle.std.specs.List.{list_any}
 use Rattle.byteorder.specs.Endian.{big_bytes}
 use Rattle.sj_units.specs.Modified.{modified_bytes}
 use Rattle.sj_names.specs.declared.method_names.MethodName.{MethodName}
-use Rattle.sj_format.specs.Tables.{Tables}
-use Rattle.sj_written.specs.Fields.{Fields, nothing, number_field, plain_field, name_field, method_field, string_field, file_field, both, list_fields}
-use Rattle.sj_written.specs.References.{names_in_method, method_name_fields}
-use Rattle.sj_written.specs.Tables.{same_text, same_method, with_entry, with_entries, index_of}
-use Rattle.sj_written.specs.Written.{header_bytes, table_bytes, counted_bytes}
+use Rattle.sj_read_spec.specs.Tables.{Tables}
+use Rattle.sj_write_spec.specs.Fields.{Fields, nothing, number_field, plain_field, name_field, method_field, string_field, file_field, both, list_fields}
+use Rattle.sj_write_spec.specs.References.{names_in_method, method_name_fields}
+use Rattle.sj_write_spec.specs.Tables.{same_text, same_method, with_entry, with_entries, index_of}
+use Rattle.sj_write_spec.specs.Written.{header_bytes, table_bytes, counted_bytes}
 
 -- the tables so far, and the bytes behind them
 pub record Writing : Type 0 where

@@ -1,8 +1,8 @@
 // A class and its members.
 ghost use Rattle.std.specs.Prelude.{◌≡◌, OnOk, map};
-ghost use Rattle.sj_written.specs.Fields.{HasFiles, name_field, plain_field, each, list_fields, option_fields};
-ghost use Rattle.sj_written.specs.Trees.{term_fields};
-ghost use Rattle.sj_written.specs.Classes.{kind_code, param_fields, field_fields, method_fields, members_fields, class_fields};
+ghost use Rattle.sj_write_spec.specs.Fields.{HasFiles, name_field, plain_field, each, list_fields, option_fields};
+ghost use Rattle.sj_write_spec.specs.Trees.{term_fields};
+ghost use Rattle.sj_write_spec.specs.Classes.{kind_code, param_fields, field_fields, method_fields, members_fields, class_fields};
 ghost use Rattle.sj_write.specs.Writing.{put};
 
 use crate::trees::namespace_code;

@@ -3,10 +3,10 @@ ghost use Rattle.std.specs.Prelude.{◌≡◌, [], ◌++◌, OnOk, IfOk, map, le
 ghost use Rattle.std.specs.List.{flat_map};
 ghost use Rattle.byteorder.specs.Endian.{big_bytes};
 ghost use Rattle.sj_units.specs.Modified.{modified_bytes};
-ghost use Rattle.sj_written.specs.Fields.{HasFiles, list_fields};
-ghost use Rattle.sj_written.specs.References.{method_name_fields};
-ghost use Rattle.sj_written.specs.Classes.{class_fields, NamesItsFiles};
-ghost use Rattle.sj_written.specs.Written.{header_bytes, counted_bytes, table_bytes, written_class};
+ghost use Rattle.sj_write_spec.specs.Fields.{HasFiles, list_fields};
+ghost use Rattle.sj_write_spec.specs.References.{method_name_fields};
+ghost use Rattle.sj_write_spec.specs.Classes.{class_fields, NamesItsFiles};
+ghost use Rattle.sj_write_spec.specs.Written.{header_bytes, counted_bytes, table_bytes, written_class};
 ghost use Rattle.sj_write.specs.Writing.{put, unwritten, knowing, finished};
 
 use crate::entries::StringEntry;

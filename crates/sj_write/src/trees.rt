@@ -1,8 +1,8 @@
 // Trees.
 ghost use Rattle.std.specs.Prelude.{◌≡◌, OnOk, map};
 ghost use Rattle.sj_trees.specs.View.{view, terms_view, cases_view};
-ghost use Rattle.sj_written.specs.Fields.{HasFiles};
-ghost use Rattle.sj_written.specs.Trees.{namespace_code, keys_fields, term_fields, terms_fields, cases_fields};
+ghost use Rattle.sj_write_spec.specs.Fields.{HasFiles};
+ghost use Rattle.sj_write_spec.specs.Trees.{namespace_code, keys_fields, term_fields, terms_fields, cases_fields};
 ghost use Rattle.sj_write.specs.TreeFields.{field_written, fields_written};
 ghost use Rattle.sj_write.specs.Writing.{put};
 ghost use Rattle.tree_fields.specs.Fields.{field_seen};

@@ -7,18 +7,18 @@ use Rattle.std.proofs.lemmas.List.{take_all, length-take}
 use Rattle.sj_trees.specs.declared.classes.ClassDef.{ClassDef}
 use Rattle.sj_outside.specs.Contents.{Parts, file_at}
 use Rattle.sj_outside.specs.Reading.{Reads}
-use Rattle.sj_format.specs.Files.{FileIs}
-use Rattle.sj_format.proofs.ExactFiles.{one_answer}
-use Rattle.listing_spelling.specs.Rules.{bare}
-use Rattle.listing_spelling.specs.Spelling.{Lists}
-use Rattle.listing_spelling.proofs.OneText.{one_listing}
-use Rattle.sj_written.specs.Written.{written_class}
-use Rattle.file_listings.specs.Listed.{AreBytes}
-use Rattle.file_listings.proofs.ListedClasses.{file_is_listed}
-use Rattle.file_listings.proofs.MadeFiles.{listed_is_made}
+use Rattle.sj_read_spec.specs.Files.{FileIs}
+use Rattle.sj_read_spec.proofs.ExactFiles.{one_answer}
+use Rattle.sj_text_spec.specs.Rules.{bare}
+use Rattle.sj_text_spec.specs.Spelling.{Lists}
+use Rattle.sj_text_spec.proofs.OneText.{one_listing}
+use Rattle.sj_write_spec.specs.Written.{written_class}
+use Rattle.sj_text_files.specs.Listed.{AreBytes}
+use Rattle.sj_text_files.proofs.ListedClasses.{file_is_listed}
+use Rattle.sj_text_files.proofs.MadeFiles.{listed_is_made}
 use Rattle.exact_place.specs.Place.{Place}
-use Rattle.sj_format.specs.Files.{Fails}
-use Rattle.sj_format.specs.Answers.{IsRead, Reads as Answer}
+use Rattle.sj_read_spec.specs.Files.{Fails}
+use Rattle.sj_read_spec.specs.Answers.{IsRead, Reads as Answer}
 use Rattle.sj_trees.specs.declared.refusals.ReadRefusal.{ReadRefusal}
 use Rattle.sj_trees.specs.declared.refusals.ReadRefusal.TheVariants.{Bad}
 use Rattle.sj_trees.specs.declared.refusals.Code.{Code}

@@ -7,14 +7,14 @@ use Rattle.sj_outside.specs.Contents.{Parts}
 use Rattle.sj_outside.specs.Words.{without_line_feed}
 use Rattle.sj_outside.specs.Writing.{Event, line}
 use Rattle.sj_trees.specs.declared.classes.ClassDef.{ClassDef}
-use Rattle.sj_format.proofs.ExactFiles.{one_answer}
-use Rattle.listing_spelling.specs.Spelling.{Lists}
-use Rattle.listing_spelling.specs.Rules.{bare}
-use Rattle.listing_spelling.proofs.Kept.{class_kept}
-use Rattle.listing_spelling.proofs.OneText.{one_listing}
-use Rattle.listing_spelling.proofs.Whole.{one_class}
-use Rattle.file_listings.proofs.Bare.{listed_is_bare}
-use Rattle.sj_written.specs.Written.{written_class}
+use Rattle.sj_read_spec.proofs.ExactFiles.{one_answer}
+use Rattle.sj_text_spec.specs.Spelling.{Lists}
+use Rattle.sj_text_spec.specs.Rules.{bare}
+use Rattle.sj_text_spec.proofs.Kept.{class_kept}
+use Rattle.sj_text_spec.proofs.OneText.{one_listing}
+use Rattle.sj_text_spec.proofs.Whole.{one_class}
+use Rattle.sj_text_files.proofs.Bare.{listed_is_bare}
+use Rattle.sj_write_spec.specs.Written.{written_class}
 use Rattle.sjsir.specs.Command.{Command, help, version, print, make, command}
 use Rattle.sjsir.specs.Making.{IsMade, IsMadeShallow, IsMadeAt, output_of}
 use Rattle.sjsir.specs.declared.making.Made.{Made}

@@ -5,10 +5,10 @@ use Rattle.sj_trees.specs.declared.classes.ClassDef.{ClassDef}
 use Rattle.sj_outside.specs.Contents.{Parts, file_at}
 use Rattle.sj_outside.specs.Words.{without_line_feed}
 use Rattle.sj_outside.specs.Writing.{put, line}
-use Rattle.sj_format.specs.Files.{FileIs}
-use Rattle.file_listings.specs.Listed.{AreBytes}
-use Rattle.listing_spelling.specs.Spelling.{Lists}
-use Rattle.sj_written.specs.Written.{written_class}
+use Rattle.sj_read_spec.specs.Files.{FileIs}
+use Rattle.sj_text_files.specs.Listed.{AreBytes}
+use Rattle.sj_text_spec.specs.Spelling.{Lists}
+use Rattle.sj_write_spec.specs.Written.{written_class}
 use Rattle.sj_text.specs.declared.error.ListingError.{ListingError}
 use Rattle.sj_text.specs.declared.error.ListingError.TheVariants.{BadListing, NoMemory}
 use Rattle.sjsir.specs.Output.{Output, IsFileOf, no_listing_line, no_file_line, too_deep_line}

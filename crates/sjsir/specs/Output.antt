@@ -9,11 +9,11 @@ use Rattle.sj_outside.specs.declared.answers.PutFile.{PutFile}
 use Rattle.sj_trees.specs.declared.refusals.Reserved.{Reserved}
 use Rattle.sj_trees.specs.declared.refusals.Code.{Code}
 use Rattle.sj_trees.specs.Refusals.{number_of, reserved_of, name_of}
-use Rattle.sj_format.specs.Files.{FileIs, Fails}
-use Rattle.file_listings.specs.Listed.{AreBytes}
-use Rattle.listing_spelling.specs.Spelling.{Lists}
-use Rattle.listing_spelling.specs.Rules.{bare}
-use Rattle.sj_written.specs.Written.{written_class}
+use Rattle.sj_read_spec.specs.Files.{FileIs, Fails}
+use Rattle.sj_text_files.specs.Listed.{AreBytes}
+use Rattle.sj_text_spec.specs.Spelling.{Lists}
+use Rattle.sj_text_spec.specs.Rules.{bare}
+use Rattle.sj_write_spec.specs.Written.{written_class}
 use Rattle.sjsir.specs.Nesting.{is_deep}
 use Rattle.sjsir.specs.Command.{help, version, print, make, command}
 use Rattle.sjsir.specs.declared.answers.Status.{Status}

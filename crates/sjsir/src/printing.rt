@@ -3,7 +3,7 @@ ghost use Rattle.std.specs.Prelude.{◌≡◌, ◌≤◌, ℕ, List, Option, Som
 ghost use Rattle.sj_outside.specs.Contents.{Parts, file_at};
 ghost use Rattle.sj_outside.specs.Faults.{Rose};
 ghost use Rattle.sj_outside.specs.Writing.{Appends};
-ghost use Rattle.sj_format.specs.Files.{Fails};
+ghost use Rattle.sj_read_spec.specs.Files.{Fails};
 ghost use Rattle.sj_trees.specs.Refusals as faults;
 ghost use Rattle.sjsir.specs.Output as output;
 ghost use Rattle.sjsir.specs.Printing as spec;
@@ -11,11 +11,11 @@ ghost use Rattle.sjsir.specs.Printing as spec;
 use crate::answers::Status;
 use crate::reading::read_whole;
 use crate::stops::Stop;
-use file_listings::each_is_a_byte;
-use listing_print::print_listing;
 use sj_names::Meter;
 use sj_outside::{Folders, Lines, OutsideError};
 use sj_read::read_class;
+use sj_text_files::each_is_a_byte;
+use sj_text_print::print_listing;
 use sj_trees::{Code, ReadRefusal, Reserved};
 use std::alloc::{AllocError, Global};
 

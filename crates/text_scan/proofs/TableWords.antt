@@ -5,7 +5,7 @@ use Rattle.exact_place.specs.Reading.{Reading, found_at, run_at}
 use Rattle.exact_place.specs.Tokens.{Entry, is_front, is_text, begins_entry, entry_of}
 use Rattle.exact_place.proofs.Steps.{cases}
 use Rattle.exact_place.proofs.Words.{both}
-use Rattle.js_spelling.specs.Words.{entry}
+use Rattle.js_read_spec.specs.Words.{entry}
 use Rattle.text_scan.specs.Runs.{IsSplit}
 use Rattle.text_scan.proofs.Runs.{run_split}
 use Rattle.text_scan.specs.declared.stop.Stop.{Stop}

@@ -2,7 +2,7 @@
 ghost use Rattle.std.specs.Prelude.{◌≡◌, ◌≤◌, [], true, map, length, take, drop};
 ghost use Rattle.exact_place.specs.Reading.{run_at};
 ghost use Rattle.exact_place.specs.Tokens.{is_front, begins_entry, entry_of};
-ghost use Rattle.js_spelling.specs.Words.{entry};
+ghost use Rattle.js_read_spec.specs.Words.{entry};
 ghost use Rattle.text_scan.specs.Gives.{Gives};
 ghost use Rattle.text_scan.specs.Runs.{IsSplit};
 

@@ -1,7 +1,7 @@
 //! The 16-bit units of a string in quotes.
 ghost use Rattle.std.specs.Prelude.{◌≡◌, ◌<◌, ◌==◌, not, IfOk};
 ghost use Rattle.text_scan.specs.Gives.{Gives};
-ghost use Rattle.js_spelling.specs.Tokens as tokens;
+ghost use Rattle.js_read_spec.specs.Tokens as tokens;
 ghost use Rattle.exact_place.specs.Reading.{one_at, list_at};
 
 use crate::bytes::{literal, next_is, next_other};
@@ -77,7 +77,7 @@ fn fourth_digit(high: u16, bytes: &[u8]) -> Result<(u16, &[u8]), Stop>
     }
 }
 
-#[tactic(auto, unfolding(js_spelling::specs::Tokens::hex_at))]
+#[tactic(auto, unfolding(js_read_spec::specs::Tokens::hex_at))]
 fn hex_of_four(bytes: &[u8]) -> Result<(u16, &[u8]), Stop>
     ensures { Gives (λ x. (x.0, x.1.now)) result (tokens.hex_at bytes.now) }
 {
@@ -119,7 +119,7 @@ fn plain_unit(bytes: &[u8]) -> Result<(u16, &[u8]), Stop>
     }
 }
 
-#[tactic(auto, unfolding(js_spelling::specs::Tokens::escape_at))]
+#[tactic(auto, unfolding(js_read_spec::specs::Tokens::escape_at))]
 fn escape_of(bytes: &[u8]) -> Result<(u16, &[u8]), Stop>
     ensures { Gives (λ x. (x.0, x.1.now)) result (tokens.escape_at bytes.now) }
 {
@@ -131,7 +131,7 @@ fn escape_of(bytes: &[u8]) -> Result<(u16, &[u8]), Stop>
     }
 }
 
-#[tactic(auto, unfolding(js_spelling::specs::Tokens::unit_at))]
+#[tactic(auto, unfolding(js_read_spec::specs::Tokens::unit_at))]
 fn unit_of(bytes: &[u8]) -> Result<(u16, &[u8]), Stop>
     ensures { Gives (λ x. (x.0, x.1.now)) result (tokens.unit_at bytes.now) }
 {
@@ -148,7 +148,7 @@ struct UnitItem;
 
 impl Item for UnitItem {
     ghost use Rattle.std.specs.Prelude.{ℕ, ◌==◌, not};
-    ghost use Rattle.js_spelling.specs.Tokens.{unit_at};
+    ghost use Rattle.js_read_spec.specs.Tokens.{unit_at};
 
     type Value = u16;
 

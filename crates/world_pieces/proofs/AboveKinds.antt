@@ -1,9 +1,9 @@
 -- The ancestors of the classes of kinds.
 use Rattle.std.proofs.Common.{◌≡◌, refl, ap}
-use Rattle.helper_rules.specs.Helpers.{Above, helper_piece}
-use Rattle.helper_rules.specs.Words.{kind_class}
-use Rattle.helper_rules.specs.declared.kinds.Helper.{Helper}
-use Rattle.helper_rules.specs.declared.kinds.Kind.{Kind}
+use Rattle.sj_emit_help_spec.specs.Helpers.{Above, helper_piece}
+use Rattle.sj_emit_help_spec.specs.Words.{kind_class}
+use Rattle.sj_emit_help_spec.specs.declared.kinds.Helper.{Helper}
+use Rattle.sj_emit_help_spec.specs.declared.kinds.Kind.{Kind}
 use Rattle.linked_pieces.specs.Pieces.{AreAbove}
 use Rattle.sj_world.specs.Known.{Name, Classes}
 use Rattle.sj_world.specs.Tables.{AreAncestors}

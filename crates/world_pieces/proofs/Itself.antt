@@ -3,12 +3,12 @@ use Rattle.std.proofs.Common.{◌≡◌, true, List, Contains, refl, subst}
 use Rattle.std.specs.Bool.{Decides}
 use Rattle.std.specs.Prelude.{◌↔◌}
 use Rattle.std.proofs.lemmas.Map.Made.{is_member-Decides}
-use Rattle.helper_rules.specs.contracts.kinds.FailurePartialEq.TheImpl as failure_eq
-use Rattle.helper_rules.specs.contracts.kinds.HelperPartialEq.TheImpl as helper_eq
-use Rattle.helper_rules.specs.contracts.kinds.KindPartialEq.TheImpl as kind_eq
-use Rattle.helper_rules.specs.declared.kinds.Failure.{Failure}
-use Rattle.helper_rules.specs.declared.kinds.Helper.{Helper}
-use Rattle.helper_rules.specs.declared.kinds.Kind.{Kind}
+use Rattle.sj_emit_help_spec.specs.contracts.kinds.FailurePartialEq.TheImpl as failure_eq
+use Rattle.sj_emit_help_spec.specs.contracts.kinds.HelperPartialEq.TheImpl as helper_eq
+use Rattle.sj_emit_help_spec.specs.contracts.kinds.KindPartialEq.TheImpl as kind_eq
+use Rattle.sj_emit_help_spec.specs.declared.kinds.Failure.{Failure}
+use Rattle.sj_emit_help_spec.specs.declared.kinds.Helper.{Helper}
+use Rattle.sj_emit_help_spec.specs.declared.kinds.Kind.{Kind}
 use Rattle.world_pieces.specs.declared.helpers.UsedHelper.{UsedHelper}
 use Rattle.world_pieces.specs.Helpers.{as_used, is_found, is_same_used}
 use Rattle.world_pieces.specs.Same.{same_used}

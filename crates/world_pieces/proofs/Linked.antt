@@ -9,7 +9,7 @@ use Rattle.std.proofs.lemmas.List.MinMax.{ranks_by}
 use Rattle.std.proofs.lemmas.List.Sorted.{Contains-permutation, IsPermutation-map, IsPermutation-sym}
 use Rattle.std.proofs.lemmas.Map.Keys.{IsDistinct-cons}
 use Rattle.std.proofs.lemmas.Slice.Eq.{bytes_eq-Decides}
-use Rattle.helper_rules.specs.Helpers.{helper_piece}
+use Rattle.sj_emit_help_spec.specs.Helpers.{helper_piece}
 use Rattle.js_tree.specs.Terms.{Piece}
 use Rattle.js_tree.specs.Views.{piece_view}
 use Rattle.js_tree.specs.declared.items.JsPiece.{JsPiece}
@@ -17,9 +17,9 @@ use Rattle.linked_pieces.specs.Order.{AreInOrder, AreClasses, AreMethodsOf}
 use Rattle.linked_pieces.specs.Pieces as pieces
 use Rattle.linked_pieces.specs.Pieces.{piece_of_member, pieces_of_block, IsBlock, AreBlocks, AreHelpers, with_helpers, AreLinkedPieces}
 use Rattle.linked_pieces.specs.Reflected.{AreToldPieces}
-use Rattle.sj_emit_expr.specs.Templates.{member_name}
+use Rattle.sj_emit_expr_spec.specs.Templates.{member_name}
 use Rattle.sj_names.specs.WellKnown.{is_object}
-use Rattle.sj_proper.specs.EmittedMethods.{EmittedMethod, HaveOwnMembers}
+use Rattle.agree_early_errors.specs.EmittedMethods.{EmittedMethod, HaveOwnMembers}
 use Rattle.sj_split.proofs.Members.{at_first, further, into_filter, from_filter}
 use Rattle.sj_split.specs.Orders.{IsBefore}
 use Rattle.sj_world.specs.Known.{Name, Classes, is_same}

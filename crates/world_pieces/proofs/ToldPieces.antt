@@ -14,7 +14,7 @@ use Rattle.js_tree.specs.declared.items.JsPiece.{JsPiece}
 use Rattle.linked_pieces.specs.Dispatched.{IsDispatched, OfDispatched, HasDispatchPiece, HasLesserPiece, AreDispatchPieces}
 use Rattle.linked_pieces.specs.Order.{AreInOrder}
 use Rattle.linked_pieces.specs.Reflected.{IsReflected, OfReflected, HasReflectivePiece, AreReflectivePieces}
-use Rattle.piece_rules.specs.Dispatch.{dispatch_name, reflective_name, IsDispatchPiece, IsReflectivePiece}
+use Rattle.sj_emit_class_spec.specs.Dispatch.{dispatch_name, reflective_name, IsDispatchPiece, IsReflectivePiece}
 use Rattle.sj_baselink.proofs.Putting.{adds_as}
 use Rattle.sj_baselink.specs.Steps.{Puts, OfOne, AreReflective}
 use Rattle.sj_mangling.proofs.Injective.{mangled_texts_differ}

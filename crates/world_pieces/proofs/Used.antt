@@ -5,8 +5,8 @@ use Rattle.std.specs.Prelude.{◌↔◌}
 use Rattle.std.proofs.lemmas.List.{append-nil, take_all, take_more}
 use Rattle.std.proofs.lemmas.List.Elements.{filter-append}
 use Rattle.std.proofs.lemmas.Option.{slice_get_within, get_or_from_slice_get}
-use Rattle.helper_rules.specs.Helpers.{helper_name, used_helpers}
-use Rattle.helper_rules.specs.declared.kinds.Helper.{Helper}
+use Rattle.sj_emit_help_spec.specs.Helpers.{helper_name, used_helpers}
+use Rattle.sj_emit_help_spec.specs.declared.kinds.Helper.{Helper}
 use Rattle.js_tree.specs.Terms.{Name, Piece}
 use Rattle.linked_pieces.specs.Pieces.{IsUsed, by_piece, by_helper, HasLesserWord, AreHelpers}
 use Rattle.sj_baselink.specs.Steps.{OfOne}

@@ -1,6 +1,6 @@
 -- The ancestors of the classes of the kinds, as the code keeps them.
-use Rattle.helper_rules.specs.Helpers.{Above}
-use Rattle.helper_rules.specs.declared.kinds.Kind.TheVariants as kinds
+use Rattle.sj_emit_help_spec.specs.Helpers.{Above}
+use Rattle.sj_emit_help_spec.specs.declared.kinds.Kind.TheVariants as kinds
 use Rattle.world_pieces.specs.declared.above.KindAncestors.{KindAncestors}
 
 abbrev pub above_of : KindAncestors → Above

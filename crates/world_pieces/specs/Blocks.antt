@@ -5,7 +5,7 @@ use Rattle.js_tree.specs.Rules.{IsPiece}
 use Rattle.js_tree.specs.Terms.{Piece}
 use Rattle.js_tree.specs.Views.{piece_view}
 use Rattle.js_tree.specs.declared.items.JsPiece.{JsPiece}
-use Rattle.piece_rules.specs.Classes.{AreClassPieces}
+use Rattle.sj_emit_class_spec.specs.Classes.{AreClassPieces}
 use Rattle.sj_names.specs.WellKnown.{is_object}
 use Rattle.sj_world.specs.Known.{Name}
 use Rattle.sj_world.specs.Linked.{Linked}

@@ -1,12 +1,12 @@
 -- The helpers, and which of them are used.
 use Rattle.std.specs.Prelude.{◌≡◌, Bool, List, [], ◌∷◌, Contains, map}
 use Rattle.std.specs.List.{list_any}
-use Rattle.helper_rules.specs.Helpers.{helper_name, used_helpers}
-use Rattle.helper_rules.specs.Words.{helper}
-use Rattle.helper_rules.specs.declared.kinds.Failure.TheVariants as failures
-use Rattle.helper_rules.specs.declared.kinds.Helper.{Helper}
-use Rattle.helper_rules.specs.declared.kinds.Helper.TheVariants as helpers
-use Rattle.helper_rules.specs.declared.kinds.Kind.TheVariants as kinds
+use Rattle.sj_emit_help_spec.specs.Helpers.{helper_name, used_helpers}
+use Rattle.sj_emit_help_spec.specs.Words.{helper}
+use Rattle.sj_emit_help_spec.specs.declared.kinds.Failure.TheVariants as failures
+use Rattle.sj_emit_help_spec.specs.declared.kinds.Helper.{Helper}
+use Rattle.sj_emit_help_spec.specs.declared.kinds.Helper.TheVariants as helpers
+use Rattle.sj_emit_help_spec.specs.declared.kinds.Kind.TheVariants as kinds
 use Rattle.js_tree.specs.Terms.{Name, Piece}
 use Rattle.world_pieces.specs.contracts.helpers.UsedHelperPartialEq.TheImpl as used_eq
 use Rattle.world_pieces.specs.declared.helpers.UsedHelper.{UsedHelper}

@@ -1,7 +1,7 @@
 -- The names of functions.
 use Rattle.std.specs.Prelude.{◌≡◌, List, Contains}
-use Rattle.sj_emit_expr.specs.Templates.{member_name}
-use Rattle.sj_proper.specs.EmittedMethods.{EmittedMethod}
+use Rattle.sj_emit_expr_spec.specs.Templates.{member_name}
+use Rattle.agree_early_errors.specs.EmittedMethods.{EmittedMethod}
 
 -- the names of the functions of these methods tell their members apart
 abbrev pub NamesTell : List EmittedMethod → Type 0

@@ -1,12 +1,12 @@
 -- Helpers that compare as equal are one.
 use Rattle.std.specs.Prelude.{◌≡◌, true}
 use Rattle.std.proofs.Common.{refl, ap}
-use Rattle.helper_rules.specs.contracts.kinds.FailurePartialEq.TheImpl as failure_eq
-use Rattle.helper_rules.specs.contracts.kinds.HelperPartialEq.TheImpl as helper_eq
-use Rattle.helper_rules.specs.contracts.kinds.KindPartialEq.TheImpl as kind_eq
-use Rattle.helper_rules.specs.declared.kinds.Failure.{Failure}
-use Rattle.helper_rules.specs.declared.kinds.Helper.{Helper}
-use Rattle.helper_rules.specs.declared.kinds.Kind.{Kind}
+use Rattle.sj_emit_help_spec.specs.contracts.kinds.FailurePartialEq.TheImpl as failure_eq
+use Rattle.sj_emit_help_spec.specs.contracts.kinds.HelperPartialEq.TheImpl as helper_eq
+use Rattle.sj_emit_help_spec.specs.contracts.kinds.KindPartialEq.TheImpl as kind_eq
+use Rattle.sj_emit_help_spec.specs.declared.kinds.Failure.{Failure}
+use Rattle.sj_emit_help_spec.specs.declared.kinds.Helper.{Helper}
+use Rattle.sj_emit_help_spec.specs.declared.kinds.Kind.{Kind}
 use Rattle.sj_names.proofs.Equal.{false_is_not_true}
 use Rattle.world_pieces.specs.contracts.helpers.UsedHelperPartialEq.TheImpl as used_eq
 use Rattle.world_pieces.specs.declared.helpers.UsedHelper.{UsedHelper}

@@ -1,12 +1,12 @@
 -- The method names of which the functions tell primitive receivers apart, the pieces of these functions, and what stands behind the pieces of `java.lang.Object`, as the code makes them.
 use Rattle.std.specs.Prelude.{◌≡◌, ◌++◌, List, Contains, map}
-use Rattle.piece_rules.specs.Entries.{IsReflective}
-use Rattle.helper_rules.specs.Helpers.{Above, helper_piece}
-use Rattle.helper_rules.specs.declared.kinds.Helper.{Helper}
+use Rattle.sj_emit_class_spec.specs.Entries.{IsReflective}
+use Rattle.sj_emit_help_spec.specs.Helpers.{Above, helper_piece}
+use Rattle.sj_emit_help_spec.specs.declared.kinds.Helper.{Helper}
 use Rattle.js_tree.specs.Terms.{Name, Piece}
 use Rattle.linked_pieces.specs.Pieces.{AreHelpers, AreAbove}
 use Rattle.linked_pieces.specs.Reflected.{AreToldPieces}
-use Rattle.piece_rules.specs.Dispatch.{dispatch_name, reflective_name}
+use Rattle.sj_emit_class_spec.specs.Dispatch.{dispatch_name, reflective_name}
 use Rattle.sj_mangling.specs.Bindings.{method_binding}
 use Rattle.sj_mangling.specs.declared.bindings.MethodBinding.{MethodBinding}
 use Rattle.sj_names.specs.MethodNames.{IsMethodName}

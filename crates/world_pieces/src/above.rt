@@ -1,17 +1,17 @@
 // The classes above the classes of the kinds, and the pieces of helpers.
 ghost use Rattle.std.specs.Prelude.{◌≡◌, ◌++◌, map, All, IfOk, OnOk};
-ghost use Rattle.helper_rules.specs.Helpers as rules;
-ghost use Rattle.helper_rules.specs.Words.{kind_class};
+ghost use Rattle.sj_emit_help_spec.specs.Helpers as rules;
+ghost use Rattle.sj_emit_help_spec.specs.Words.{kind_class};
 ghost use Rattle.js_tree.specs.Rules.{IsPiece};
 ghost use Rattle.js_tree.specs.Views.{piece_view};
 ghost use Rattle.linked_pieces.specs.Pieces.{AreAbove};
 ghost use Rattle.sj_world.specs.Tables.{AreAncestors};
 ghost use Rattle.world_pieces.specs.Above.{above_of};
 
-use helper_making::helper_piece;
-use helper_rules::{Helper, Kind};
 use js_tree::JsPiece;
 use piece_making::class_of_kind;
+use sj_emit_help::helper_piece;
+use sj_emit_help_spec::{Helper, Kind};
 use sj_names::{ClassName, NoMemory, Text};
 use sj_world::World;
 use std::alloc::Global;

@@ -1,8 +1,8 @@
 // The classes with their own pieces and their functions.
 ghost use Rattle.std.specs.Prelude.{◌≡◌, List, map, IfOk};
 ghost use Rattle.std.specs.List.{IsDistinct, filter};
-ghost use Rattle.class_needs.specs.Needs.{AreNeeds};
-ghost use Rattle.class_pieces.specs.Entries.{AreByClass};
+ghost use Rattle.sj_emit_class_needs.specs.Needs.{AreNeeds};
+ghost use Rattle.sj_emit_class.specs.Entries.{AreByClass};
 ghost use Rattle.js_tree.specs.declared.items.JsPiece.{JsPiece as Function};
 ghost use Rattle.sj_world.specs.Known.{Name, is_same};
 ghost use Rattle.world_pieces.specs.Blocks.{IsMade, AreMade};
@@ -12,10 +12,10 @@ ghost use Rattle.world_pieces.specs.Places.{name_of};
 use crate::classes::ClassPlace;
 use crate::functions::{FunctionGroups, in_order};
 use class_lists::Lists;
-use class_needs::{ClassNeed, needs_of};
-use class_pieces::{class_pieces, entries_by_class};
 use indexmap::IndexSet;
 use js_tree::JsPiece;
+use sj_emit_class::{class_pieces, entries_by_class};
+use sj_emit_class_needs::{ClassNeed, needs_of};
 use sj_names::{ClassName, NoMemory};
 use sj_world::{LinkedWorld, MethodEntry};
 use std::alloc::Global;

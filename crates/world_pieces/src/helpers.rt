@@ -2,7 +2,7 @@
 ghost use Rattle.std.specs.Prelude.{◌≡◌, ◌↔◌, Contains, IfOk, OnOk, IsTrue, List, map};
 ghost use Rattle.std.specs.Hash as fed;
 ghost use Rattle.std.specs.List.{filter};
-ghost use Rattle.helper_rules.specs.Helpers.{helper_name as name_of_helper};
+ghost use Rattle.sj_emit_help_spec.specs.Helpers.{helper_name as name_of_helper};
 ghost use Rattle.indexmap.specs.IndexSet.{insert_all};
 ghost use Rattle.js_tree.specs.Terms.{Name, Piece};
 ghost use Rattle.linked_pieces.specs.Pieces.{AreHelpers};
@@ -13,10 +13,10 @@ ghost use Rattle.world_pieces.specs.Same.{same_used};
 ghost use Rattle.std.proofs.Common.{ap};
 
 use crate::table::all_helpers;
-use helper_making::used_helpers;
-use helper_rules::Helper;
 use indexmap::IndexSet;
 use piece_making::{helper_name, text};
+use sj_emit_help::used_helpers;
+use sj_emit_help_spec::Helper;
 use sj_names::{NoMemory, Text};
 use std::alloc::Global;
 use std::hash::{Hash, Hasher};

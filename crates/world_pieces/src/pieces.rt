@@ -4,7 +4,7 @@ ghost use Rattle.std.specs.List.{flat_map};
 ghost use Rattle.js_tree.specs.Rules.{IsPiece};
 ghost use Rattle.js_tree.specs.Views.{piece_view};
 ghost use Rattle.linked_pieces.specs.Pieces.{AreLinkedPieces, piece_of_member};
-ghost use Rattle.sj_proper.specs.EmittedMethods.{EmittedMethod, HaveOwnMembers};
+ghost use Rattle.agree_early_errors.specs.EmittedMethods.{EmittedMethod, HaveOwnMembers};
 ghost use Rattle.world_pieces.specs.Blocks.{pieces_in, with_helpers_in};
 ghost use Rattle.world_pieces.specs.Names.{NamesTell};
 

@@ -5,7 +5,7 @@ ghost use Rattle.js_tree.specs.Rules.{IsPiece};
 ghost use Rattle.js_tree.specs.Terms.{Name, Piece};
 ghost use Rattle.js_tree.specs.Views.{piece_view};
 ghost use Rattle.linked_pieces.specs.Reflected.{AreReflectivePieces};
-ghost use Rattle.piece_rules.specs.Dispatch.{IsReflectivePiece};
+ghost use Rattle.sj_emit_class_spec.specs.Dispatch.{IsReflectivePiece};
 ghost use Rattle.sj_baselink.specs.Steps.{OfOne};
 ghost use Rattle.sj_mangling.specs.declared.bindings.MethodBinding.TheVariants.{Reflective};
 ghost use Rattle.sj_names.specs.contracts.method_names.MethodNamePartialEq.TheImpl as method_eq;

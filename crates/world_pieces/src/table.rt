@@ -2,7 +2,7 @@
 ghost use Rattle.std.specs.Prelude.{◌≡◌};
 ghost use Rattle.world_pieces.specs.Helpers.{every_helper};
 
-use helper_rules::{Failure, Helper, Kind};
+use sj_emit_help_spec::{Failure, Helper, Kind};
 
 /// Every helper, in the order of their names.
 pub fn all_helpers() -> &'static [Helper]

@@ -5,7 +5,7 @@ ghost use Rattle.js_tree.specs.Terms.{Name, Piece};
 ghost use Rattle.js_tree.specs.Views.{piece_view};
 ghost use Rattle.linked_pieces.specs.Dispatched.{AreDispatchPieces};
 ghost use Rattle.linked_pieces.specs.Reflected.{AreToldPieces};
-ghost use Rattle.piece_rules.specs.Dispatch.{IsDispatchPiece};
+ghost use Rattle.sj_emit_class_spec.specs.Dispatch.{IsDispatchPiece};
 ghost use Rattle.sj_baselink.specs.Steps.{Puts, OfOne};
 ghost use Rattle.sj_mangling.specs.declared.bindings.MethodBinding.TheVariants.{Dispatch};
 ghost use Rattle.sj_names.specs.declared.method_names.MethodName.{MethodName as Method};

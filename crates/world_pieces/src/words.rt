@@ -1,7 +1,7 @@
 // The names of `java.lang.Object` that pieces use.
 ghost use Rattle.std.specs.Prelude.{◌≡◌, ◌↔◌, Contains, IfOk, OnOk, map};
 ghost use Rattle.std.specs.List.{flat_map};
-ghost use Rattle.helper_rules.specs.Words.{helper};
+ghost use Rattle.sj_emit_help_spec.specs.Words.{helper};
 ghost use Rattle.js_tree.specs.Terms.{Name};
 ghost use Rattle.js_tree.specs.Views.{piece_view};
 ghost use Rattle.sj_baselink.specs.Steps.{Puts, OfOne};

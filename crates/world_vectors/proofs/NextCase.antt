@@ -1,6 +1,6 @@
 -- Fields of objects in one more case.
 use Rattle.std.proofs.Common.{◌≡◌, ◌+◌, ◌<◌, ℕ, ℤ, List, [], ◌∷◌, drop, get_or, length, subst}
-use Rattle.sj_pieces.specs.Owners.{OnObjects, CasesOnObjects}
+use Rattle.sj_emit_expr_pieces.specs.Owners.{OnObjects, CasesOnObjects}
 use Rattle.sj_trees.specs.Term.{Term, Cases, more_cases}
 use Rattle.sj_trees.specs.View.{view, view_case, cases_view}
 use Rattle.sj_trees.specs.declared.trees.MatchCase.{MatchCase}

@@ -1,5 +1,5 @@
 -- A tree is of objects where it is one of an object by its form, and its parts are of objects.
-use Rattle.sj_pieces.specs.Owners.{OnObjects}
+use Rattle.sj_emit_expr_pieces.specs.Owners.{OnObjects}
 use Rattle.sj_trees.specs.Term.{Term, assign, select, select_static, array_length, array_select, var_ref}
 use Rattle.tree_parts.specs.Parts.{parts_of}
 use Rattle.world_vectors.specs.Objects.{IsOfObject, PartsOnObjects}

@@ -3,11 +3,11 @@ use Rattle.std.proofs.Common.{◌≡◌, ◌∙◌, Bool, true, false, ◌&&◌,
 use Rattle.std.specs.Prelude.{All}
 use Rattle.std.proofs.lemmas.Bool.{and_parts}
 use Rattle.std.proofs.lemmas.List.Elements.{All-head, All-tail}
-use Rattle.emit_questions.specs.Calls.{calls_of_all}
-use Rattle.emit_questions.specs.Laws.{AsEmitted}
-use Rattle.emit_questions.specs.Task.{Targets, is_same_member, target_by, with_target, Found, nothing_found, lookup_by, asks_all, Emitted, emitted, emitted_view}
-use Rattle.emit_questions.specs.declared.Inquiry.{Inquiry}
-use Rattle.emit_questions.specs.declared.Inquiry.TheVariants as inquiries
+use Rattle.sj_emit_expr_questions.specs.Calls.{calls_of_all}
+use Rattle.sj_emit_expr_questions.specs.Laws.{AsEmitted}
+use Rattle.sj_emit_expr_questions.specs.Task.{Targets, is_same_member, target_by, with_target, Found, nothing_found, lookup_by, asks_all, Emitted, emitted, emitted_view}
+use Rattle.sj_emit_expr_questions.specs.declared.Inquiry.{Inquiry}
+use Rattle.sj_emit_expr_questions.specs.declared.Inquiry.TheVariants as inquiries
 use Rattle.js_tree.specs.declared.items.JsMember.{JsMember}
 use Rattle.sj_ask.proofs.Running.{Parted, went, stopped, comes-parted}
 use Rattle.sj_ask.specs.Answers.{IsAnswer, IsTarget, GivesMember, target_member}
@@ -24,7 +24,7 @@ use Rattle.sj_names.specs.Same.{is_same_text, is_same_method, is_same_namespace}
 use Rattle.sj_names.specs.declared.memory.NoMemory.{NoMemory}
 use Rattle.sj_names.specs.declared.method_names.Member.{Member}
 use Rattle.sj_names.specs.declared.method_names.MethodName.{MethodName}
-use Rattle.sj_pieces.specs.Ranges.{AreBytes, FitsMethodName, FitsMember}
+use Rattle.sj_emit_expr_pieces.specs.Ranges.{AreBytes, FitsMethodName, FitsMember}
 use Rattle.sj_trees.specs.declared.classes.ClassDef.{ClassDef}
 use Rattle.sj_world.proofs.Orders.{same_name}
 use Rattle.sj_world.specs.Ancestors.{IsAncestor}

@@ -1,6 +1,6 @@
 -- Fields, lengths and items of objects, in a tree by its parts.
 use Rattle.std.specs.Prelude.{◌≡◌, false}
-use Rattle.sj_pieces.specs.Owners.{OnObjects, AllOnObjects, CasesOnObjects}
+use Rattle.sj_emit_expr_pieces.specs.Owners.{OnObjects, AllOnObjects, CasesOnObjects}
 use Rattle.sj_trees.specs.Term.{Term, select, array_length, array_select}
 use Rattle.sj_trees.specs.TypeOf.{type_of_term}
 use Rattle.sure_receivers.specs.Sure.{is_sure_type}

@@ -3,19 +3,21 @@ ghost use Rattle.std.specs.Prelude.{◌≡◌, true, All, IfOk, IfSome, map};
 ghost use Rattle.js_tree.specs.Rules.{IsPiece};
 ghost use Rattle.js_tree.specs.Views.{piece_view};
 ghost use Rattle.sj_core.specs.Views.{method_view};
-ghost use Rattle.sj_pieces.specs.Owners.{BodyOnObjects};
-ghost use Rattle.sj_pieces.specs.Ranges.{AreBytes};
+ghost use Rattle.sj_emit_expr_pieces.specs.Owners.{BodyOnObjects};
+ghost use Rattle.sj_emit_expr_pieces.specs.Ranges.{AreBytes};
 ghost use Rattle.world_vectors.specs.Emitted.{IsEmitted};
 
 use crate::objects::is_on_objects;
-use class_printing::name_fits;
 use js_tree::{JsMember, JsPiece};
 use sj_ask::WorldOracle;
 use sj_core::CoreMethod;
-use sj_desugarer::desugar;
-use sj_emitter::emit_member;
+use sj_desugar::desugar;
+use sj_emit_class_printing::name_fits;
+use sj_emit_expr::emit_member;
+use sj_emit_expr_pieces::{
+    desugared_fields_have_owners, desugared_members_have_keys, member_piece,
+};
 use sj_names::{Member, Meter, NoMemory};
-use sj_pieces::{desugared_fields_have_owners, desugared_members_have_keys, member_piece};
 use sj_trees::{ClassDef, MethodDef};
 use sj_world::{Fact, LinkedWorld, World, method_in};
 use std::alloc::Global;

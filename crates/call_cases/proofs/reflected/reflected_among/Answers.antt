@@ -1,7 +1,7 @@
 use Rattle.std.proofs.Common.{List, [], map, sym, subst}
-use Rattle.piece_rules.specs.Dispatch.{AreReflected, reflected_none}
-use Rattle.sj_emit_class.specs.Cases.{reflected_view}
-use Rattle.sj_emit_class.specs.declared.dispatch.Reflected.{Reflected}
+use Rattle.sj_emit_class_spec.specs.Dispatch.{AreReflected, reflected_none}
+use Rattle.sj_emit_class_parts.specs.Cases.{reflected_view}
+use Rattle.sj_emit_class_parts.specs.declared.dispatch.Reflected.{Reflected}
 use Rattle.call_cases.proofs.reflected.reflected_among.Goals as goal
 
 pub loop-kind-init : goal.loop-kind-init

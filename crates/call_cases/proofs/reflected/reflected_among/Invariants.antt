@@ -1,6 +1,6 @@
 use Rattle.std.proofs.Common.{take, map}
-use Rattle.piece_rules.specs.Dispatch.{AreReflected}
-use Rattle.sj_emit_class.specs.Cases.{reflected_view}
+use Rattle.sj_emit_class_spec.specs.Dispatch.{AreReflected}
+use Rattle.sj_emit_class_parts.specs.Cases.{reflected_view}
 use Rattle.call_cases.proofs.reflected.reflected_among.Given as goal
 
 abbrev pub invariant-loop-kind : goal.invariant-loop-kind

@@ -1,7 +1,7 @@
 use Rattle.std.proofs.lemmas.List.Elements.{All-map}
-use Rattle.class_printing.specs.Fits.{FitReflected}
-use Rattle.sj_emit_class.specs.Cases.{reflected_view}
-use Rattle.sj_pieces.proofs.Lists.{each-more, each-whole}
+use Rattle.sj_emit_class_printing.specs.Fits.{FitReflected}
+use Rattle.sj_emit_class_parts.specs.Cases.{reflected_view}
+use Rattle.sj_emit_expr_pieces.proofs.Lists.{each-more, each-whole}
 use Rattle.call_cases.proofs.reflected.reflected_fit.Goals as goal
 
 pub loop-reflected-preserved : goal.loop-reflected-preserved

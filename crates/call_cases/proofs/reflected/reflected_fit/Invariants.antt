@@ -1,7 +1,7 @@
 use Rattle.std.proofs.Common.{take}
 use Rattle.std.specs.Prelude.{All}
-use Rattle.class_printing.specs.Fits.{FitReflected}
-use Rattle.sj_emit_class.specs.Cases.{reflected_view}
+use Rattle.sj_emit_class_printing.specs.Fits.{FitReflected}
+use Rattle.sj_emit_class_parts.specs.Cases.{reflected_view}
 use Rattle.call_cases.proofs.reflected.reflected_fit.Given as goal
 
 abbrev pub invariant-loop-reflected : goal.invariant-loop-reflected

@@ -1,12 +1,12 @@
 use Rattle.std.proofs.Common.{◌∙◌, List, map, sym, subst}
 use Rattle.std.specs.Prelude.{All}
-use Rattle.class_printing.specs.Fits.{FitReflected}
+use Rattle.sj_emit_class_printing.specs.Fits.{FitReflected}
 use Rattle.js_tree.specs.Rules.{IsPiece}
 use Rattle.std.proofs.lemmas.Result.{IfOk-weaker}
-use Rattle.helper_rules.specs.Words.{told_kinds}
-use Rattle.piece_rules.specs.Dispatch.{AreReflected}
-use Rattle.sj_emit_class.specs.Cases.{reflected_view}
-use Rattle.sj_emit_class.specs.declared.dispatch.Reflected.{Reflected}
+use Rattle.sj_emit_help_spec.specs.Words.{told_kinds}
+use Rattle.sj_emit_class_spec.specs.Dispatch.{AreReflected}
+use Rattle.sj_emit_class_parts.specs.Cases.{reflected_view}
+use Rattle.sj_emit_class_parts.specs.declared.dispatch.Reflected.{Reflected}
 use Rattle.call_cases.proofs.reflected.reflective_of.Goals as goal
 
 pub returns-clause-piece : goal.returns-clause-piece

@@ -1,7 +1,7 @@
 use Rattle.std.proofs.Common.{List, [], map, sym, subst}
-use Rattle.piece_rules.specs.Dispatch.{AreTold, told_none}
-use Rattle.sj_emit_class.specs.Cases.{told_view}
-use Rattle.sj_emit_class.specs.declared.dispatch.Told.{Told}
+use Rattle.sj_emit_class_spec.specs.Dispatch.{AreTold, told_none}
+use Rattle.sj_emit_class_parts.specs.Cases.{told_view}
+use Rattle.sj_emit_class_parts.specs.declared.dispatch.Told.{Told}
 use Rattle.call_cases.proofs.told.told_among.Goals as goal
 
 pub loop-kind-init : goal.loop-kind-init

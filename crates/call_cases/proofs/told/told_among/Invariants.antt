@@ -1,6 +1,6 @@
 use Rattle.std.proofs.Common.{take, map}
-use Rattle.piece_rules.specs.Dispatch.{AreTold}
-use Rattle.sj_emit_class.specs.Cases.{told_view}
+use Rattle.sj_emit_class_spec.specs.Dispatch.{AreTold}
+use Rattle.sj_emit_class_parts.specs.Cases.{told_view}
 use Rattle.call_cases.proofs.told.told_among.Given as goal
 
 abbrev pub invariant-loop-kind : goal.invariant-loop-kind

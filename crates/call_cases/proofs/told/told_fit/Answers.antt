@@ -1,7 +1,7 @@
 use Rattle.std.proofs.lemmas.List.Elements.{All-map}
-use Rattle.class_printing.specs.Fits.{FitTold}
-use Rattle.sj_emit_class.specs.Cases.{told_view}
-use Rattle.sj_pieces.proofs.Lists.{each-more, each-whole}
+use Rattle.sj_emit_class_printing.specs.Fits.{FitTold}
+use Rattle.sj_emit_class_parts.specs.Cases.{told_view}
+use Rattle.sj_emit_expr_pieces.proofs.Lists.{each-more, each-whole}
 use Rattle.call_cases.proofs.told.told_fit.Goals as goal
 
 pub loop-told-preserved : goal.loop-told-preserved

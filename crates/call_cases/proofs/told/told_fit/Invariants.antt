@@ -1,7 +1,7 @@
 use Rattle.std.proofs.Common.{take}
 use Rattle.std.specs.Prelude.{All}
-use Rattle.class_printing.specs.Fits.{FitTold}
-use Rattle.sj_emit_class.specs.Cases.{told_view}
+use Rattle.sj_emit_class_printing.specs.Fits.{FitTold}
+use Rattle.sj_emit_class_parts.specs.Cases.{told_view}
 use Rattle.call_cases.proofs.told.told_fit.Given as goal
 
 abbrev pub invariant-loop-told : goal.invariant-loop-told

@@ -1,16 +1,16 @@
 use Rattle.std.proofs.Common.{◌≡◌, [], IfOk, Option, Some, None, Result, subst, sym}
 use Rattle.dispatch_laws.specs.Targets.{lookup_in}
-use Rattle.sj_pieces.specs.Ranges.{FitsMember}
+use Rattle.sj_emit_expr_pieces.specs.Ranges.{FitsMember}
 use Rattle.code_vectors.proofs.Untargeted.{own}
 use Rattle.js_tree.specs.Views.{piece_view}
 use Rattle.js_tree.specs.declared.items.JsPiece.{JsPiece}
 use Rattle.sj_core.specs.Terms.{Method}
-use Rattle.sj_desugar.specs.Desugar.{desugared_member}
-use Rattle.sj_desugarer.specs.Methods.{desugared_with}
+use Rattle.sj_desugar_spec.specs.Desugar.{desugared_member}
+use Rattle.sj_desugar.specs.Methods.{desugared_with}
 use Rattle.sj_names.specs.declared.method_names.Member.{Member}
-use Rattle.sj_pieces.specs.Keys.{HasKeys}
-use Rattle.sj_pieces.specs.Owners.{OnObjects, BodyOnObjects, FieldsHaveOwners}
-use Rattle.sj_emit_expr.specs.Members.{member_piece}
+use Rattle.sj_emit_expr_pieces.specs.Keys.{HasKeys}
+use Rattle.sj_emit_expr_pieces.specs.Owners.{OnObjects, BodyOnObjects, FieldsHaveOwners}
+use Rattle.sj_emit_expr_spec.specs.Members.{member_piece}
 use Rattle.sj_trees.specs.Term.{Term}
 use Rattle.sj_trees.specs.declared.classes.MethodDef.{MethodDef}
 use Rattle.code_vectors.proofs.emits.emitted.Goals as goal

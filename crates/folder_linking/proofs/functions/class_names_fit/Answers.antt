@@ -1,7 +1,7 @@
 use Rattle.std.proofs.Common.{[], ◌∷◌, All}
 use Rattle.std.proofs.lemmas.List.Elements.{All-nil, All-cons, All-head, All-tail}
-use Rattle.sj_pieces.proofs.Lists.{each-more, each-whole}
-use Rattle.sj_pieces.specs.Ranges.{AreBytes}
+use Rattle.sj_emit_expr_pieces.proofs.Lists.{each-more, each-whole}
+use Rattle.sj_emit_expr_pieces.specs.Ranges.{AreBytes}
 use Rattle.sj_trees.specs.declared.classes.ClassDef.{ClassDef}
 use Rattle.sj_world.specs.Known.{Classes, names_of}
 use Rattle.folder_linking.proofs.functions.class_names_fit.Goals as goal

@@ -1,6 +1,6 @@
 use Rattle.std.proofs.Common.{take}
 use Rattle.std.specs.Prelude.{All}
-use Rattle.sj_pieces.specs.Ranges.{AreBytes}
+use Rattle.sj_emit_expr_pieces.specs.Ranges.{AreBytes}
 use Rattle.folder_linking.proofs.functions.class_names_fit.Given as goal
 
 abbrev pub invariant-loop-class : goal.invariant-loop-class

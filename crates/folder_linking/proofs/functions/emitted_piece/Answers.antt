@@ -1,11 +1,11 @@
 use Rattle.std.proofs.Common.{◌≡◌, IfOk, subst, sym}
 use Rattle.js_tree.specs.Views.{piece_view}
 use Rattle.sj_core.specs.Terms.{Method}
-use Rattle.sj_emit_expr.specs.Members.{member_piece}
-use Rattle.sj_desugarer.specs.Methods.{method_desugared}
-use Rattle.sj_pieces.specs.Fits.{TargetsFit}
-use Rattle.sj_pieces.specs.Keys.{HasKeys}
-use Rattle.sj_pieces.specs.Owners.{FieldsHaveOwners}
+use Rattle.sj_emit_expr_spec.specs.Members.{member_piece}
+use Rattle.sj_desugar.specs.Methods.{method_desugared}
+use Rattle.sj_emit_expr_pieces.specs.Fits.{TargetsFit}
+use Rattle.sj_emit_expr_pieces.specs.Keys.{HasKeys}
+use Rattle.sj_emit_expr_pieces.specs.Owners.{FieldsHaveOwners}
 use Rattle.dispatch_laws.specs.Targets.{lookup_in}
 use Rattle.folder_linking.proofs.Emission.{targets_fit}
 use Rattle.folder_linking.proofs.Objects.{with_keys, with_owners}

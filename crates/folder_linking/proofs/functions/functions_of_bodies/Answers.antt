@@ -1,7 +1,7 @@
 use Rattle.std.proofs.Common.{◌∙◌, ap, map, subst, Contains}
 use Rattle.std.specs.Prelude.{All}
 use Rattle.folder_judging.specs.Counts.{members_of}
-use Rattle.sj_pieces.specs.Ranges.{AreBytes}
+use Rattle.sj_emit_expr_pieces.specs.Ranges.{AreBytes}
 use Rattle.sj_world.specs.Known.{Classes, names_of}
 use Rattle.sj_world.specs.Refusals.{IsInOrder}
 use Rattle.folder_linking.proofs.functions.functions_of_bodies.Goals as goal

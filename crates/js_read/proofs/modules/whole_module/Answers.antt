@@ -1,6 +1,6 @@
 use Rattle.std.proofs.Common.{map, sym, refl}
 use Rattle.std.proofs.lemmas.Result.{err_from_is_err_and}
-use Rattle.js_spelling.specs.Modules.{module_at}
+use Rattle.js_read_spec.specs.Modules.{module_at}
 use Rattle.js_tree.specs.Views.{item_view}
 use Rattle.js_read.specs.declared.modules.Reached.TheVariants as reached
 use Rattle.js_read.specs.Lines.{line_view}

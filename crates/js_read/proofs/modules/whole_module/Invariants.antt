@@ -1,5 +1,5 @@
 use Rattle.std.proofs.Common.{◌≡◌, ◌-◌}
-use Rattle.js_spelling.specs.Modules.{module_at}
+use Rattle.js_read_spec.specs.Modules.{module_at}
 use Rattle.js_read.specs.Fronts.{stage_of, module_onto}
 use Rattle.js_read.proofs.ModuleLoop.{finished, lines_left}
 use Rattle.js_read.proofs.modules.whole_module.Given as goal

@@ -1,6 +1,6 @@
 use Rattle.std.proofs.Common.{◌≡◌, ◌++◌, drop, map}
 use Rattle.js_tree.specs.Views.{property_view}
-use Rattle.helper_rules.specs.Helpers.{constants, marker_property}
+use Rattle.sj_emit_help_spec.specs.Helpers.{constants, marker_property}
 use Rattle.piece_making.proofs.markers.constants.Given as goal
 
 abbrev pub invariant-loop-ancestor : goal.invariant-loop-ancestor

@@ -1,5 +1,5 @@
 use Rattle.std.proofs.Common.{◌≡◌, ◌++◌}
-use Rattle.helper_rules.specs.Words.{first_parameters}
+use Rattle.sj_emit_help_spec.specs.Words.{first_parameters}
 use Rattle.piece_making.proofs.parameters.put_parameters.Given as goal
 
 abbrev pub invariant-loop-number : goal.invariant-loop-number

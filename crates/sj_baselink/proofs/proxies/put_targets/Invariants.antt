@@ -1,5 +1,5 @@
 use Rattle.std.proofs.Common.{◌≡◌}
-use Rattle.reach_rules.specs.Rules.{public_member}
+use Rattle.sj_reach_spec.specs.Rules.{public_member}
 use Rattle.sj_baselink.specs.Steps.{Puts, entry_for}
 use Rattle.sj_baselink.proofs.Putting.{OfFirst}
 use Rattle.sj_baselink.proofs.proxies.put_targets.Given as goal

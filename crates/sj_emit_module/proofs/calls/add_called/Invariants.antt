@@ -1,5 +1,5 @@
 use Rattle.std.proofs.Common.{◌≡◌, ◌++◌, map, take}
-use Rattle.module_rules.specs.Calls as calls
+use Rattle.sj_emit_module_spec.specs.Calls as calls
 use Rattle.sj_emit_module.proofs.calls.add_called.Given as goal
 
 abbrev pub invariant-loop-entry : goal.invariant-loop-entry

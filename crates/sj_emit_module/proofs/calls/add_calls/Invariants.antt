@@ -1,6 +1,6 @@
 use Rattle.std.proofs.Common.{◌≡◌, ◌++◌, map, take}
 use Rattle.js_tree.specs.Views.{item_view}
-use Rattle.module_rules.specs.Calls.{call_item_of}
+use Rattle.sj_emit_module_spec.specs.Calls.{call_item_of}
 use Rattle.sj_emit_module.proofs.calls.add_calls.Given as goal
 
 abbrev pub invariant-loop-entry : goal.invariant-loop-entry

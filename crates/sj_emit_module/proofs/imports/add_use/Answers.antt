@@ -1,6 +1,6 @@
 use Rattle.std.proofs.Common.{◌≡◌, ◌∙◌, ap, Some, sym}
 use Rattle.std.specs.Prelude.{not}
-use Rattle.module_rules.specs.Modules.{is_another}
+use Rattle.sj_emit_module_spec.specs.Modules.{is_another}
 use Rattle.sj_emit_module.specs.Files.{file_in}
 use Rattle.sj_emit_module.proofs.Held.{holds_one, holds_chosen}
 use Rattle.sj_emit_module.proofs.imports.add_use.Goals as goal

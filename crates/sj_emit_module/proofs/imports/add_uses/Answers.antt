@@ -1,7 +1,7 @@
 use Rattle.std.proofs.Common.{◌++◌, arith, filter, List, refl, take}
 use Rattle.std.proofs.lemmas.Option.{slice_get_read}
 use Rattle.js_tree.specs.declared.items.Binding.{Binding}
-use Rattle.module_rules.specs.Modules.{is_bound_elsewhere}
+use Rattle.sj_emit_module_spec.specs.Modules.{is_bound_elsewhere}
 use Rattle.sj_emit_module.specs.Files.{file_in}
 use Rattle.sj_emit_module.proofs.Added.{held_more, elsewhere_join}
 use Rattle.sj_emit_module.proofs.imports.add_uses.Goals as goal

@@ -1,6 +1,6 @@
 use Rattle.std.proofs.Common.{◌++◌, filter, List, take}
 use Rattle.js_tree.specs.declared.items.Binding.{Binding as Bound}
-use Rattle.module_rules.specs.Modules.{is_bound_elsewhere}
+use Rattle.sj_emit_module_spec.specs.Modules.{is_bound_elsewhere}
 use Rattle.sj_emit_module.specs.Files.{file_in}
 use Rattle.sj_emit_module.specs.Groups.{HoldNames}
 use Rattle.sj_emit_module.proofs.imports.add_uses.Given as goal

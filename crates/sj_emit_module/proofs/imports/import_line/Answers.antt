@@ -1,5 +1,5 @@
 use Rattle.std.proofs.Common.{◌∙◌}
-use Rattle.module_rules.specs.Modules.{names_in}
+use Rattle.sj_emit_module_spec.specs.Modules.{names_in}
 use Rattle.sj_emit_module.proofs.Held.{set_in_order}
 use Rattle.sj_emit_module.specs.Groups.{names_at}
 use Rattle.sj_emit_module.proofs.imports.import_line.Goals as goal

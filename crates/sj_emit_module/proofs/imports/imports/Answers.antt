@@ -1,7 +1,7 @@
 use Rattle.std.proofs.Common.{◌∙◌, [], ap, filter, List, map}
 use Rattle.std.proofs.lemmas.Result.{IfOk-weaker}
 use Rattle.js_tree.specs.declared.items.Binding.{Binding as Bound}
-use Rattle.module_rules.specs.Modules.{files_of, import_line, is_bound_elsewhere}
+use Rattle.sj_emit_module_spec.specs.Modules.{files_of, import_line, is_bound_elsewhere}
 use Rattle.sj_emit_module.specs.Files.{file_in}
 use Rattle.sj_emit_module.specs.Groups.{HoldNames}
 use Rattle.sj_emit_module.proofs.Held.{holds_none, set_in_order}

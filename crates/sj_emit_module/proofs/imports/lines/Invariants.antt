@@ -1,7 +1,7 @@
 use Rattle.std.proofs.Common.{◌≡◌, List, map, Option, take}
 use Rattle.js_tree.specs.Terms.{Name}
 use Rattle.js_tree.specs.declared.items.Binding.{Binding as Bound}
-use Rattle.module_rules.specs.Modules as rules
+use Rattle.sj_emit_module_spec.specs.Modules as rules
 use Rattle.sj_emit_module.specs.Groups.{HoldNames}
 use Rattle.sj_split.specs.Orders.{Bytes}
 use Rattle.sj_emit_module.proofs.imports.lines.Given as goal

@@ -2,7 +2,7 @@ use Rattle.std.proofs.Common.{ap, arith, filter, List, map, refl}
 use Rattle.std.proofs.lemmas.Option.{slice_get_read}
 use Rattle.js_tree.specs.Views.{item_view, piece_view}
 use Rattle.js_tree.specs.declared.items.JsPiece.{JsPiece}
-use Rattle.module_rules.specs.Modules.{is_owned_in, item_of}
+use Rattle.sj_emit_module_spec.specs.Modules.{is_owned_in, item_of}
 use Rattle.sj_emit_module.specs.Files.{file_in}
 use Rattle.sj_emit_module.proofs.Added.{pushed_more, items_join}
 use Rattle.sj_emit_module.proofs.items.items_by_file.Goals as goal

@@ -1,7 +1,7 @@
 use Rattle.std.proofs.Common.{◌≡◌, map, take}
 use Rattle.std.specs.Prelude.{filter}
 use Rattle.js_tree.specs.Views.{item_view, piece_view}
-use Rattle.module_rules.specs.Modules.{is_owned_in, item_of}
+use Rattle.sj_emit_module_spec.specs.Modules.{is_owned_in, item_of}
 use Rattle.sj_emit_module.specs.Files.{file_in}
 use Rattle.sj_emit_module.specs.Lists.{items_at}
 use Rattle.sj_split.specs.Orders.{Bytes}

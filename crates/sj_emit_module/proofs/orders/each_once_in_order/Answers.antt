@@ -3,7 +3,7 @@ use Rattle.std.proofs.lemmas.List.Filters.{dedup_is}
 use Rattle.std.proofs.lemmas.List.Kept.{IsStrictlySortedBy-dedup, Contains-dedup, Contains-from_dedup}
 use Rattle.std.proofs.lemmas.List.Sorted.{Contains-permutation, IsPermutation-sym}
 use Rattle.std.proofs.lemmas.Slice.Eq.{bytes_eq-Decides}
-use Rattle.module_rules.proofs.InOrder.{in_order_is}
+use Rattle.sj_emit_module_spec.proofs.InOrder.{in_order_is}
 use Rattle.sj_emit_module.proofs.orders.each_once_in_order.Goals as goal
 
 pub returns : goal.returns

@@ -2,7 +2,7 @@ use Rattle.std.proofs.Common.{◌++◌, append-nil, arith, List, refl, subst, sy
 use Rattle.std.specs.List.{flat_map}
 use Rattle.std.proofs.lemmas.Option.{slice_get_read}
 use Rattle.js_tree.specs.declared.items.Binding.{Binding}
-use Rattle.module_rules.specs.Modules.{called_in}
+use Rattle.sj_emit_module_spec.specs.Modules.{called_in}
 use Rattle.sj_emit_module.specs.Files.{file_in}
 use Rattle.sj_emit_module.specs.Groups.{HoldNames}
 use Rattle.sj_emit_module.specs.Lists.{items_at}

@@ -1,7 +1,7 @@
 use Rattle.std.proofs.Common.{◌≡◌, ◌++◌, List, take}
 use Rattle.std.specs.List.{flat_map}
 use Rattle.js_tree.specs.declared.items.Binding.{Binding as Bound}
-use Rattle.module_rules.specs.Modules.{called_in}
+use Rattle.sj_emit_module_spec.specs.Modules.{called_in}
 use Rattle.sj_emit_module.specs.Files.{file_in}
 use Rattle.sj_emit_module.specs.Groups.{HoldNames}
 use Rattle.sj_emit_module.specs.Lists.{items_at}

@@ -1,7 +1,7 @@
 use Rattle.std.proofs.Common.{◌++◌, filter, List, subst, sym}
 use Rattle.js_tree.specs.Views.{piece_view}
 use Rattle.js_tree.specs.declared.items.Binding.{Binding}
-use Rattle.module_rules.specs.Modules.{is_bound_elsewhere}
+use Rattle.sj_emit_module_spec.specs.Modules.{is_bound_elsewhere}
 use Rattle.sj_emit_module.specs.Files.{file_in}
 use Rattle.sj_emit_module.specs.Groups.{HoldNames}
 use Rattle.sj_emit_module.proofs.Put.{crossing_put, no_crossing}

@@ -1,6 +1,6 @@
 use Rattle.std.proofs.Common.{◌≡◌, ◌++◌, ◌∙◌, ap, map}
 use Rattle.std.specs.Prelude.{codes}
-use Rattle.module_rules.specs.Calls.{called}
+use Rattle.sj_emit_module_spec.specs.Calls.{called}
 use Rattle.sj_emit_module.specs.Files.{file_in}
 use Rattle.sj_emit_module.specs.Lists.{items_at}
 use Rattle.sj_emit_module.proofs.Put.{calls_put, calls_cross}

@@ -3,7 +3,7 @@ use Rattle.std.specs.List.{flat_map}
 use Rattle.std.proofs.lemmas.Option.{slice_get_read}
 use Rattle.js_tree.specs.Views.{piece_view}
 use Rattle.js_tree.specs.declared.items.JsPiece.{JsPiece}
-use Rattle.module_rules.specs.Modules.{is_owned_in, uses_of}
+use Rattle.sj_emit_module_spec.specs.Modules.{is_owned_in, uses_of}
 use Rattle.sj_emit_module.specs.Files.{file_in}
 use Rattle.sj_emit_module.proofs.Added.{pushed_more, uses_join}
 use Rattle.sj_emit_module.proofs.uses.uses_by_file.Goals as goal

@@ -2,7 +2,7 @@ use Rattle.std.proofs.Common.{◌≡◌, map, take}
 use Rattle.std.specs.Prelude.{filter}
 use Rattle.std.specs.List.{flat_map}
 use Rattle.js_tree.specs.Views.{piece_view}
-use Rattle.module_rules.specs.Modules.{is_owned_in, uses_of}
+use Rattle.sj_emit_module_spec.specs.Modules.{is_owned_in, uses_of}
 use Rattle.sj_emit_module.specs.Files.{file_in}
 use Rattle.sj_emit_module.specs.Lists.{items_at}
 use Rattle.sj_split.specs.Orders.{Bytes}

@@ -1,7 +1,7 @@
 use Rattle.std.proofs.Common.{◌≡◌, ◌∷◌, [], ◌++◌, List, length, refl, sym, ap, ◌∙◌, append-nil, arith}
 use Rattle.std.specs.Vec.Iter.{into_iter_items}
-use Rattle.sj_format.specs.declared.members.MemberDef.{MemberDef}
-use Rattle.sj_format.specs.Classes.{fields_in, methods_in}
+use Rattle.sj_read_spec.specs.declared.members.MemberDef.{MemberDef}
+use Rattle.sj_read_spec.specs.Classes.{fields_in, methods_in}
 use Rattle.sj_read.proofs.SortedLemmas.{fields_more, methods_more, nothing_left}
 use Rattle.sj_read.proofs.classes.sorted.Goals as goal
 

@@ -1,6 +1,6 @@
 use Rattle.std.proofs.Common.{◌≡◌, ◌++◌, length}
 use Rattle.std.specs.Vec.Iter.{into_iter_items, into_iter_len}
-use Rattle.sj_format.specs.Classes.{fields_in, methods_in}
+use Rattle.sj_read_spec.specs.Classes.{fields_in, methods_in}
 use Rattle.sj_read.proofs.classes.sorted.Given as goal
 
 abbrev pub invariant-loop-member : goal.invariant-loop-member

@@ -1,6 +1,6 @@
 use Rattle.std.proofs.Common.{◌≡◌, Err}
-use Rattle.sj_format.specs.Files.{file_of}
-use Rattle.sj_format.proofs.ExactAnswers.{reads_class, reads_failure}
+use Rattle.sj_read_spec.specs.Files.{file_of}
+use Rattle.sj_read_spec.proofs.ExactAnswers.{reads_class, reads_failure}
 use Rattle.sj_read.proofs.files.read_class.Goals as goal
 
 pub returns-in-Ok-clause-answer : goal.returns-in-Ok-clause-answer

@@ -1,7 +1,7 @@
 use Rattle.std.proofs.Common.{◌≡◌, ◌++◌, ◌∷◌, [], map}
 use Rattle.std.proofs.lemmas.Result.{err_from_is_err_and}
 use Rattle.std.proofs.lemmas.List.{map_push}
-use Rattle.sj_format.specs.Reading.{many_at}
+use Rattle.sj_read_spec.specs.Reading.{many_at}
 use Rattle.sj_read.proofs.ManyLemmas.{goes_on, ends, is_done}
 use Rattle.sj_read.proofs.items.many.Goals as goal
 

@@ -1,5 +1,5 @@
 use Rattle.std.proofs.Common.{◌≡◌, ◌-◌, map}
-use Rattle.sj_format.specs.Reading.{many_at}
+use Rattle.sj_read_spec.specs.Reading.{many_at}
 use Rattle.sj_read.proofs.ManyLemmas.{with_front}
 use Rattle.sj_read.proofs.items.many.Given as goal
 

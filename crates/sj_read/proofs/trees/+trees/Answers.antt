@@ -2,8 +2,8 @@ use Rattle.std.proofs.Common.{◌≡◌, ◌++◌, ◌∷◌, [], map}
 use Rattle.std.proofs.lemmas.Result.{err_from_is_err_and}
 use Rattle.std.proofs.lemmas.List.{map_push}
 use Rattle.sj_trees.specs.View.{view, view_case}
-use Rattle.sj_format.specs.Reading.{many_at}
-use Rattle.sj_format.specs.Trees.{tree_at, case_at}
+use Rattle.sj_read_spec.specs.Reading.{many_at}
+use Rattle.sj_read_spec.specs.Trees.{tree_at, case_at}
 use Rattle.sj_trees.specs.declared.forms.Form.TheVariants.{Leaf, Statement, Branch, Call, Operation}
 use Rattle.sj_read.proofs.ManyLemmas.{goes_on, ends, is_done}
 use Rattle.sj_read.proofs.TreeLemmas.{tag_stops, position_stops, form_found}

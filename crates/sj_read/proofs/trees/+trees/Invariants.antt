@@ -1,7 +1,7 @@
 use Rattle.std.proofs.Common.{◌≡◌, ◌-◌, ◌*◌, ◌+◌, map}
 use Rattle.sj_trees.specs.View.{view, view_case}
-use Rattle.sj_format.specs.Reading.{many_at}
-use Rattle.sj_format.specs.Trees.{tree_at, case_at}
+use Rattle.sj_read_spec.specs.Reading.{many_at}
+use Rattle.sj_read_spec.specs.Trees.{tree_at, case_at}
 use Rattle.sj_read.proofs.ManyLemmas.{with_front}
 use Rattle.sj_read.proofs.trees.+trees.Given as goal
 

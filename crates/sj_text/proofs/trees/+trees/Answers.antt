@@ -3,7 +3,7 @@ use Rattle.std.proofs.lemmas.Result.{err_from_is_err_and}
 use Rattle.std.proofs.lemmas.List.{map_push}
 use Rattle.exact_place.specs.Reading.{lead_at, list_at}
 use Rattle.sj_trees.specs.View.{view, view_case}
-use Rattle.listing_spelling.specs.Reading.{tree_at, case_at}
+use Rattle.sj_text_spec.specs.Reading.{tree_at, case_at}
 use Rattle.text_scan.proofs.Loops.{list_goes, list_fails, list_stops, list_out}
 use Rattle.sj_text.proofs.TreeSteps.{tree_none, tree_level_read}
 use Rattle.sj_text.proofs.trees.+trees.Goals as goal

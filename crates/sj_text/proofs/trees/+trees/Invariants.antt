@@ -1,6 +1,6 @@
 use Rattle.std.proofs.Common.{◌≡◌, ◌-◌, ◌*◌, ◌+◌, map, eqb, codes}
 use Rattle.exact_place.specs.Reading.{list_at, lead_at}
-use Rattle.listing_spelling.specs.Reading.{tree_at, case_at}
+use Rattle.sj_text_spec.specs.Reading.{tree_at, case_at}
 use Rattle.sj_trees.specs.View.{view, view_case}
 use Rattle.text_scan.proofs.Loops.{with_front}
 use Rattle.sj_text.proofs.trees.+trees.Given as goal

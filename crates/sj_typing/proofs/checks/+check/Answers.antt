@@ -8,9 +8,9 @@ use Rattle.sj_trees.specs.declared.trees.Tree.TheOpen.{Tree-F}
 use Rattle.sj_trees.specs.declared.trees.Tree.TheFolds.{fold-roll-Tree}
 use Rattle.sj_trees.specs.declared.trees.Tree.TheVariants as tree
 use Rattle.sj_ask.specs.Answers.{IsAnswer}
-use Rattle.typing_rules.proofs.Steps.{as_both, as_both_stop, as_met, as_met_stop, seen-behind, seen-numbered}
-use Rattle.typing_rules.proofs.Leaves.{at_leaf}
-use Rattle.typing_rules.proofs.Loops.{terms-dropped, cases-dropped, terms-ended, cases-ended, all_next, cases_next, all_on, all_no, all_end, cases_on, cases_no, cases_end}
+use Rattle.sj_typing_spec.proofs.Steps.{as_both, as_both_stop, as_met, as_met_stop, seen-behind, seen-numbered}
+use Rattle.sj_typing_spec.proofs.Leaves.{at_leaf}
+use Rattle.sj_typing_spec.proofs.Loops.{terms-dropped, cases-dropped, terms-ended, cases-ended, all_next, cases_next, all_on, all_no, all_end, cases_on, cases_no, cases_end}
 use Rattle.sj_typing.proofs.checks.+check.Goals as goal
 
 pub check_parts-returns-in-VarDef-clause-ran : goal.check_parts-returns-in-VarDef-clause-ran

@@ -4,8 +4,8 @@ use Rattle.sj_ask.specs.declared.errors.TypeError.{TypeError}
 use Rattle.sj_ask.specs.Answers.{IsAnswer}
 use Rattle.sj_ask.specs.Sizes.{counted_all, counted_cases}
 use Rattle.sj_ask.specs.Told.{Told}
-use Rattle.typing_rules.specs.Checks.{all_of, cases_of}
-use Rattle.typing_rules.specs.Answered.{AsRun}
+use Rattle.sj_typing_spec.specs.Checks.{all_of, cases_of}
+use Rattle.sj_typing_spec.specs.Answered.{AsRun}
 use Rattle.sj_typing.proofs.checks.+check.Given as goal
 
 abbrev pub invariant-check_all-loop-each : goal.invariant-check_all-loop-each

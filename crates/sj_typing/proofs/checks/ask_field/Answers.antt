@@ -1,7 +1,7 @@
 use Rattle.std.proofs.Common.{true}
 use Rattle.sj_ask.specs.Answers.{IsAnswer}
-use Rattle.typing_rules.specs.Checks.{judge_field}
-use Rattle.typing_rules.proofs.Steps.{as_done, as_found, as_judged}
+use Rattle.sj_typing_spec.specs.Checks.{judge_field}
+use Rattle.sj_typing_spec.proofs.Steps.{as_done, as_found, as_judged}
 use Rattle.sj_typing.proofs.checks.ask_field.Goals as goal
 
 pub returns-in_ok-found-in-Some-clause-ran : goal.returns-in_ok-found-in-Some-clause-ran

@@ -1,6 +1,6 @@
 use Rattle.std.proofs.Common.{◌∙◌, refl, arith}
 use Rattle.sj_ask.specs.Answers.{IsAnswer}
-use Rattle.typing_rules.proofs.Loops.{fits_on, fits_no, fits_end}
+use Rattle.sj_typing_spec.proofs.Loops.{fits_on, fits_no, fits_end}
 use Rattle.sj_typing.proofs.checks.ask_fits.Goals as goal
 
 pub loop-fit-init : goal.loop-fit-init

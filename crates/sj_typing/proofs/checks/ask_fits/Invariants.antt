@@ -2,8 +2,8 @@ use Rattle.std.proofs.Common.{◌≡◌, Bool, Result, drop}
 use Rattle.sj_ask.specs.declared.errors.TypeError.{TypeError}
 use Rattle.sj_ask.specs.Answers.{IsAnswer}
 use Rattle.sj_ask.specs.Told.{Told}
-use Rattle.typing_rules.specs.Checks.{ask_fits}
-use Rattle.typing_rules.specs.Answered.{AsRun}
+use Rattle.sj_typing_spec.specs.Checks.{ask_fits}
+use Rattle.sj_typing_spec.specs.Answered.{AsRun}
 use Rattle.sj_typing.proofs.checks.ask_fits.Given as goal
 
 abbrev pub invariant-loop-fit : goal.invariant-loop-fit

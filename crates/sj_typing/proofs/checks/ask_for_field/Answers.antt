@@ -1,5 +1,5 @@
 use Rattle.sj_ask.specs.Answers.{IsAnswer}
-use Rattle.typing_rules.proofs.Steps.{ran_field}
+use Rattle.sj_typing_spec.proofs.Steps.{ran_field}
 use Rattle.sj_typing.proofs.checks.ask_for_field.Goals as goal
 
 pub returns-clause-ran : goal.returns-clause-ran

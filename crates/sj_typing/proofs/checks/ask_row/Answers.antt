@@ -1,6 +1,6 @@
 use Rattle.std.proofs.lemmas.Result.{err_from_is_err_and}
 use Rattle.sj_ask.specs.Answers.{IsAnswer}
-use Rattle.typing_rules.proofs.Steps.{as_row, as_row_no, as_then, as_then_stop}
+use Rattle.sj_typing_spec.proofs.Steps.{as_row, as_row_no, as_then, as_then_stop}
 use Rattle.sj_typing.proofs.checks.ask_row.Goals as goal
 
 pub returns-then-not-row-clause-ran : goal.returns-then-not-row-clause-ran

@@ -1,6 +1,6 @@
 use Rattle.std.proofs.Common.{◌≡◌, ◌++◌, drop}
 use Rattle.sj_trees.specs.View.{terms_view}
-use Rattle.typing_rules.specs.Rows.{all_fit}
+use Rattle.sj_typing_spec.specs.Rows.{all_fit}
 use Rattle.sj_typing.proofs.fits.add_all.Given as goal
 
 abbrev pub invariant-loop-each : goal.invariant-loop-each

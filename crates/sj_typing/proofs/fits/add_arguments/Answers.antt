@@ -1,5 +1,5 @@
 use Rattle.std.proofs.Common.{arith}
-use Rattle.typing_rules.proofs.Arguments.{arguments_end}
+use Rattle.sj_typing_spec.proofs.Arguments.{arguments_end}
 use Rattle.sj_typing.proofs.fits.add_arguments.Goals as goal
 
 pub returns : goal.returns

@@ -1,6 +1,6 @@
 use Rattle.std.proofs.Common.{◌≡◌, ◌++◌, drop}
 use Rattle.sj_trees.specs.View.{terms_view}
-use Rattle.typing_rules.specs.Rows.{arguments_fit}
+use Rattle.sj_typing_spec.specs.Rows.{arguments_fit}
 use Rattle.sj_typing.proofs.fits.add_arguments.Given as goal
 
 abbrev pub invariant-loop-i : goal.invariant-loop-i

@@ -1,6 +1,6 @@
 use Rattle.std.proofs.Common.{◌≡◌, ◌++◌, drop}
 use Rattle.sj_trees.specs.View.{cases_view}
-use Rattle.typing_rules.specs.Rows.{cases_yield}
+use Rattle.sj_typing_spec.specs.Rows.{cases_yield}
 use Rattle.sj_typing.proofs.fits.add_cases.Given as goal
 
 abbrev pub invariant-loop-each : goal.invariant-loop-each

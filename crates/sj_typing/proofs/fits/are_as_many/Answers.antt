@@ -1,4 +1,4 @@
-use Rattle.typing_rules.proofs.Arguments.{as_many}
+use Rattle.sj_typing_spec.proofs.Arguments.{as_many}
 use Rattle.sj_typing.proofs.fits.are_as_many.Goals as goal
 
 pub returns : goal.returns

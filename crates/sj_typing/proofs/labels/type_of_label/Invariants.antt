@@ -1,6 +1,6 @@
 use Rattle.std.proofs.Common.{◌≡◌, drop}
 use Rattle.std.specs.Prelude.{option_map}
-use Rattle.typing_rules.specs.Labels.{label_type, type_of_label}
+use Rattle.sj_typing_spec.specs.Labels.{label_type, type_of_label}
 use Rattle.sj_typing.proofs.labels.type_of_label.Given as goal
 
 abbrev pub invariant-loop-label : goal.invariant-loop-label

@@ -1,6 +1,6 @@
 use Rattle.std.proofs.lemmas.Result.{err_from_is_err_and}
 use Rattle.sj_ask.specs.Answers.{IsAnswer}
-use Rattle.typing_rules.proofs.Steps.{as_body, as_then, as_then_stop}
+use Rattle.sj_typing_spec.proofs.Steps.{as_body, as_then, as_then_stop}
 use Rattle.sj_typing.proofs.methods.check_body.Goals as goal
 
 pub returns-in_err-check-clause-told : goal.returns-in_err-check-clause-told

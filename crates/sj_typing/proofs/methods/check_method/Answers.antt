@@ -1,4 +1,4 @@
-use Rattle.typing_rules.proofs.Verdicts.{verdict}
+use Rattle.sj_typing_spec.proofs.Verdicts.{verdict}
 use Rattle.sj_typing.proofs.methods.check_method.Goals as goal
 
 pub returns-in-Some-clause-verdict : goal.returns-in-Some-clause-verdict

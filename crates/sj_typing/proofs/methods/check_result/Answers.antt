@@ -1,6 +1,6 @@
 use Rattle.std.proofs.Common.{true}
 use Rattle.sj_ask.specs.Answers.{IsAnswer}
-use Rattle.typing_rules.proofs.Steps.{as_done, wanted-is}
+use Rattle.sj_typing_spec.proofs.Steps.{as_done, wanted-is}
 use Rattle.sj_typing.proofs.methods.check_result.Goals as goal
 
 pub returns-in-NoType-clause-told : goal.returns-in-NoType-clause-told

@@ -1,6 +1,6 @@
 use Rattle.std.proofs.Common.{true, false, Err}
 use Rattle.sj_ask.specs.Answers.{IsAnswer}
-use Rattle.typing_rules.proofs.Steps.{as_done, as_ended, as_asked}
+use Rattle.sj_typing_spec.proofs.Steps.{as_done, as_ended, as_asked}
 use Rattle.sj_typing.proofs.methods.check_yield.Goals as goal
 
 pub returns-then-branch-clause-told : goal.returns-then-branch-clause-told

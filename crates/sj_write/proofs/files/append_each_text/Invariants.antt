@@ -1,6 +1,6 @@
 use Rattle.std.proofs.Common.{◌≡◌, ◌++◌, drop}
 use Rattle.std.specs.List.{flat_map}
-use Rattle.sj_written.specs.Written.{counted_bytes}
+use Rattle.sj_write_spec.specs.Written.{counted_bytes}
 use Rattle.sj_write.proofs.files.append_each_text.Given as goal
 
 abbrev pub invariant-loop-each : goal.invariant-loop-each

@@ -1,4 +1,4 @@
-use Rattle.file_listings.proofs.ListedClasses.{file_is_listed}
+use Rattle.sj_text_files.proofs.ListedClasses.{file_is_listed}
 use Rattle.sjsir.proofs.Files.{tests_text}
 use Rattle.sjsir.proofs.making.is_file_of.Goals as goal
 

@@ -1,5 +1,5 @@
 use Rattle.std.proofs.Common.{◌∙◌}
-use Rattle.file_listings.proofs.MadeFiles.{listed_names_its_files}
+use Rattle.sj_text_files.proofs.MadeFiles.{listed_names_its_files}
 use Rattle.sjsir.proofs.Files.{never_made, not_its, why_not}
 use Rattle.sjsir.proofs.making.made_of_shallow.Goals as goal
 

@@ -1,6 +1,6 @@
 use Rattle.std.proofs.Common.{◌∙◌, ap}
 use Rattle.std.specs.Vec.{vec_items}
-use Rattle.file_listings.proofs.ListedClasses.{file_is_listed}
+use Rattle.sj_text_files.proofs.ListedClasses.{file_is_listed}
 use Rattle.sjsir.proofs.Files.{listed_line, refused_line, fails_of}
 use Rattle.sjsir.proofs.printing.file_line.Goals as goal
 

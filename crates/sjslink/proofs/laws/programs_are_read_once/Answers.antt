@@ -1,4 +1,4 @@
-use Rattle.js_spelling.proofs.WholeModules.{one_module}
+use Rattle.js_read_spec.proofs.WholeModules.{one_module}
 use Rattle.sj_agree.proofs.Reading.{read_once}
 use Rattle.sjslink.proofs.laws.programs_are_read_once.Goals as goal
 

@@ -1,6 +1,6 @@
 use Rattle.std.proofs.Common.{ℕ, List, sym, ap, ◌∙◌, map, arith}
 use Rattle.exact_place.specs.Tokens.{begins_entry, is_front}
-use Rattle.js_spelling.specs.Words.{entry}
+use Rattle.js_read_spec.specs.Words.{entry}
 use Rattle.text_scan.proofs.TableWords.{begins_goes, begins_here, begins_out}
 use Rattle.text_scan.proofs.tables.begins_word.Goals as goal
 

@@ -1,6 +1,6 @@
 use Rattle.std.proofs.Common.{◌≡◌, map, drop}
 use Rattle.exact_place.specs.Tokens.{begins_entry}
-use Rattle.js_spelling.specs.Words.{entry}
+use Rattle.js_read_spec.specs.Words.{entry}
 use Rattle.text_scan.proofs.tables.begins_word.Given as goal
 
 abbrev pub invariant-loop-line : goal.invariant-loop-line

@@ -1,6 +1,6 @@
 use Rattle.std.proofs.Common.{ℕ, List, sym, ap, ◌∙◌, map, arith}
 use Rattle.exact_place.specs.Tokens.{entry_of, is_text}
-use Rattle.js_spelling.specs.Words.{entry}
+use Rattle.js_read_spec.specs.Words.{entry}
 use Rattle.text_scan.proofs.TableWords.{word_goes, word_here, word_out}
 use Rattle.text_scan.proofs.tables.value_of.Goals as goal
 

@@ -1,6 +1,6 @@
 use Rattle.std.proofs.Common.{◌≡◌, map, drop}
 use Rattle.exact_place.specs.Tokens.{entry_of}
-use Rattle.js_spelling.specs.Words.{entry}
+use Rattle.js_read_spec.specs.Words.{entry}
 use Rattle.text_scan.proofs.tables.value_of.Given as goal
 
 abbrev pub invariant-loop-line : goal.invariant-loop-line

@@ -1,6 +1,6 @@
 use Rattle.std.proofs.Common.{◌≡◌, take, true, map}
 use Rattle.exact_place.specs.Tokens.{begins_entry}
-use Rattle.js_spelling.specs.Words.{entry}
+use Rattle.js_read_spec.specs.Words.{entry}
 use Rattle.text_scan.proofs.tables.word_length.Given as goal
 
 abbrev pub invariant-loop-i : goal.invariant-loop-i

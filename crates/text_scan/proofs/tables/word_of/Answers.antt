@@ -1,5 +1,5 @@
 use Rattle.std.proofs.Common.{sym, ◌∙◌, map}
-use Rattle.js_spelling.specs.Words.{entry}
+use Rattle.js_read_spec.specs.Words.{entry}
 use Rattle.text_scan.proofs.TableWords.{word_read, word_missed}
 use Rattle.text_scan.proofs.tables.word_of.Goals as goal
 

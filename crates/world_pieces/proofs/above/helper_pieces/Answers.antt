@@ -1,5 +1,5 @@
-use Rattle.helper_rules.specs.declared.kinds.Helper.{Helper}
-use Rattle.helper_rules.specs.declared.kinds.Kind.{Kind}
+use Rattle.sj_emit_help_spec.specs.declared.kinds.Helper.{Helper}
+use Rattle.sj_emit_help_spec.specs.declared.kinds.Kind.{Kind}
 use Rattle.world_pieces.specs.Above.{above_of}
 use Rattle.world_pieces.proofs.Kept.{one_helper, one_keeps}
 use Rattle.world_pieces.proofs.above.helper_pieces.Goals as goal

@@ -1,6 +1,6 @@
 use Rattle.std.proofs.Common.{◌≡◌, take, map}
 use Rattle.std.specs.Prelude.{All}
-use Rattle.helper_rules.specs.Helpers.{helper_piece}
+use Rattle.sj_emit_help_spec.specs.Helpers.{helper_piece}
 use Rattle.js_tree.specs.Rules.{IsPiece}
 use Rattle.js_tree.specs.Views.{piece_view}
 use Rattle.world_pieces.specs.Above.{above_of}

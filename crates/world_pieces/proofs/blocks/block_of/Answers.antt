@@ -1,6 +1,6 @@
 use Rattle.std.proofs.Common.{map, subst, sym}
 use Rattle.js_tree.specs.Views.{piece_view}
-use Rattle.piece_rules.specs.Classes.{AreClassPieces}
+use Rattle.sj_emit_class_spec.specs.Classes.{AreClassPieces}
 use Rattle.sj_world.specs.Known.{Name}
 use Rattle.world_pieces.proofs.blocks.block_of.Goals as goal
 

@@ -2,8 +2,8 @@ use Rattle.std.proofs.Common.{◌≤◌, List, [], Contains, get_or, length, sub
 use Rattle.std.proofs.lemmas.Option.{slice_get-get_or}
 use Rattle.sj_baselink.specs.Steps.{Puts}
 use Rattle.sj_baselink.proofs.Putting.{OfFirst, begins_empty, each_goes_on}
-use Rattle.helper_rules.specs.declared.kinds.Helper.{Helper}
-use Rattle.helper_rules.specs.declared.kinds.Kind.{Kind}
+use Rattle.sj_emit_help_spec.specs.declared.kinds.Helper.{Helper}
+use Rattle.sj_emit_help_spec.specs.declared.kinds.Kind.{Kind}
 use Rattle.world_pieces.specs.Helpers.{IsNamed}
 use Rattle.world_pieces.proofs.UsedWords.{named_helpers}
 use Rattle.world_pieces.proofs.helpers.helpers_named.Goals as goal

@@ -1,5 +1,5 @@
 use Rattle.std.proofs.Common.{◌∙◌}
-use Rattle.helper_rules.specs.Helpers.{helper_name}
+use Rattle.sj_emit_help_spec.specs.Helpers.{helper_name}
 use Rattle.world_pieces.proofs.UsedWords.{word_among}
 use Rattle.world_pieces.proofs.helpers.is_named.Goals as goal
 

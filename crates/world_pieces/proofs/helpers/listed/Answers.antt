@@ -1,7 +1,7 @@
 use Rattle.std.proofs.Common.{◌∙◌, ap, get_or, sym}
 use Rattle.std.proofs.lemmas.Option.{slice_get-get_or}
-use Rattle.helper_rules.specs.declared.kinds.Helper.{Helper}
-use Rattle.helper_rules.specs.declared.kinds.Kind.{Kind}
+use Rattle.sj_emit_help_spec.specs.declared.kinds.Helper.{Helper}
+use Rattle.sj_emit_help_spec.specs.declared.kinds.Kind.{Kind}
 use Rattle.world_pieces.specs.Helpers.{is_found}
 use Rattle.world_pieces.proofs.Used.{all_listed, one_listed, one_left_out}
 use Rattle.world_pieces.proofs.helpers.listed.Goals as goal

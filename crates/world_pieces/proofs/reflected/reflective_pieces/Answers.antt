@@ -1,6 +1,6 @@
 use Rattle.std.proofs.Common.{List, map, subst}
 use Rattle.js_tree.specs.Views.{piece_view}
-use Rattle.piece_rules.specs.Dispatch.{IsReflectivePiece}
+use Rattle.sj_emit_class_spec.specs.Dispatch.{IsReflectivePiece}
 use Rattle.sj_mangling.specs.declared.bindings.MethodBinding.TheVariants.{Reflective}
 use Rattle.sj_names.specs.declared.method_names.MethodName.{MethodName}
 use Rattle.world_pieces.specs.Told.{AreTheirs}

@@ -1,7 +1,7 @@
 use Rattle.std.proofs.Common.{List, Contains, map, subst, sym}
 use Rattle.std.specs.Prelude.{◌↔◌}
 use Rattle.js_tree.specs.Views.{piece_view}
-use Rattle.piece_rules.specs.Dispatch.{IsDispatchPiece}
+use Rattle.sj_emit_class_spec.specs.Dispatch.{IsDispatchPiece}
 use Rattle.sj_baselink.specs.Steps.{OfOne}
 use Rattle.sj_mangling.specs.declared.bindings.MethodBinding.TheVariants.{Dispatch}
 use Rattle.sj_names.specs.declared.method_names.MethodName.{MethodName}

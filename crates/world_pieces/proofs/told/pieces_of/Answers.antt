@@ -6,7 +6,7 @@ use Rattle.std.proofs.lemmas.Option.{slice_get_read}
 use Rattle.js_tree.specs.Rules.{IsPiece}
 use Rattle.js_tree.specs.Views.{piece_view}
 use Rattle.js_tree.specs.declared.items.JsPiece.{JsPiece}
-use Rattle.piece_rules.specs.Dispatch.{IsDispatchPiece}
+use Rattle.sj_emit_class_spec.specs.Dispatch.{IsDispatchPiece}
 use Rattle.sj_mangling.specs.declared.bindings.MethodBinding.TheVariants.{Dispatch}
 use Rattle.sj_names.specs.declared.method_names.MethodName.{MethodName}
 use Rattle.world_pieces.specs.Told.{AreTheirs}

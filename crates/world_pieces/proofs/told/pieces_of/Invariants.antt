@@ -2,7 +2,7 @@ use Rattle.std.proofs.Common.{take, map}
 use Rattle.std.specs.Prelude.{All}
 use Rattle.js_tree.specs.Rules.{IsPiece}
 use Rattle.js_tree.specs.Views.{piece_view}
-use Rattle.piece_rules.specs.Dispatch.{IsDispatchPiece}
+use Rattle.sj_emit_class_spec.specs.Dispatch.{IsDispatchPiece}
 use Rattle.sj_mangling.specs.declared.bindings.MethodBinding.TheVariants.{Dispatch}
 use Rattle.world_pieces.specs.Told.{AreTheirs}
 use Rattle.world_pieces.proofs.told.pieces_of.Given as goal

@@ -1,5 +1,5 @@
 use Rattle.std.proofs.Common.{◌∙◌, sym}
-use Rattle.helper_rules.specs.Words.{object_class}
+use Rattle.sj_emit_help_spec.specs.Words.{object_class}
 use Rattle.sj_baselink.proofs.Putting.{puts_key}
 use Rattle.sj_world.proofs.Orders.{same_name}
 use Rattle.sj_world.specs.Known.{is_same}

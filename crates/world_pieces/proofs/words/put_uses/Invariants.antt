@@ -1,5 +1,5 @@
 use Rattle.std.proofs.Common.{◌≡◌}
-use Rattle.helper_rules.specs.Words.{helper}
+use Rattle.sj_emit_help_spec.specs.Words.{helper}
 use Rattle.sj_baselink.specs.Steps.{Puts}
 use Rattle.sj_baselink.proofs.Putting.{OfFirst}
 use Rattle.world_pieces.proofs.words.put_uses.Given as goal

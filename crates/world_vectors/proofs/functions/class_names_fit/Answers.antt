@@ -1,5 +1,5 @@
-use Rattle.sj_pieces.proofs.Lists.{each-more, each-whole}
-use Rattle.sj_pieces.specs.Ranges.{AreBytes}
+use Rattle.sj_emit_expr_pieces.proofs.Lists.{each-more, each-whole}
+use Rattle.sj_emit_expr_pieces.specs.Ranges.{AreBytes}
 use Rattle.sj_trees.specs.declared.classes.ClassDef.{ClassDef}
 use Rattle.world_vectors.proofs.functions.class_names_fit.Goals as goal
 

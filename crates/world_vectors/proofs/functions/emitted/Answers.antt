@@ -1,8 +1,8 @@
 use Rattle.std.proofs.Common.{Option, Some, None, subst, sym}
-use Rattle.sj_desugar.specs.Desugar.{desugared_member}
-use Rattle.sj_desugarer.specs.Methods.{desugared_with}
-use Rattle.sj_pieces.specs.Keys.{HasKeys}
-use Rattle.sj_pieces.specs.Owners.{OnObjects, BodyOnObjects, FieldsHaveOwners}
+use Rattle.sj_desugar_spec.specs.Desugar.{desugared_member}
+use Rattle.sj_desugar.specs.Methods.{desugared_with}
+use Rattle.sj_emit_expr_pieces.specs.Keys.{HasKeys}
+use Rattle.sj_emit_expr_pieces.specs.Owners.{OnObjects, BodyOnObjects, FieldsHaveOwners}
 use Rattle.sj_trees.specs.Term.{Term}
 use Rattle.sj_trees.specs.declared.classes.MethodDef.{MethodDef}
 use Rattle.world_vectors.proofs.functions.emitted.Goals as goal

@@ -1,5 +1,5 @@
 use Rattle.std.proofs.Common.{◌+◌, ◌*◌, drop}
-use Rattle.sj_pieces.specs.Owners.{AllOnObjects, CasesOnObjects}
+use Rattle.sj_emit_expr_pieces.specs.Owners.{AllOnObjects, CasesOnObjects}
 use Rattle.sj_trees.specs.View.{view, terms_view, cases_view}
 use Rattle.tree_parts.specs.Sizes.{size, size_of_all, size_of_cases}
 use Rattle.world_vectors.proofs.objects.+objects.Given as goal

@@ -1,6 +1,6 @@
 use Rattle.std.proofs.Common.{◌≡◌, take}
 use Rattle.js_tree.specs.Terms.{Name}
-use Rattle.module_rules.specs.Modules.{file_with}
+use Rattle.sj_emit_module_spec.specs.Modules.{file_with}
 use Rattle.sj_emit_module.specs.Files.{file_in}
 use Rattle.sj_emit_module.proofs.files.ClassFiles.of.Given as goal
 

@@ -3,8 +3,8 @@ use Rattle.std.specs.List.{flat_map}
 use Rattle.js_tree.specs.Terms.{Name, Piece}
 use Rattle.js_tree.specs.Views.{piece_view}
 use Rattle.js_tree.specs.declared.items.Binding.{Binding as Bound}
-use Rattle.module_rules.specs.Modules.{file_with, called_in, called_elsewhere, uses_of, item_of, name_of, is_owned_in, exported, names_in}
-use Rattle.module_rules.specs.Order.{each_once_in_order}
+use Rattle.sj_emit_module_spec.specs.Modules.{file_with, called_in, called_elsewhere, uses_of, item_of, name_of, is_owned_in, exported, names_in}
+use Rattle.sj_emit_module_spec.specs.Order.{each_once_in_order}
 use Rattle.sj_emit_module.specs.Files.{file_in}
 use Rattle.sj_emit_module.specs.Groups.{HoldNames, names_at}
 use Rattle.sj_emit_module.specs.Shares.{crossing, crossing_calls}

@@ -2,8 +2,8 @@ use Rattle.std.proofs.Common.{◌≡◌, ◌∙◌, ◌+◌, ℕ, ℤ, List, OnO
 use Rattle.sj_trees.specs.Forms.{form_code}
 use Rattle.sj_trees.specs.Term.{Cases}
 use Rattle.sj_trees.specs.View.{view, cases_view}
-use Rattle.sj_written.specs.Fields.{byte}
-use Rattle.sj_written.specs.Trees.{term_fields, keys_fields, each_case}
+use Rattle.sj_write_spec.specs.Fields.{byte}
+use Rattle.sj_write_spec.specs.Trees.{term_fields, keys_fields, each_case}
 use Rattle.sj_write.specs.TreeFields.{fields_written}
 use Rattle.sj_write.specs.Writing.{Writing, put}
 use Rattle.sj_write.proofs.TreeFields.{term_by_fields, tree_has_files, case_has_files, other_cases_have_files, field_has_files}

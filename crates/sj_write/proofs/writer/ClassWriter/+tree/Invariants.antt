@@ -1,7 +1,7 @@
 use Rattle.std.proofs.Common.{◌≡◌, drop, map, ◌+◌, ◌*◌}
 use Rattle.sj_trees.specs.View.{view, terms_view, cases_view}
-use Rattle.sj_written.specs.Fields.{HasFiles}
-use Rattle.sj_written.specs.Trees.{each_term, each_case}
+use Rattle.sj_write_spec.specs.Fields.{HasFiles}
+use Rattle.sj_write_spec.specs.Trees.{each_term, each_case}
 use Rattle.sj_write.specs.TreeFields.{fields_written}
 use Rattle.sj_write.specs.Writing.{put}
 use Rattle.tree_fields.specs.Fields.{field_seen, size_of_field, size_of_fields}

@@ -1,6 +1,6 @@
 use Rattle.std.proofs.Common.{◌≡◌, drop}
 use Rattle.std.specs.List.{flat_map}
-use Rattle.sj_written.specs.References.{names_in_reference}
+use Rattle.sj_write_spec.specs.References.{names_in_reference}
 use Rattle.sj_write.specs.Writing.{all_entered}
 use Rattle.sj_write.proofs.writer.ClassWriter.enter_parameters.Given as goal
 

@@ -1,5 +1,5 @@
 use Rattle.std.proofs.Common.{◌≡◌, drop}
-use Rattle.sj_written.specs.Fields.{each, name_field}
+use Rattle.sj_write_spec.specs.Fields.{each, name_field}
 use Rattle.sj_write.specs.Writing.{put}
 use Rattle.sj_write.proofs.writer.ClassWriter.interfaces.Given as goal
 

@@ -1,6 +1,6 @@
 use Rattle.std.proofs.Common.{◌≡◌, drop}
 use Rattle.std.specs.Int.{w32}
-use Rattle.sj_written.specs.Fields.{each, signed}
+use Rattle.sj_write_spec.specs.Fields.{each, signed}
 use Rattle.sj_write.specs.Writing.{put}
 use Rattle.sj_write.proofs.writer.ClassWriter.keys.Given as goal
 

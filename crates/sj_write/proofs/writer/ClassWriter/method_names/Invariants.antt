@@ -1,6 +1,6 @@
 use Rattle.std.proofs.Common.{◌≡◌, drop}
-use Rattle.sj_written.specs.Fields.{each}
-use Rattle.sj_written.specs.References.{method_name_fields}
+use Rattle.sj_write_spec.specs.Fields.{each}
+use Rattle.sj_write_spec.specs.References.{method_name_fields}
 use Rattle.sj_write.specs.Writing.{put}
 use Rattle.sj_write.proofs.writer.ClassWriter.method_names.Given as goal
 

@@ -1,8 +1,8 @@
 use Rattle.std.proofs.Common.{◌≡◌, drop}
-use Rattle.sj_written.specs.Fields.{each}
-use Rattle.sj_written.specs.Classes.{method_fields}
+use Rattle.sj_write_spec.specs.Fields.{each}
+use Rattle.sj_write_spec.specs.Classes.{method_fields}
 use Rattle.sj_write.specs.Writing.{put}
-use Rattle.sj_written.specs.Fields.{HasFiles}
+use Rattle.sj_write_spec.specs.Fields.{HasFiles}
 use Rattle.sj_write.proofs.writer.ClassWriter.methods.Given as goal
 
 abbrev pub invariant-loop-each : goal.invariant-loop-each

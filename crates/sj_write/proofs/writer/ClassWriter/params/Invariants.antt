@@ -1,6 +1,6 @@
 use Rattle.std.proofs.Common.{◌≡◌, drop}
-use Rattle.sj_written.specs.Fields.{each}
-use Rattle.sj_written.specs.Classes.{param_fields}
+use Rattle.sj_write_spec.specs.Fields.{each}
+use Rattle.sj_write_spec.specs.Classes.{param_fields}
 use Rattle.sj_write.specs.Writing.{put}
 use Rattle.sj_write.proofs.writer.ClassWriter.params.Given as goal
 

@@ -1,0 +1,22 @@
+pub mod Fine
+pub mod Placed
+pub mod Rows
+pub use Rattle.agree_early_errors.specs.Locals
+pub use Rattle.agree_early_errors.specs.Operators
+pub use Rattle.agree_early_errors.specs.Standing
+pub use Rattle.agree_early_errors.specs.Subtyping
+pub use Rattle.agree_early_errors.specs.Typing
+pub use Rattle.agree_early_errors.specs.Built
+pub use Rattle.agree_plain_trees.specs.Helper
+pub use Rattle.agree_early_errors.specs.Coercions
+pub use Rattle.agree_early_errors.specs.Desugar
+pub use Rattle.agree_early_errors.specs.Plain
+pub use Rattle.agree_early_errors.specs.Spill
+pub use Rattle.agree_plain_trees.specs.Settings
+pub use Rattle.agree_plain_trees.specs.Standing as AgreePlainTreesStanding
+pub use Rattle.agree_plain_trees.specs.Worlds
+pub use Rattle.agree_early_errors.specs.Emitted
+pub use Rattle.agree_early_errors.specs.EmittedMethods
+pub use Rattle.agree_early_errors.specs.Methods
+pub use Rattle.agree_early_errors.specs.Rules
+pub use Rattle.agree_early_errors.specs.Once

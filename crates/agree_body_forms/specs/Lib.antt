@@ -1,0 +1,9 @@
+pub mod Boxes
+pub mod Built
+pub mod Rows
+pub use Rattle.sj_typing_spec.specs.Nodes
+pub use Rattle.sj_typing_spec.specs.Rules
+pub use Rattle.sj_typing_spec.specs.declared.labels.Label
+pub use Rattle.sj_typing_spec.specs.Labels
+pub use Rattle.sj_typing_spec.specs.Sizes
+pub use Rattle.sj_typing_spec.specs.Typed

@@ -1,0 +1,23 @@
+pub mod Core
+pub mod Declared
+pub mod Good
+pub mod Modules
+pub mod Names
+pub mod Statics
+pub mod Trees
+pub use Rattle.agree_body_rules.proofs.Arrays
+pub use Rattle.agree_body_rules.proofs.Direct
+pub use Rattle.agree_body_rules.proofs.Equal
+pub use Rattle.agree_body_rules.proofs.Fitting
+pub use Rattle.agree_body_rules.proofs.InWorld
+pub use Rattle.agree_body_rules.proofs.Lists
+pub use Rattle.agree_body_rules.proofs.Locals
+pub use Rattle.agree_body_rules.proofs.Plain
+pub use Rattle.agree_body_rules.proofs.RulesGive
+pub use Rattle.agree_body_rules.proofs.Topped
+pub use Rattle.agree_body_rules.proofs.Around
+pub use Rattle.agree_body_rules.proofs.Statics as AgreeBodyFormsStatics
+pub use Rattle.agree_body_rules.proofs.Mutable
+pub use Rattle.agree_body_rules.proofs.Standing
+pub use Rattle.agree_body_rules.proofs.Targets
+pub use Rattle.agree_body_rules.proofs.AgreeBodyFormsDirect

@@ -1,0 +1,5 @@
+use Rattle.agree_local_rules.proofs.Methods as methods
+use Rattle.agree_local_rules.proofs.locals_are_defined_once.Goals as goal
+
+pub returns : goal.returns
+returns c = methods.body_keeps

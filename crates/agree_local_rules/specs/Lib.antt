@@ -1,0 +1,14 @@
+pub mod Kept
+pub use Rattle.agree_early_errors.specs.Locals
+pub use Rattle.agree_early_errors.specs.Typing
+pub use Rattle.agree_early_errors.specs.Built
+pub use Rattle.agree_early_errors.specs.Sizes
+pub use Rattle.agree_early_errors.specs.Desugar
+pub use Rattle.agree_early_errors.specs.Methods
+pub use Rattle.agree_early_errors.specs.Once
+pub use Rattle.agree_early_errors.specs.Nodes
+pub use Rattle.agree_early_errors.specs.Rules
+pub use Rattle.agree_early_errors.specs.Typed
+pub use Rattle.agree_early_errors.specs.Label
+pub use Rattle.agree_early_errors.specs.Members
+pub use Rattle.agree_early_errors.specs.Uses

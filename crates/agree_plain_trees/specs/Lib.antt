@@ -1,0 +1,12 @@
+pub mod Standing
+pub mod Conditions
+pub mod Settings
+pub mod Worlds
+pub use Rattle.ir_mean.specs.Meaning
+pub use Rattle.ir_mean.specs.Rows
+pub use Rattle.ir_mean.specs.Shows
+pub use Rattle.ir_mean.specs.States
+pub use Rattle.ir_mean.specs.World
+pub use Rattle.ir_mean.specs.Known
+pub use Rattle.ir_mean.specs.Subtypes
+pub use Rattle.sj_emit_help_spec.specs.declared.kinds.Helper

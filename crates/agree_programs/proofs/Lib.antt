@@ -1,0 +1,17 @@
+pub mod Same
+pub mod Whole
+pub mod Worked
+pub mod WorkedWhole
+pub use Rattle.agree_calls.proofs.Owners
+pub use Rattle.agree_calls.proofs.Equal
+pub use Rattle.agree_soundness.proofs.Lists
+pub use Rattle.agree_soundness.proofs.Plain
+pub use Rattle.agree_soundness.proofs.Topped
+pub use Rattle.agree_soundness.proofs.Assembled
+pub use Rattle.agree_soundness.proofs.Chains
+pub use Rattle.agree_soundness.proofs.Lengths
+pub use Rattle.agree_soundness.proofs.Direct
+pub use Rattle.agree_soundness.proofs.Targets
+pub use Rattle.agree_soundness.proofs.Running
+pub use Rattle.agree_soundness.proofs.SameNames
+pub use Rattle.agree_calls.proofs.Reflective

@@ -1,0 +1,17 @@
+use Rattle.std.proofs.Common.{refl}
+use Rattle.agree_recorded.proofs.Classes as classes
+use Rattle.agree_recorded.proofs.Computing.{reading, printing}
+use Rattle.agree_recorded.proofs.Premises.{recorded_agrees}
+use Rattle.agree_recorded.specs.Whole as whole
+use Rattle.agree_recorded.proofs.choice_with_lines.Goals as goal
+
+pub returns-clause-read : goal.returns-clause-read
+unfolding reading
+returns-clause-read c = refl
+
+pub returns-clause-printed : goal.returns-clause-printed
+unfolding printing
+returns-clause-printed c = refl
+
+pub returns-clause-agree : goal.returns-clause-agree
+returns-clause-agree c = recorded_agrees whole.choice_with_lines_class classes.choice_with_lines

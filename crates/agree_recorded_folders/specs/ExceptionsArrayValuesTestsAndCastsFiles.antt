@@ -1,0 +1,87 @@
+-- The files that are put for a recorded folder.
+use Rattle.std.specs.Prelude.{List, [], ◌∷◌, true, false, pos, negsuc, codes, Some}
+use Rattle.js_tree.specs.Terms.{Item, null_literal, boolean_literal, undefined_literal, number_literal, big_literal, text_literal, name_use, this_use, property_of, index_of, call_of, method_call_of, new_of, new_array_of, list_of, binary_of, unary_of, conditional_of, host_call, host_call_of_two, no_expressions, expression, const_of, let_of, declare_of, expression_statement, assign_name, assign_property, assign_index, super_call, throw_of, return_of, break_nearest, break_to, if_only, if_else, while_of, do_forever, labeled_of, try_catch, try_finally, switch_on, no_statements, statement, no_cases, switch_case, constructor_of, method_of, const_item, object_item, let_item, expression_item, function_item, class_item, subclass_item}
+use Rattle.js_tree.specs.declared.operators.BinaryOperator.TheVariants as Op
+use Rattle.js_tree.specs.declared.operators.HostFunction.TheVariants as HostFunction
+use Rattle.js_tree.specs.declared.operators.HostOperation.TheVariants as HostOperation
+use Rattle.js_tree.specs.declared.operators.UnaryOperator.TheVariants.{Not, TypeOf}
+use Rattle.js_mean.specs.States.{Program}
+use Rattle.agree_recorded_folders.specs.Words.{no_units}
+
+abbrev item_0 : Item
+item_0 = object_item (codes "k_java_lang_Object") (record { name = (codes "s"); value = (text_literal (codes "i_java_lang_Object")) } ∷ record { name = (codes "i_java_lang_Object"); value = (number_literal (pos 1)) } ∷ [])
+
+abbrev item_1 : Item
+item_1 = class_item (codes "c_java_lang_Object") (constructor_of [] (statement (assign_property this_use (codes "k") (name_use (codes "k_java_lang_Object"))) no_statements) ∷ [])
+
+abbrev item_2 : Item
+item_2 = function_item (codes "ct_java_lang_Object__$3cinit$3e$$V") ((codes "$this") ∷ []) (statement (return_of (name_use (codes "$this"))) no_statements)
+
+abbrev item_3 : Item
+item_3 = function_item (codes "s_java_lang_Object__main$$V") [] (statement (let_of (codes "v_x") (new_of (codes "$A") (expression (number_literal (pos 2)) (expression (name_use (codes "k_A")) (expression (list_of (expression (new_of (codes "$A") (expression (number_literal (pos 1)) (expression (name_use (codes "k_A")) (expression (list_of (expression (call_of (codes "ct_A__$3cinit$3e$$V") (expression (new_of (codes "c_A") no_expressions) no_expressions)) (expression null_literal no_expressions))) no_expressions)))) (expression null_literal no_expressions))) no_expressions))))) (statement (expression_statement (host_call HostFunction.ConsoleLog (binary_of (text_literal no_units) Op.Add (binary_of (text_literal no_units) Op.Add (call_of (codes "$isA") (expression (name_use (codes "v_x")) (expression (number_literal (pos 2)) (expression (name_use (codes "k_I")) no_expressions)))))))) (statement (expression_statement (host_call HostFunction.ConsoleLog (binary_of (text_literal no_units) Op.Add (binary_of (text_literal no_units) Op.Add (call_of (codes "$isA") (expression (name_use (codes "v_x")) (expression (number_literal (pos 1)) (expression (text_literal (codes "J")) no_expressions)))))))) (statement (expression_statement (host_call HostFunction.ConsoleLog (binary_of (text_literal no_units) Op.Add (binary_of (text_literal no_units) Op.Add (property_of (property_of (call_of (codes "$nn") (expression (call_of (codes "$asA") (expression (name_use (codes "v_x")) (expression (number_literal (pos 1)) (expression (name_use (codes "k_java_lang_Object")) (expression (text_literal (codes "[Ljava.lang.Object")) no_expressions))))) no_expressions)) (codes "a")) (codes "length")))))) (statement (expression_statement (call_of (codes "$asA") (expression null_literal (expression (number_literal (pos 3)) (expression (text_literal (codes "I")) (expression (text_literal (codes "[[[I")) no_expressions)))))) (statement (expression_statement (host_call HostFunction.ConsoleLog (binary_of (text_literal no_units) Op.Add (binary_of (text_literal no_units) Op.Add (call_of (codes "$isA") (expression (new_of (codes "$A") (expression (number_literal (pos 1)) (expression (text_literal (codes "C")) (expression (list_of (expression (number_literal (pos 1)) (expression (number_literal (pos 2)) no_expressions))) no_expressions)))) (expression (number_literal (pos 1)) (expression (text_literal (codes "C")) no_expressions)))))))) (statement (expression_statement (host_call HostFunction.ConsoleLog (binary_of (text_literal no_units) Op.Add (binary_of (text_literal no_units) Op.Add (call_of (codes "$isA") (expression null_literal (expression (number_literal (pos 255)) (expression (text_literal (codes "Z")) no_expressions)))))))) no_statements)))))))
+
+abbrev item_4 : Item
+item_4 = subclass_item (codes "$A") (codes "c_java_lang_Object") (constructor_of ((codes "n") ∷ (codes "e") ∷ (codes "a") ∷ []) (statement super_call (statement (assign_property this_use (codes "n") (name_use (codes "n"))) (statement (assign_property this_use (codes "e") (name_use (codes "e"))) (statement (assign_property this_use (codes "a") (name_use (codes "a"))) no_statements)))) ∷ [])
+
+abbrev item_5 : Item
+item_5 = function_item (codes "$asA") ((codes "x") ∷ (codes "n") ∷ (codes "e") ∷ (codes "t") ∷ []) (statement (return_of (conditional_of (binary_of (binary_of (name_use (codes "x")) Op.StrictEqual null_literal) Op.Or (call_of (codes "$isA") (expression (name_use (codes "x")) (expression (name_use (codes "n")) (expression (name_use (codes "e")) no_expressions))))) (name_use (codes "x")) (call_of (codes "$cce") (expression (name_use (codes "t")) no_expressions)))) no_statements)
+
+abbrev item_6 : Item
+item_6 = function_item (codes "$cce") ((codes "t") ∷ []) (statement (throw_of (call_of (codes "ct_java_lang_ClassCastException__$3cinit$3e$$Ljava_lang_String$$V") (expression (new_of (codes "c_java_lang_ClassCastException") no_expressions) (expression (name_use (codes "t")) no_expressions)))) no_statements)
+
+abbrev item_7 : Item
+item_7 = function_item (codes "$cov") ((codes "n") ∷ (codes "e") ∷ (codes "m") ∷ (codes "d") ∷ []) (statement (if_only (binary_of (name_use (codes "n")) Op.StrictEqual (name_use (codes "m"))) (statement (return_of (conditional_of (binary_of (unary_of TypeOf (name_use (codes "d"))) Op.StrictEqual (text_literal (codes "string"))) (binary_of (name_use (codes "e")) Op.StrictEqual (name_use (codes "d"))) (binary_of (binary_of (unary_of TypeOf (name_use (codes "e"))) Op.StrictEqual (text_literal (codes "object"))) Op.And (binary_of (property_of (name_use (codes "d")) (codes "s")) Op.In (name_use (codes "e")))))) no_statements)) (statement (return_of (binary_of (binary_of (binary_of (name_use (codes "n")) Op.Greater (name_use (codes "m"))) Op.And (binary_of (unary_of TypeOf (name_use (codes "d"))) Op.StrictEqual (text_literal (codes "object")))) Op.And (binary_of (property_of (name_use (codes "d")) (codes "s")) Op.StrictEqual (text_literal (codes "i_java_lang_Object"))))) no_statements))
+
+abbrev item_8 : Item
+item_8 = function_item (codes "$isA") ((codes "x") ∷ (codes "n") ∷ (codes "e") ∷ []) (statement (return_of (binary_of (binary_of (name_use (codes "x")) Op.InstanceOf (name_use (codes "$A"))) Op.And (call_of (codes "$cov") (expression (property_of (name_use (codes "x")) (codes "n")) (expression (property_of (name_use (codes "x")) (codes "e")) (expression (name_use (codes "n")) (expression (name_use (codes "e")) no_expressions))))))) no_statements)
+
+abbrev item_9 : Item
+item_9 = function_item (codes "$nn") ((codes "x") ∷ []) (statement (if_only (binary_of (name_use (codes "x")) Op.StrictEqual null_literal) (statement (expression_statement (call_of (codes "$npe") no_expressions)) no_statements)) (statement (return_of (name_use (codes "x"))) no_statements))
+
+abbrev item_10 : Item
+item_10 = function_item (codes "$npe") [] (statement (throw_of (call_of (codes "ct_java_lang_NullPointerException__$3cinit$3e$$Ljava_lang_String$$V") (expression (new_of (codes "c_java_lang_NullPointerException") no_expressions) (expression (text_literal (codes "null")) no_expressions)))) no_statements)
+
+abbrev item_11 : Item
+item_11 = object_item (codes "k_I") (record { name = (codes "s"); value = (text_literal (codes "i_I")) } ∷ record { name = (codes "i_I"); value = (number_literal (pos 1)) } ∷ record { name = (codes "i_java_lang_Object"); value = (number_literal (pos 1)) } ∷ [])
+
+abbrev item_12 : Item
+item_12 = object_item (codes "k_java_lang_Throwable") (record { name = (codes "s"); value = (text_literal (codes "i_java_lang_Throwable")) } ∷ record { name = (codes "i_java_lang_Object"); value = (number_literal (pos 1)) } ∷ record { name = (codes "i_java_lang_Throwable"); value = (number_literal (pos 1)) } ∷ [])
+
+abbrev item_13 : Item
+item_13 = subclass_item (codes "c_java_lang_Throwable") (codes "c_java_lang_Object") (constructor_of [] (statement super_call (statement (assign_property this_use (codes "k") (name_use (codes "k_java_lang_Throwable"))) (statement (assign_property this_use (codes "f_java_lang_Throwable__message") null_literal) no_statements))) ∷ [])
+
+abbrev item_14 : Item
+item_14 = function_item (codes "ct_java_lang_Throwable__$3cinit$3e$$Ljava_lang_String$$V") ((codes "$this") ∷ (codes "v_m") ∷ []) (statement (expression_statement (call_of (codes "ct_java_lang_Object__$3cinit$3e$$V") (expression (name_use (codes "$this")) no_expressions))) (statement (assign_property (name_use (codes "$this")) (codes "f_java_lang_Throwable__message") (name_use (codes "v_m"))) (statement (return_of (name_use (codes "$this"))) no_statements)))
+
+abbrev item_15 : Item
+item_15 = object_item (codes "k_A") (record { name = (codes "s"); value = (text_literal (codes "i_A")) } ∷ record { name = (codes "i_A"); value = (number_literal (pos 1)) } ∷ record { name = (codes "i_I"); value = (number_literal (pos 1)) } ∷ record { name = (codes "i_java_lang_Object"); value = (number_literal (pos 1)) } ∷ [])
+
+abbrev item_16 : Item
+item_16 = subclass_item (codes "c_A") (codes "c_java_lang_Object") (constructor_of [] (statement super_call (statement (assign_property this_use (codes "k") (name_use (codes "k_A"))) no_statements)) ∷ [])
+
+abbrev item_17 : Item
+item_17 = function_item (codes "ct_A__$3cinit$3e$$V") ((codes "$this") ∷ []) (statement (expression_statement (call_of (codes "ct_java_lang_Object__$3cinit$3e$$V") (expression (name_use (codes "$this")) no_expressions))) (statement (return_of (name_use (codes "$this"))) no_statements))
+
+abbrev item_18 : Item
+item_18 = object_item (codes "k_java_lang_ClassCastException") (record { name = (codes "s"); value = (text_literal (codes "i_java_lang_ClassCastException")) } ∷ record { name = (codes "i_java_lang_ClassCastException"); value = (number_literal (pos 1)) } ∷ record { name = (codes "i_java_lang_Object"); value = (number_literal (pos 1)) } ∷ record { name = (codes "i_java_lang_Throwable"); value = (number_literal (pos 1)) } ∷ [])
+
+abbrev item_19 : Item
+item_19 = subclass_item (codes "c_java_lang_ClassCastException") (codes "c_java_lang_Throwable") (constructor_of [] (statement super_call (statement (assign_property this_use (codes "k") (name_use (codes "k_java_lang_ClassCastException"))) no_statements)) ∷ [])
+
+abbrev item_20 : Item
+item_20 = function_item (codes "ct_java_lang_ClassCastException__$3cinit$3e$$Ljava_lang_String$$V") ((codes "$this") ∷ (codes "v_m") ∷ []) (statement (expression_statement (call_of (codes "ct_java_lang_Throwable__$3cinit$3e$$Ljava_lang_String$$V") (expression (name_use (codes "$this")) (expression (name_use (codes "v_m")) no_expressions)))) (statement (return_of (name_use (codes "$this"))) no_statements))
+
+abbrev item_21 : Item
+item_21 = object_item (codes "k_java_lang_NullPointerException") (record { name = (codes "s"); value = (text_literal (codes "i_java_lang_NullPointerException")) } ∷ record { name = (codes "i_java_lang_NullPointerException"); value = (number_literal (pos 1)) } ∷ record { name = (codes "i_java_lang_Object"); value = (number_literal (pos 1)) } ∷ record { name = (codes "i_java_lang_Throwable"); value = (number_literal (pos 1)) } ∷ [])
+
+abbrev item_22 : Item
+item_22 = subclass_item (codes "c_java_lang_NullPointerException") (codes "c_java_lang_Throwable") (constructor_of [] (statement super_call (statement (assign_property this_use (codes "k") (name_use (codes "k_java_lang_NullPointerException"))) no_statements)) ∷ [])
+
+abbrev item_23 : Item
+item_23 = function_item (codes "ct_java_lang_NullPointerException__$3cinit$3e$$Ljava_lang_String$$V") ((codes "$this") ∷ (codes "v_m") ∷ []) (statement (expression_statement (call_of (codes "ct_java_lang_Throwable__$3cinit$3e$$Ljava_lang_String$$V") (expression (name_use (codes "$this")) (expression (name_use (codes "v_m")) no_expressions)))) (statement (return_of (name_use (codes "$this"))) no_statements))
+
+abbrev item_24 : Item
+item_24 = expression_item (call_of (codes "s_java_lang_Object__main$$V") no_expressions)
+
+abbrev pub files : Program
+files = record { file = (codes "main.js"); content = Some (record { imports = []; items = (item_0 ∷ item_1 ∷ item_2 ∷ item_3 ∷ item_4 ∷ item_5 ∷ item_6 ∷ item_7 ∷ item_8 ∷ item_9 ∷ item_10 ∷ item_11 ∷ item_12 ∷ item_13 ∷ item_14 ∷ item_15 ∷ item_16 ∷ item_17 ∷ item_18 ∷ item_19 ∷ item_20 ∷ item_21 ∷ item_22 ∷ item_23 ∷ item_24 ∷ []); exports = [] }) } ∷ []

@@ -1,0 +1,43 @@
+-- The classes of a recorded folder, and its entries.
+use Rattle.std.specs.Prelude.{List, [], ◌∷◌, true, false, pos, negsuc, codes, Some, None}
+use Rattle.sj_names.specs.declared.entry_points.EntryPoint.{EntryPoint}
+use Rattle.sj_names.specs.declared.method_names.Namespace.TheVariants as Namespace
+use Rattle.sj_names.specs.declared.references.BaseRef.TheVariants as BaseRef
+use Rattle.sj_names.specs.declared.references.TypeRef.TheVariants as TypeRef
+use Rattle.sj_trees.specs.declared.classes.ClassDef.{ClassDef}
+use Rattle.sj_trees.specs.declared.classes.ClassKind.TheVariants as ClassKind
+use Rattle.sj_trees.specs.declared.operators.BinaryOp.TheVariants as BinaryOp
+use Rattle.sj_trees.specs.declared.operators.UnaryOp.TheVariants as UnaryOp
+use Rattle.sj_trees.specs.declared.types.IrType.TheVariants as IrType
+use Rattle.sj_trees.specs.Term.{no_terms, more_terms, no_cases, more_cases, var_def, skip, block_of, labeled, assign, return_to, if_then, while_loop, do_while, try_catch, try_finally, throw, match_on, new_object, load_module, store_module, select, select_static, apply, apply_statically, apply_static, unary_op, binary_op, new_array, array_value, array_length, array_select, is_instance_of, as_instance_of, undefined_literal, null_literal, boolean_literal, char_literal, byte_literal, short_literal, int_literal, long_literal, string_literal, var_ref, this_ref, log_line}
+use Rattle.agree_recorded_folders.specs.Words.{nowhere, no_units, m, array_of, field_of, parameter, method_of, class_with}
+
+abbrev class_0 : ClassDef
+class_0 = class_with (codes "A") ClassKind.Class (Some (codes "java.lang.Object")) [] [] (method_of Namespace.PublicStatic (m (codes "of") ((TypeRef.Class (codes "java.lang.Byte")) ∷ []) (Some TypeRef.Int)) (parameter (codes "b") false (IrType.Class (codes "java.lang.Byte")) ∷ []) IrType.Int (Some (if_then nowhere (binary_op nowhere BinaryOp.StrictEqual (var_ref nowhere (codes "b") (IrType.Class (codes "java.lang.Byte"))) (int_literal nowhere (pos 7))) (int_literal nowhere (pos 1)) (int_literal nowhere (pos 0)) IrType.Int)) ∷ [])
+
+abbrev class_1 : ClassDef
+class_1 = class_with (codes "J") ClassKind.Interface None [] [] (method_of Namespace.Public (m (codes "m") [] (Some TypeRef.Void)) [] IrType.NoType (Some (log_line nowhere (string_literal nowhere (codes "J")))) ∷ [])
+
+abbrev class_2 : ClassDef
+class_2 = class_with (codes "K") ClassKind.Interface None [] [] []
+
+abbrev class_3 : ClassDef
+class_3 = class_with (codes "java.lang.Byte") ClassKind.HijackedClass (Some (codes "java.lang.Object")) ((codes "J") ∷ []) [] []
+
+abbrev class_4 : ClassDef
+class_4 = class_with (codes "java.lang.Integer") ClassKind.HijackedClass (Some (codes "java.lang.Number")) ((codes "K") ∷ []) [] []
+
+abbrev class_5 : ClassDef
+class_5 = class_with (codes "java.lang.Number") ClassKind.Class (Some (codes "java.lang.Object")) [] [] (method_of Namespace.Public (m (codes "m") [] (Some TypeRef.Void)) [] IrType.NoType (Some (log_line nowhere (string_literal nowhere (codes "number")))) ∷ method_of Namespace.Public (m (codes "n") [] (Some TypeRef.Int)) [] IrType.Int (Some (int_literal nowhere (pos 3))) ∷ [])
+
+abbrev class_6 : ClassDef
+class_6 = class_with (codes "java.lang.Object") ClassKind.Class None [] [] (method_of Namespace.PublicStatic (m (codes "main") [] (Some TypeRef.Void)) [] IrType.NoType (Some (block_of nowhere (more_terms (apply nowhere (byte_literal nowhere (pos 1)) (m (codes "m") [] (Some TypeRef.Void)) no_terms IrType.NoType) (more_terms (apply nowhere (short_literal nowhere (pos 2)) (m (codes "m") [] (Some TypeRef.Void)) no_terms IrType.NoType) (more_terms (apply nowhere (int_literal nowhere (pos 3)) (m (codes "m") [] (Some TypeRef.Void)) no_terms IrType.NoType) (more_terms (log_line nowhere (binary_op nowhere BinaryOp.StringConcatenate (string_literal nowhere no_units) (apply nowhere (byte_literal nowhere (pos 1)) (m (codes "n") [] (Some TypeRef.Int)) no_terms IrType.Int))) (more_terms (log_line nowhere (binary_op nowhere BinaryOp.StringConcatenate (string_literal nowhere no_units) (apply_static nowhere (codes "A") Namespace.PublicStatic (m (codes "of") ((TypeRef.Class (codes "java.lang.Byte")) ∷ []) (Some TypeRef.Int)) (more_terms (byte_literal nowhere (pos 7)) no_terms) IrType.Int))) (more_terms (log_line nowhere (binary_op nowhere BinaryOp.StringConcatenate (string_literal nowhere no_units) (is_instance_of nowhere (byte_literal nowhere (pos 1)) (IrType.Class (codes "J"))))) (more_terms (log_line nowhere (binary_op nowhere BinaryOp.StringConcatenate (string_literal nowhere no_units) (is_instance_of nowhere (int_literal nowhere (pos 1)) (IrType.Class (codes "K"))))) no_terms))))))))) ∷ [])
+
+abbrev class_7 : ClassDef
+class_7 = class_with (codes "java.lang.Short") ClassKind.HijackedClass (Some (codes "java.lang.Object")) [] [] (method_of Namespace.Public (m (codes "m") [] (Some TypeRef.Void)) [] IrType.NoType (Some (log_line nowhere (string_literal nowhere (codes "short")))) ∷ [])
+
+abbrev pub classes : List ClassDef
+classes = class_0 ∷ class_1 ∷ class_2 ∷ class_3 ∷ class_4 ∷ class_5 ∷ class_6 ∷ class_7 ∷ []
+
+abbrev pub entries : List EntryPoint
+entries = record { «module» = (codes "main"); class = (codes "java.lang.Object"); method = (codes "main") } ∷ []

@@ -1,0 +1,25 @@
+-- The classes of a recorded folder, and its entries.
+use Rattle.std.specs.Prelude.{List, [], ◌∷◌, true, false, pos, negsuc, codes, Some, None}
+use Rattle.sj_names.specs.declared.entry_points.EntryPoint.{EntryPoint}
+use Rattle.sj_names.specs.declared.method_names.Namespace.TheVariants as Namespace
+use Rattle.sj_names.specs.declared.references.BaseRef.TheVariants as BaseRef
+use Rattle.sj_names.specs.declared.references.TypeRef.TheVariants as TypeRef
+use Rattle.sj_trees.specs.declared.classes.ClassDef.{ClassDef}
+use Rattle.sj_trees.specs.declared.classes.ClassKind.TheVariants as ClassKind
+use Rattle.sj_trees.specs.declared.operators.BinaryOp.TheVariants as BinaryOp
+use Rattle.sj_trees.specs.declared.operators.UnaryOp.TheVariants as UnaryOp
+use Rattle.sj_trees.specs.declared.types.IrType.TheVariants as IrType
+use Rattle.sj_trees.specs.Term.{no_terms, more_terms, no_cases, more_cases, var_def, skip, block_of, labeled, assign, return_to, if_then, while_loop, do_while, try_catch, try_finally, throw, match_on, new_object, load_module, store_module, select, select_static, apply, apply_statically, apply_static, unary_op, binary_op, new_array, array_value, array_length, array_select, is_instance_of, as_instance_of, undefined_literal, null_literal, boolean_literal, char_literal, byte_literal, short_literal, int_literal, long_literal, string_literal, var_ref, this_ref, log_line}
+use Rattle.agree_recorded_folders.specs.Words.{nowhere, no_units, m, array_of, field_of, parameter, method_of, class_with}
+
+abbrev class_0 : ClassDef
+class_0 = class_with (codes "java.lang.Byte") ClassKind.HijackedClass (Some (codes "java.lang.Object")) [] [] []
+
+abbrev class_1 : ClassDef
+class_1 = class_with (codes "java.lang.Object") ClassKind.Class None [] [] (method_of Namespace.PublicStatic (m (codes "main") [] (Some TypeRef.Void)) [] IrType.NoType (Some (block_of nowhere (more_terms (log_line nowhere (binary_op nowhere BinaryOp.StringConcatenate (string_literal nowhere no_units) (is_instance_of nowhere (int_literal nowhere (pos 5)) (IrType.Class (codes "java.lang.Byte"))))) (more_terms (log_line nowhere (binary_op nowhere BinaryOp.StringConcatenate (string_literal nowhere no_units) (is_instance_of nowhere (int_literal nowhere (pos 300)) (IrType.Class (codes "java.lang.Byte"))))) no_terms)))) ∷ [])
+
+abbrev pub classes : List ClassDef
+classes = class_0 ∷ class_1 ∷ []
+
+abbrev pub entries : List EntryPoint
+entries = record { «module» = (codes "main"); class = (codes "java.lang.Object"); method = (codes "main") } ∷ []

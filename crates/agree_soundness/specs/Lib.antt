@@ -1,0 +1,21 @@
+pub mod Laws
+pub mod Rules
+pub mod Worked
+pub mod Worlds
+pub use Rattle.agree_early_errors.specs.Locals
+pub use Rattle.agree_early_errors.specs.Typing
+pub use Rattle.agree_early_errors.specs.Built
+pub use Rattle.dispatch_laws.specs.Rows
+pub use Rattle.dispatch_laws.specs.Shows
+pub use Rattle.dispatch_laws.specs.World
+pub use Rattle.agree_early_errors.specs.Emitted
+pub use Rattle.agree_early_errors.specs.EmittedMethods
+pub use Rattle.agree_early_errors.specs.Methods
+pub use Rattle.dispatch_laws.specs.SjWorldLaws
+pub use Rattle.dispatch_laws.specs.Subtypes
+pub use Rattle.agree_early_errors.specs.Rules as SjTypingSpecRules
+pub use Rattle.agree_early_errors.specs.Standing
+pub use Rattle.dispatch_laws.specs.Templates
+pub use Rattle.dispatch_laws.specs.Targets
+pub use Rattle.dispatch_laws.specs.Tests
+pub use Rattle.agree_early_errors.specs.Boxes

@@ -1,0 +1,9 @@
+pub mod Bodies
+pub mod Values
+pub use Rattle.agree_local_rules.proofs.Classes
+pub use Rattle.agree_local_rules.proofs.RulesGive
+pub use Rattle.agree_local_rules.proofs.Distinct
+pub use Rattle.agree_local_rules.proofs.Kept
+pub use Rattle.agree_local_rules.proofs.Methods
+pub use Rattle.agree_local_rules.proofs.Types
+pub mod Dimensions

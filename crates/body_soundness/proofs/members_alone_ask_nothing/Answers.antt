@@ -1,5 +1,0 @@
-use Rattle.body_soundness.proofs.Modules.{nothing_asked}
-use Rattle.body_soundness.proofs.members_alone_ask_nothing.Goals as goal
-
-pub returns : goal.returns
-returns c = nothing_asked

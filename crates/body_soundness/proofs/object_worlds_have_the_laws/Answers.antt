@@ -1,5 +1,0 @@
-use Rattle.body_soundness.proofs.Assembled.{laws_of}
-use Rattle.body_soundness.proofs.object_worlds_have_the_laws.Goals as goal
-
-pub returns : goal.returns
-returns c = laws_of

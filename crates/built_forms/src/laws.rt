@@ -1,7 +1,0 @@
-// Which small methods are built.
-ghost use Rattle.built_forms.specs.Rows.{WorkedForms};
-
-/// The rows on small methods hold.
-pub fn worked_forms()
-    ensures { WorkedForms }
-{}

@@ -1,6 +1,0 @@
-use Rattle.std.proofs.Common.{take}
-use Rattle.class_pieces.specs.Entries.{AreByClass}
-use Rattle.class_pieces.proofs.entries.entries_by_class.Given as goal
-
-abbrev pub invariant-loop-entry : goal.invariant-loop-entry
-invariant-loop-entry l = AreByClass (take l.entry-index l.entries) l.lists

@@ -1,6 +1,0 @@
-use Rattle.std.proofs.Common.{take}
-use Rattle.piece_rules.specs.Classes.{AreInstances}
-use Rattle.class_pieces.proofs.instances.instances_among.Given as goal
-
-abbrev pub invariant-loop-kind : goal.invariant-loop-kind
-invariant-loop-kind l = AreInstances l.world l.class (take l.kind-index l.kinds) l.found.items

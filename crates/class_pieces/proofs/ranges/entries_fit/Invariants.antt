@@ -1,7 +1,0 @@
-use Rattle.std.proofs.Common.{take}
-use Rattle.std.specs.Prelude.{All}
-use Rattle.class_printing.specs.Fits.{FitsEntry}
-use Rattle.class_pieces.proofs.ranges.entries_fit.Given as goal
-
-abbrev pub invariant-loop-entry : goal.invariant-loop-entry
-invariant-loop-entry l = All (λ x. FitsEntry x.now) (take l.entry-index l.entries)

@@ -1,7 +1,0 @@
-use Rattle.std.proofs.lemmas.List.Elements.{All-map}
-use Rattle.class_printing.specs.Fits.{FitsField}
-use Rattle.sj_pieces.proofs.Lists.{each-whole}
-use Rattle.class_pieces.proofs.ranges.fields_fit.Goals as goal
-
-pub returns : goal.returns
-returns c = All-map FitsField (λ x. x.now) c.args.fields.now (each-whole (λ x. FitsField x.now) c.args.fields.now c.loop-field.field-index c.loop-field-test.false c.loop-field.invariant)

@@ -1,5 +1,0 @@
-use Rattle.file_listings.proofs.MadeFiles.{listed_is_made}
-use Rattle.file_listings.proofs.laws.each_listed_class_is_made.Goals as goal
-
-pub returns : goal.returns
-returns c = listed_is_made

@@ -1,5 +1,0 @@
-use Rattle.folder_verdicts.proofs.EachFolder.{none_without}
-use Rattle.folder_verdicts.proofs.laws.no_folder_is_without_verdict.Goals as goal
-
-pub returns : goal.returns
-returns c = none_without

@@ -1,7 +1,0 @@
-use Rattle.std.proofs.Common.{ap}
-use Rattle.js_tree.specs.Terms.{Module}
-use Rattle.helper_making.proofs.Fixed.{first_is}
-use Rattle.helper_making.proofs.pieces.only_item_of.Goals as goal
-
-pub returns : goal.returns
-returns c = λ i e. first_is _ c.args.read.items.items c.remove.result i (ap (λ (m : Module). m.items) e) c.remove.ensures.value

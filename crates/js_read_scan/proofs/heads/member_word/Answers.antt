@@ -1,0 +1,6 @@
+use Rattle.std.proofs.Common.{sym}
+use Rattle.js_read_scan.proofs.Ascii.{property_ascii}
+use Rattle.js_read_scan.proofs.heads.member_word.Goals as goal
+
+pub text_of-requires : goal.text_of-requires
+text_of-requires c = property_ascii c.args.word.now (sym c.if-is_property_name.ensures)

@@ -1,5 +1,0 @@
-use Rattle.js_spelling.proofs.WholeModules.{module_read}
-use Rattle.js_spelling.proofs.laws.spelled_module_is_read.Goals as goal
-
-pub returns : goal.returns
-returns c = module_read

@@ -1,6 +1,0 @@
-use Rattle.listing_spelling.specs.Reading as reading
-use Rattle.listing_read.proofs.tables.namespace_of.Goals as goal
-
-pub returns : goal.returns
-unfolding reading.namespace_at
-returns c = rw c.as_slice.ensures at c.word_of.ensures

@@ -1,7 +1,0 @@
-use Rattle.std.proofs.Common.{◌≡◌, ◌-◌, []}
-use Rattle.std.specs.Prelude.{string_bytes}
-use Rattle.listing_spelling.specs.Names.{characters_at}
-use Rattle.listing_scan.proofs.names.characters_of.Given as goal
-
-abbrev pub invariant-loop : goal.invariant-loop
-invariant-loop l = characters_at (l.fuel - l.counter) l.spot (string_bytes l.name) l.rest ≡ characters_at l.fuel l.fn.start [] l.bytes

@@ -1,5 +1,0 @@
-use Rattle.plan_laws.proofs.Names.{ids_are_not_internal}
-use Rattle.plan_laws.proofs.laws.ids_are_not_internal.Goals as goal
-
-pub returns : goal.returns
-returns c = ids_are_not_internal

@@ -1,5 +1,0 @@
-use Rattle.plan_laws.proofs.Placing.{modules_are_homes}
-use Rattle.plan_laws.proofs.laws.modules_are_homes.Goals as goal
-
-pub returns : goal.returns
-returns c = modules_are_homes

@@ -1,5 +1,0 @@
-use Rattle.plan_laws.proofs.Names.{names_differ}
-use Rattle.plan_laws.proofs.laws.names_differ.Goals as goal
-
-pub returns : goal.returns
-returns c = names_differ

@@ -1,5 +1,0 @@
-use Rattle.plan_laws.proofs.Placing.{placed_where_public_or_owning}
-use Rattle.plan_laws.proofs.laws.placed_where_public_or_owning.Goals as goal
-
-pub returns : goal.returns
-returns c = placed_where_public_or_owning

@@ -1,5 +1,0 @@
-use Rattle.plan_laws.proofs.OnePlan.{plans_are_one}
-use Rattle.plan_laws.proofs.laws.plans_are_one.Goals as goal
-
-pub returns : goal.returns
-returns c = plans_are_one

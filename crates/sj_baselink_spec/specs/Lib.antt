@@ -1,0 +1,16 @@
+pub mod Entries
+pub mod Laws
+pub mod Rows
+pub use Rattle.sj_reach_spec.specs.Rules
+pub use Rattle.sj_reach_spec.specs.Forms
+pub use Rattle.sj_reach_spec.specs.BodyForm
+pub use Rattle.sj_reach_spec.specs.BodyFormVariants
+pub use Rattle.proxy_targets.specs.Ancestors
+pub use Rattle.proxy_targets.specs.Calls
+pub use Rattle.proxy_targets.specs.Known
+pub use Rattle.proxy_targets.specs.Linked
+pub use Rattle.proxy_targets.specs.Members
+pub use Rattle.proxy_targets.specs.Fact
+pub use Rattle.proxy_targets.specs.FactVariants
+pub use Rattle.proxy_targets.specs.MethodEntry
+pub use Rattle.sj_reach_spec.specs.Trees

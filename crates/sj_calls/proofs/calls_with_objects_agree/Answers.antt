@@ -1,6 +1,0 @@
-use Rattle.sj_bodies.proofs.InWorld.{in_world}
-use Rattle.sj_calls.proofs.ObjectLevels as levels
-use Rattle.sj_calls.proofs.calls_with_objects_agree.Goals as goal
-
-pub returns : goal.returns
-returns c p plain = levels.calls_agree p plain (in_world p.classes plain)

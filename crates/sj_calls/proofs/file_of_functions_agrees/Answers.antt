@@ -1,5 +1,0 @@
-use Rattle.sj_calls.proofs.Whole as whole
-use Rattle.sj_calls.proofs.file_of_functions_agrees.Goals as goal
-
-pub returns : goal.returns
-returns c = whole.file_agrees

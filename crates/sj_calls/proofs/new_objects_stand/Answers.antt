@@ -1,5 +1,0 @@
-use Rattle.sj_calls.proofs.Shapes.{stands_there}
-use Rattle.sj_calls.proofs.new_objects_stand.Goals as goal
-
-pub returns : goal.returns
-returns c = stands_there

@@ -1,0 +1,2 @@
+pub mod Lists
+pub use Rattle.sj_desugar_plain.proofs.Arguments

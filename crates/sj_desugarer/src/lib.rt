@@ -1,9 +1,0 @@
-//! Desugaring: the method of the core for a method of the IR.
-//!
-//! `sj_desugar` defines it, and `sj_desugaring` has what is written for each form.
-#![tactic(auto)]
-
-mod methods;
-mod trees;
-
-pub use methods::desugar;

@@ -1,2 +1,0 @@
-pub mod Lists
-pub use Rattle.plain_desugaring.proofs.Arguments

@@ -1,4 +1,0 @@
-use Rattle.sj_emit_class.proofs.classes.set_constants.Goals as goal
-
-pub returns : goal.returns
-returns c = c.set_property.ensures _ _ c.text.ensures (c.name_of.ensures _ c.class_binding.ensures)

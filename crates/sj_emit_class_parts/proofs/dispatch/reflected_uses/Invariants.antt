@@ -1,0 +1,8 @@
+use Rattle.std.proofs.Common.{◌≡◌, ◌++◌, drop, map}
+use Rattle.std.specs.List.{flat_map}
+use Rattle.sj_emit_class_spec.specs.Dispatch.{reflected_uses}
+use Rattle.sj_emit_class_parts.specs.Cases.{reflected_view}
+use Rattle.sj_emit_class_parts.proofs.dispatch.reflected_uses.Given as goal
+
+abbrev pub invariant-loop-case : goal.invariant-loop-case
+invariant-loop-case l = l.bindings.items ++ flat_map reflected_uses (map reflected_view (drop l.case-index l.cases)) ≡ flat_map reflected_uses (map reflected_view l.cases)

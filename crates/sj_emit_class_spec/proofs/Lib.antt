@@ -1,0 +1,1 @@
+pub use Rattle.sj_baselink_spec.proofs.Owners

@@ -1,0 +1,1 @@
+pub use Rattle.sj_desugar_spec.proofs.LawsHold

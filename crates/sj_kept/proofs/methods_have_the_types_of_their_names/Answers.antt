@@ -1,5 +1,0 @@
-use Rattle.sj_kept.proofs.Classes as classes
-use Rattle.sj_kept.proofs.methods_have_the_types_of_their_names.Goals as goal
-
-pub returns : goal.returns
-returns c = classes.signature-keeps

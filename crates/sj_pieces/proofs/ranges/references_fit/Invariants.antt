@@ -1,7 +1,0 @@
-use Rattle.std.proofs.Common.{take}
-use Rattle.std.specs.Prelude.{All}
-use Rattle.sj_pieces.specs.Ranges.{FitsReference}
-use Rattle.sj_pieces.proofs.ranges.references_fit.Given as goal
-
-abbrev pub invariant-loop-reference : goal.invariant-loop-reference
-invariant-loop-reference l = All FitsReference (take l.reference-index l.references)

@@ -1,0 +1,5 @@
+use Rattle.sj_split_laws.proofs.Placing.{modules_are_components}
+use Rattle.sj_split_laws.proofs.laws.modules_are_components.Goals as goal
+
+pub returns : goal.returns
+returns c = modules_are_components

@@ -1,5 +1,0 @@
-use Rattle.sj_verdicts.proofs.OneVerdict.{is_verdict}
-use Rattle.sj_verdicts.proofs.laws.checks_are_verdicts.Goals as goal
-
-pub returns : goal.returns
-returns c = is_verdict

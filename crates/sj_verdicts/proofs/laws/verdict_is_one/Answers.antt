@@ -1,5 +1,0 @@
-use Rattle.sj_verdicts.proofs.OneVerdict.{has_one_verdict}
-use Rattle.sj_verdicts.proofs.laws.verdict_is_one.Goals as goal
-
-pub returns : goal.returns
-returns c = has_one_verdict
