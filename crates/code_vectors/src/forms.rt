@@ -27,50 +27,76 @@ fn is_static_tree(tree: &Tree) -> bool
     ensures { result ≡ forms.is_static (view tree.now) }
 {
     match tree {
-        Tree::VarDef(_, _, _, _, value)
-        | Tree::Labeled(_, _, _, value)
-        | Tree::Return(_, value, _)
-        | Tree::UnaryOp(_, _, value)
-        | Tree::Log(_, value) => is_static_tree(value),
-        Tree::Block(_, trees) | Tree::ApplyStatic(_, _, _, _, trees, _) => are_static_trees(trees),
-        Tree::Assign(_, first, second)
-        | Tree::While(_, first, second)
-        | Tree::DoWhile(_, first, second)
-        | Tree::BinaryOp(_, _, first, second) => is_static_tree(first) && is_static_tree(second),
-        Tree::If(_, condition, yes, no, _) => {
-            is_static_tree(condition) && is_static_tree(yes) && is_static_tree(no)
+        Tree::VarDef { value, .. }
+        | Tree::Labeled { body: value, .. }
+        | Tree::Return { value, .. }
+        | Tree::UnaryOp { operand: value, .. }
+        | Tree::Log { value, .. } => is_static_tree(value),
+        Tree::Block { trees, .. }
+        | Tree::ApplyStatic {
+            arguments: trees,
+            ..
+        } => are_static_trees(trees),
+        Tree::Assign {
+            target: first,
+            value: second,
+            ..
         }
-        Tree::Match(_, selector, cases, default, _) => {
-            is_static_tree(selector) && are_static_cases(cases) && is_static_tree(default)
+        | Tree::While {
+            condition: first,
+            body: second,
+            ..
         }
-        Tree::Skip(_)
-        | Tree::Undefined(_)
-        | Tree::Null(_)
-        | Tree::BooleanLiteral(_, _)
-        | Tree::CharLiteral(_, _)
-        | Tree::ByteLiteral(_, _)
-        | Tree::ShortLiteral(_, _)
-        | Tree::IntLiteral(_, _)
-        | Tree::LongLiteral(_, _)
-        | Tree::StringLiteral(_, _)
-        | Tree::VarRef(_, _, _) => true,
-        Tree::TryCatch(_, _, _, _, _)
-        | Tree::TryFinally(_, _, _)
-        | Tree::Throw(_, _)
-        | Tree::New(_, _, _, _)
-        | Tree::LoadModule(_, _)
-        | Tree::StoreModule(_, _, _)
-        | Tree::Select(_, _, _, _, _)
-        | Tree::SelectStatic(_, _, _, _)
-        | Tree::Apply(_, _, _, _, _)
-        | Tree::ApplyStatically(_, _, _, _, _, _, _)
-        | Tree::NewArray(_, _, _)
-        | Tree::ArrayValue(_, _, _)
-        | Tree::ArrayLength(_, _)
-        | Tree::ArraySelect(_, _, _, _)
-        | Tree::IsInstanceOf(_, _, _)
-        | Tree::AsInstanceOf(_, _, _)
-        | Tree::This(_, _) => false,
+        | Tree::DoWhile {
+            body: first,
+            condition: second,
+            ..
+        }
+        | Tree::BinaryOp {
+            left: first,
+            right: second,
+            ..
+        } => is_static_tree(first) && is_static_tree(second),
+        Tree::If {
+            condition,
+            yes,
+            no,
+            ..
+        } => { is_static_tree(condition) && is_static_tree(yes) && is_static_tree(no) }
+        Tree::Match {
+            selector,
+            cases,
+            default,
+            ..
+        } => { is_static_tree(selector) && are_static_cases(cases) && is_static_tree(default) }
+        Tree::Skip { .. }
+        | Tree::Undefined { .. }
+        | Tree::Null { .. }
+        | Tree::BooleanLiteral { .. }
+        | Tree::CharLiteral { .. }
+        | Tree::ByteLiteral { .. }
+        | Tree::ShortLiteral { .. }
+        | Tree::IntLiteral { .. }
+        | Tree::LongLiteral { .. }
+        | Tree::StringLiteral { .. }
+        | Tree::VarRef { .. } => true,
+        Tree::TryCatch { .. }
+        | Tree::TryFinally { .. }
+        | Tree::Throw { .. }
+        | Tree::New { .. }
+        | Tree::LoadModule { .. }
+        | Tree::StoreModule { .. }
+        | Tree::Select { .. }
+        | Tree::SelectStatic { .. }
+        | Tree::Apply { .. }
+        | Tree::ApplyStatically { .. }
+        | Tree::NewArray { .. }
+        | Tree::ArrayValue { .. }
+        | Tree::ArrayLength { .. }
+        | Tree::ArraySelect { .. }
+        | Tree::IsInstanceOf { .. }
+        | Tree::AsInstanceOf { .. }
+        | Tree::This { .. } => false,
     }
 }
 

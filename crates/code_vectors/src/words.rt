@@ -1,8 +1,8 @@
 // What a command line says.
 use crate::texts::add;
-use sj_names::NameError;
+use sj_names::{NameError, NoMemory};
 use sj_words::{Command, Link, Style, command, first_command, split_command};
-use std::alloc::{AllocError, Global};
+use std::alloc::Global;
 
 /// Adds what the words ask for in the first grammar, in that with styles and in the whole one: `usage`, `link STYLE OPTIMIZE N` with the number of
 /// folders, or `gen N`.
@@ -48,20 +48,20 @@ fn add_command(
     add(&[spelled.as_str()], text)
 }
 
-fn spelled(alloc: Global, command: &Option<Command>) -> Result<String, AllocError> {
+fn spelled(alloc: Global, command: &Option<Command>) -> Result<String, NoMemory> {
     match command {
         Some(Command::Link(link)) => spelled_link(alloc, link),
-        Some(Command::Generate(number)) => format!(in alloc; "gen {number}"),
-        None => String::from_str(alloc, "usage"),
+        Some(Command::Generate(number)) => Ok(format!(in alloc; "gen {number}")?),
+        None => Ok(String::from_str(alloc, "usage")?),
     }
 }
 
-fn spelled_link(alloc: Global, link: &Link) -> Result<String, AllocError> {
+fn spelled_link(alloc: Global, link: &Link) -> Result<String, NoMemory> {
     let style = match link.style {
         Style::Fewest => "fewest",
         Style::Smallest => "smallest",
     };
     let optimize = if link.optimize { "on" } else { "off" };
     let folders = link.folders.as_slice().len();
-    format!(in alloc; "link {style} {optimize} {folders}")
+    Ok(format!(in alloc; "link {style} {optimize} {folders}")?)
 }

@@ -2,7 +2,7 @@
 ghost use Rattle.std.specs.Prelude.{◌≡◌};
 
 use sj_names::NoMemory;
-use std::alloc::{AllocError, AllocFailed};
+use std::alloc::AllocFailed;
 use thiserror::Error;
 
 /// Why an entries file gives no entries.
@@ -14,16 +14,6 @@ pub enum EntriesError {
     /// No memory was left.
     #[error("no memory is left")]
     NoMemory,
-}
-
-impl From<AllocError> for EntriesError {
-    ghost use Rattle.entries_file.specs.declared.errors.EntriesError.TheVariants.{NoMemory};
-
-    ghost from_gives = { λ _ e. e ≡ NoMemory };
-
-    fn from(_error: AllocError) -> EntriesError {
-        EntriesError::NoMemory
-    }
 }
 
 impl<T: Drop> From<AllocFailed<T>> for EntriesError {

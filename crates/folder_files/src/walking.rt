@@ -7,7 +7,7 @@ ghost use Rattle.folder_files.specs.Walking.{ArePathsOf, Gathers, GathersEntry, 
 
 use sj_names::{NoMemory, Text};
 use sj_outside::{Entry, Folders, OutsideError};
-use std::alloc::{AllocError, Global};
+use std::alloc::Global;
 
 /// The most folders above a file's name.
 const DEEPEST: u8 = 32;
@@ -136,14 +136,14 @@ fn is_class_file(name: &str) -> bool
 }
 
 /// The path of what has this name in the folder.
-pub fn path_in(alloc: Global, folder: &str, name: &str) -> Result<String, AllocError>
+pub fn path_in(alloc: Global, folder: &str, name: &str) -> Result<String, NoMemory>
     ensures { IfOk result (λ text. string_bytes text ≡ path_in folder.now name.now) }
 {
-    format!(in alloc; "{folder}/{name}")
+    Ok(format!(in alloc; "{folder}/{name}")?)
 }
 
-fn prefix_in(alloc: Global, prefix: &str, name: &str) -> Result<String, AllocError>
+fn prefix_in(alloc: Global, prefix: &str, name: &str) -> Result<String, NoMemory>
     ensures { IfOk result (λ text. string_bytes text ≡ prefix_in prefix.now name.now) }
 {
-    format!(in alloc; "{prefix}{name}/")
+    Ok(format!(in alloc; "{prefix}{name}/")?)
 }

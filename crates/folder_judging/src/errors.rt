@@ -2,7 +2,7 @@
 ghost use Rattle.std.specs.Prelude.{◌≡◌};
 
 use sj_names::{NoMemory, Text};
-use std::alloc::{AllocError, AllocFailed};
+use std::alloc::AllocFailed;
 use thiserror::Error;
 
 /// Why a folder isn't accepted.
@@ -22,16 +22,6 @@ impl From<NoMemory> for JudgeError {
     ghost from_gives = { λ _ e. e ≡ NoMemory };
 
     fn from(_error: NoMemory) -> JudgeError {
-        JudgeError::NoMemory
-    }
-}
-
-impl From<AllocError> for JudgeError {
-    ghost use Rattle.folder_judging.specs.declared.errors.JudgeError.TheVariants.{NoMemory};
-
-    ghost from_gives = { λ _ e. e ≡ NoMemory };
-
-    fn from(_error: AllocError) -> JudgeError {
         JudgeError::NoMemory
     }
 }

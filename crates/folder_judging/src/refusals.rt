@@ -3,9 +3,9 @@ ghost use Rattle.std.specs.Prelude.{◌≡◌, ◌++◌, IfOk, codes, decimal};
 ghost use Rattle.folder_judging.specs.Refusals.{IsAt, IsMadeAt};
 
 use crate::JudgeError;
-use sj_names::Text;
+use sj_names::{NoMemory, Text};
 use sj_reach::Report;
-use std::alloc::{AllocError, Global};
+use std::alloc::Global;
 
 /// The refusal with this code at a class or a file.
 pub fn refusal_at(alloc: Global, code: u8, name: &str) -> JudgeError
@@ -31,19 +31,19 @@ pub fn refusal_in_file(alloc: Global, code: u8, path: &str, offset: u64) -> Judg
     refused(code, text_with_offset(alloc, path, offset))
 }
 
-fn text_with_rule(alloc: Global, place: &str, rule: u8) -> Result<Text, AllocError>
+fn text_with_rule(alloc: Global, place: &str, rule: u8) -> Result<Text, NoMemory>
     ensures { IfOk result (λ t. t ≡ place.now ++ codes " " ++ decimal rule) }
 {
     Text::from_string(format!(in alloc; "{place} {rule}")?)
 }
 
-fn text_with_offset(alloc: Global, path: &str, offset: u64) -> Result<Text, AllocError>
+fn text_with_offset(alloc: Global, path: &str, offset: u64) -> Result<Text, NoMemory>
     ensures { IfOk result (λ t. t ≡ path.now ++ codes ":" ++ decimal offset) }
 {
     Text::from_string(format!(in alloc; "{path}:{offset}")?)
 }
 
-fn refused(code: u8, place: Result<Text, AllocError>) -> JudgeError
+fn refused(code: u8, place: Result<Text, NoMemory>) -> JudgeError
     ensures { IsMadeAt code place result }
 {
     match place {

@@ -5,8 +5,9 @@
 ghost use Rattle.std.specs.Prelude.{◌≤◌, IfSome};
 
 use sj_gen::folder;
+use sj_names::NoMemory;
 use sj_outside::{Lines, Outputs, OutsideError, RealLines, RealOutputs, is_operand, real_words};
-use std::alloc::{AllocError, Global};
+use std::alloc::Global;
 use std::process::ExitCode;
 
 const USAGE: &str = "usage: gen_program N OUT [edited], with N from 1 to 20000\n";
@@ -16,7 +17,7 @@ fn main(rt: HostRuntime) -> ExitCode {
     let mut lines = RealLines::new(&rt);
     let status = match real_words(&rt) {
         Ok(words) => run(rt.alloc(), words.as_slice(), &mut outputs, &mut lines),
-        Err(AllocError) => Status::NoMemory,
+        Err(NoMemory) => Status::NoMemory,
     };
     ExitCode::from(status.exit_code())
 }

@@ -2,19 +2,13 @@
 ghost use Rattle.name_vectors.specs.Taken.{IsNameTaken, AreUnitsTaken};
 
 use hex::FromHexError;
-use sj_names::NameError;
+use sj_names::{NameError, NoMemory};
 use sj_units::UnitsError;
-use std::alloc::{AllocError, AllocFailed};
+use std::alloc::AllocFailed;
 
 /// The case isn't decided: no memory was left, or its text isn't hexadecimal.
 #[derive(Clone, Copy, Debug)]
 pub struct Undecided;
-
-impl From<AllocError> for Undecided {
-    fn from(_error: AllocError) -> Undecided {
-        Undecided
-    }
-}
 
 impl<T: Drop> From<AllocFailed<T>> for Undecided {
     fn from(_error: AllocFailed<T>) -> Undecided {
@@ -22,14 +16,8 @@ impl<T: Drop> From<AllocFailed<T>> for Undecided {
     }
 }
 
-impl From<sj_names::NoMemory> for Undecided {
-    fn from(_error: sj_names::NoMemory) -> Undecided {
-        Undecided
-    }
-}
-
-impl From<sj_units::NoMemory> for Undecided {
-    fn from(_error: sj_units::NoMemory) -> Undecided {
+impl From<NoMemory> for Undecided {
+    fn from(_error: NoMemory) -> Undecided {
         Undecided
     }
 }

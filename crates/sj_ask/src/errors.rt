@@ -2,7 +2,7 @@
 ghost use Rattle.std.specs.Prelude.{◌≡◌};
 
 use sj_names::NoMemory;
-use std::alloc::{AllocError, AllocFailed};
+use std::alloc::AllocFailed;
 use thiserror::Error;
 
 /// Why the check of a method's types ends.
@@ -15,16 +15,6 @@ pub enum TypeError {
     /// No memory was left.
     #[error("no memory is left")]
     NoMemory,
-}
-
-impl From<AllocError> for TypeError {
-    ghost use Rattle.sj_ask.specs.declared.errors.TypeError.TheVariants.{NoMemory};
-
-    ghost from_gives = { λ _ e. e ≡ NoMemory };
-
-    fn from(_error: AllocError) -> TypeError {
-        TypeError::NoMemory
-    }
 }
 
 impl<T: Drop> From<AllocFailed<T>> for TypeError {

@@ -8,21 +8,56 @@ use sj_trees::{IrType, Position};
 #[cycle(core_statement)]
 pub enum CoreStatement {
     /// A variable that keeps its first value.
-    Constant(Option<Position>, CoreVariable, CoreExpression),
+    Constant {
+        position: Option<Position>,
+        variable: CoreVariable,
+        value: CoreExpression,
+    },
     /// A variable with its first value.
-    Define(Option<Position>, CoreVariable, CoreExpression),
+    Define {
+        position: Option<Position>,
+        variable: CoreVariable,
+        value: CoreExpression,
+    },
     /// A variable without a value.
-    Declare(Option<Position>, CoreVariable),
-    Assign(Option<Position>, CoreVariable, CoreExpression),
+    Declare {
+        position: Option<Position>,
+        variable: CoreVariable,
+    },
+    Assign {
+        position: Option<Position>,
+        variable: CoreVariable,
+        value: CoreExpression,
+    },
     /// An expression whose value isn't used.
-    Evaluate(Option<Position>, CoreExpression),
-    Return(Option<Position>, CoreExpression),
+    Evaluate {
+        position: Option<Position>,
+        value: CoreExpression,
+    },
+    Return {
+        position: Option<Position>,
+        value: CoreExpression,
+    },
     /// A text is logged as a line.
-    Log(Option<Position>, CoreExpression),
+    Log {
+        position: Option<Position>,
+        value: CoreExpression,
+    },
     /// A field of an object is set: the object, the class and the name of the field, and the value.
-    AssignField(Option<Position>, CoreExpression, ClassName, FieldName, CoreExpression),
+    AssignField {
+        position: Option<Position>,
+        object: CoreExpression,
+        class: ClassName,
+        field: FieldName,
+        value: CoreExpression,
+    },
     /// A static field is set.
-    AssignStatic(Option<Position>, ClassName, FieldName, CoreExpression),
+    AssignStatic {
+        position: Option<Position>,
+        class: ClassName,
+        field: FieldName,
+        value: CoreExpression,
+    },
     /// An element of an array is set: the type of the elements, the array, the index and the value.
     AssignElement {
         position: Option<Position>,
@@ -32,41 +67,118 @@ pub enum CoreStatement {
         value: CoreExpression,
     },
     /// The one object of a class is stored.
-    StoreModule(Option<Position>, ClassName, CoreExpression),
-    Throw(Option<Position>, CoreExpression),
+    StoreModule {
+        position: Option<Position>,
+        class: ClassName,
+        value: CoreExpression,
+    },
+    Throw {
+        position: Option<Position>,
+        value: CoreExpression,
+    },
     /// The labelled block ends.
-    Leave(Option<Position>, LabelName),
+    Leave {
+        position: Option<Position>,
+        label: LabelName,
+    },
     /// The nearest loop or switch ends.
-    Break(Option<Position>),
+    Break {
+        position: Option<Position>,
+    },
     /// A choice: the condition, and the statements of both branches.
-    If(Option<Position>, CoreExpression, Vec<CoreStatement>, Vec<CoreStatement>),
+    If {
+        position: Option<Position>,
+        test: CoreExpression,
+        yes: Vec<CoreStatement>,
+        no: Vec<CoreStatement>,
+    },
     /// A loop that tests in front.
-    While(Option<Position>, CoreExpression, Vec<CoreStatement>),
+    While {
+        position: Option<Position>,
+        test: CoreExpression,
+        body: Vec<CoreStatement>,
+    },
     /// A loop that a break alone ends.
-    Loop(Option<Position>, Vec<CoreStatement>),
+    Loop {
+        position: Option<Position>,
+        body: Vec<CoreStatement>,
+    },
     /// A block that a `Leave` may end.
-    Labeled(Option<Position>, LabelName, Vec<CoreStatement>),
+    Labeled {
+        position: Option<Position>,
+        label: LabelName,
+        body: Vec<CoreStatement>,
+    },
     /// A choice by a number: the selector, the cases and the default.
-    Switch(Option<Position>, CoreExpression, Vec<CoreCase>, Vec<CoreStatement>),
+    Switch {
+        position: Option<Position>,
+        selector: CoreExpression,
+        cases: Vec<CoreCase>,
+        default: Vec<CoreStatement>,
+    },
     /// What the one block throws is caught under a name, for the other.
-    Try(Option<Position>, Vec<CoreStatement>, CoreVariable, Vec<CoreStatement>),
+    Try {
+        position: Option<Position>,
+        block: Vec<CoreStatement>,
+        variable: CoreVariable,
+        handler: Vec<CoreStatement>,
+    },
     /// However the one block ends, the other runs behind it.
-    Finally(Option<Position>, Vec<CoreStatement>, Vec<CoreStatement>),
+    Finally {
+        position: Option<Position>,
+        block: Vec<CoreStatement>,
+        finalizer: Vec<CoreStatement>,
+    },
 }
 
 impl Drop for CoreStatement {
     #[cycle(core_statement)]
     fn drop(self) {
         match self {
-            CoreStatement::Constant(_, _one, _two) => {}
-            CoreStatement::Define(_, _one, _two) => {}
-            CoreStatement::Declare(_, _one) => {}
-            CoreStatement::Assign(_, _one, _two) => {}
-            CoreStatement::Evaluate(_, _one) => {}
-            CoreStatement::Return(_, _one) => {}
-            CoreStatement::Log(_, _one) => {}
-            CoreStatement::AssignField(_, _one, _two, _three, _four) => {}
-            CoreStatement::AssignStatic(_, _one, _two, _three) => {}
+            CoreStatement::Constant {
+                position: _,
+                variable: _variable,
+                value: _value,
+            } => {}
+            CoreStatement::Define {
+                position: _,
+                variable: _variable,
+                value: _value,
+            } => {}
+            CoreStatement::Declare {
+                position: _,
+                variable: _variable,
+            } => {}
+            CoreStatement::Assign {
+                position: _,
+                variable: _variable,
+                value: _value,
+            } => {}
+            CoreStatement::Evaluate {
+                position: _,
+                value: _value,
+            } => {}
+            CoreStatement::Return {
+                position: _,
+                value: _value,
+            } => {}
+            CoreStatement::Log {
+                position: _,
+                value: _value,
+            } => {}
+            CoreStatement::AssignField {
+                position: _,
+                object: _object,
+                class: _class,
+                field: _field,
+                value: _value,
+            } => {}
+            CoreStatement::AssignStatic {
+                position: _,
+                class: _class,
+                field: _field,
+                value: _value,
+            } => {}
             CoreStatement::AssignElement {
                 position: _,
                 tpe: _one,
@@ -74,17 +186,57 @@ impl Drop for CoreStatement {
                 index: _three,
                 value: _four,
             } => {}
-            CoreStatement::StoreModule(_, _one, _two) => {}
-            CoreStatement::Throw(_, _one) => {}
-            CoreStatement::Leave(_, _one) => {}
-            CoreStatement::Break(_) => {}
-            CoreStatement::If(_, _one, _two, _three) => {}
-            CoreStatement::While(_, _one, _two) => {}
-            CoreStatement::Loop(_, _one) => {}
-            CoreStatement::Labeled(_, _one, _two) => {}
-            CoreStatement::Switch(_, _one, _two, _three) => {}
-            CoreStatement::Try(_, _one, _two, _three) => {}
-            CoreStatement::Finally(_, _one, _two) => {}
+            CoreStatement::StoreModule {
+                position: _,
+                class: _class,
+                value: _value,
+            } => {}
+            CoreStatement::Throw {
+                position: _,
+                value: _value,
+            } => {}
+            CoreStatement::Leave {
+                position: _,
+                label: _label,
+            } => {}
+            CoreStatement::Break { position: _ } => {}
+            CoreStatement::If {
+                position: _,
+                test: _test,
+                yes: _yes,
+                no: _no,
+            } => {}
+            CoreStatement::While {
+                position: _,
+                test: _test,
+                body: _body,
+            } => {}
+            CoreStatement::Loop {
+                position: _,
+                body: _body,
+            } => {}
+            CoreStatement::Labeled {
+                position: _,
+                label: _label,
+                body: _body,
+            } => {}
+            CoreStatement::Switch {
+                position: _,
+                selector: _selector,
+                cases: _cases,
+                default: _default,
+            } => {}
+            CoreStatement::Try {
+                position: _,
+                block: _block,
+                variable: _variable,
+                handler: _handler,
+            } => {}
+            CoreStatement::Finally {
+                position: _,
+                block: _block,
+                finalizer: _finalizer,
+            } => {}
         }
     }
 }

@@ -61,7 +61,10 @@ fn receiver_given(alloc: Global) -> Result<Vec<CoreStatement>, NoMemory>
 {
     let mut statements = Vec::new(alloc);
     let receiver = CoreExpression::Variable(CoreVariable::Receiver);
-    statements.push(CoreStatement::Return(None, receiver))?;
+    statements.push(CoreStatement::Return {
+        position: None,
+        value: receiver,
+    })?;
     Ok(statements)
 }
 

@@ -48,7 +48,13 @@ pub fn statements_of(
     ensures { IfOk result (λ w. code_view w ≡ desugar.into (is_among locals.now.mutable.now) (is_among locals.now.sure.now) (map target_view targets.now) (destination_view destination.now) next (view tree.now)) }
 {
     match tree {
-        Tree::VarDef(position, name, tpe, _, value) => {
+        Tree::VarDef {
+            position,
+            name,
+            tpe,
+            value,
+            ..
+        } => {
             let simple = is_plain(value);
             if simple {
                 defined(alloc, locals.sure, *position, name, tpe, value, next)
@@ -58,13 +64,22 @@ pub fn statements_of(
                 declared(alloc, *position, name, value_code)
             }
         }
-        Tree::Block(_, trees) => block_of(alloc, locals, targets, destination, next, trees),
-        Tree::Labeled(position, label, _, body) => {
+        Tree::Block { trees, .. } => block_of(alloc, locals, targets, destination, next, trees),
+        Tree::Labeled {
+            position,
+            label,
+            body,
+            ..
+        } => {
             let inner = with_label(alloc, label, destination, targets)?;
             let body_code = statements_of(alloc, locals, &inner, destination, next, body)?;
             labeled(alloc, destination, *position, label, body_code)
         }
-        Tree::Assign(position, target, value) => {
+        Tree::Assign {
+            position,
+            target,
+            value,
+        } => {
             let value_plain = is_plain(value);
             let owner = owner_of(alloc, locals, targets, value_plain, next, target)?;
             let index = index_of(alloc, locals, targets, value_plain, owner.next, target)?;
@@ -72,18 +87,32 @@ pub fn statements_of(
                 alloc, locals, targets, next, *position, value, target, owner, index,
             )
         }
-        Tree::Return(position, value, label) => {
+        Tree::Return {
+            position,
+            value,
+            label,
+        } => {
             let goes_to = target_of(targets, label)?;
             let left = statements_of(alloc, locals, targets, &goes_to, next, value)?;
             leaving(alloc, &goes_to, *position, label, left)
         }
-        Tree::If(position, condition, yes, no, _) => {
+        Tree::If {
+            position,
+            condition,
+            yes,
+            no,
+            ..
+        } => {
             let test = operand_of(alloc, locals, targets, true, next, condition)?;
             let first = statements_of(alloc, locals, targets, destination, test.next, yes)?;
             let second = statements_of(alloc, locals, targets, destination, first.next, no)?;
             branched(alloc, *position, test, first, second)
         }
-        Tree::While(position, condition, body) => {
+        Tree::While {
+            position,
+            condition,
+            body,
+        } => {
             let nowhere = Destination::Discard;
             let repeated = is_plain(condition);
             if repeated {
@@ -95,18 +124,32 @@ pub fn statements_of(
                 tested_loop(alloc, *position, front, rest)
             }
         }
-        Tree::DoWhile(position, body, condition) => {
+        Tree::DoWhile {
+            position,
+            body,
+            condition,
+        } => {
             let nowhere = Destination::Discard;
             let whole = statements_of(alloc, locals, targets, &nowhere, next, body)?;
             let back = operand_of(alloc, locals, targets, true, whole.next, condition)?;
             looped_behind(alloc, *position, whole, back)
         }
-        Tree::TryCatch(position, block, name, handler, _) => {
+        Tree::TryCatch {
+            position,
+            block,
+            name,
+            handler,
+            ..
+        } => {
             let first = statements_of(alloc, locals, targets, destination, next, block)?;
             let second = statements_of(alloc, locals, targets, destination, first.next, handler)?;
             tried(alloc, *position, first, name, second)
         }
-        Tree::TryFinally(position, block, finalizer) => {
+        Tree::TryFinally {
+            position,
+            block,
+            finalizer,
+        } => {
             let nowhere = Destination::Discard;
             let first = statements_of(alloc, locals, targets, destination, next, block)?;
             let number = first.next;
@@ -116,13 +159,26 @@ pub fn statements_of(
             let second = given_back(alloc, &kept_variables, number, front, code)?;
             finished(alloc, *position, first, second)
         }
-        Tree::Match(position, selector, cases, default, _) => {
+        Tree::Match {
+            position,
+            selector,
+            cases,
+            default,
+            ..
+        } => {
             let selected = operand_of(alloc, locals, targets, true, next, selector)?;
             let branches = cases_of(alloc, locals, targets, destination, selected.next, cases)?;
             let last = statements_of(alloc, locals, targets, destination, branches.next, default)?;
             switched(alloc, *position, selected, branches, last)
         }
-        Tree::ApplyStatic(position, class, namespace, method, trees, tpe) => {
+        Tree::ApplyStatic {
+            position,
+            class,
+            namespace,
+            method,
+            arguments: trees,
+            tpe,
+        } => {
             let member = CalledMember {
                 class,
                 namespace: *namespace,
@@ -132,7 +188,13 @@ pub fn statements_of(
             let arguments = arguments_of(alloc, locals, targets, params, next, trees)?;
             call_value(alloc, destination, *position, &member, tpe, arguments)
         }
-        Tree::Apply(position, object, method, trees, tpe) => {
+        Tree::Apply {
+            position,
+            receiver: object,
+            method,
+            arguments: trees,
+            tpe,
+        } => {
             let trees_plain = are_plain(trees);
             let owner = receiver_of(alloc, locals, targets, trees_plain, next, object)?;
             let params = method.params.as_slice();
@@ -148,7 +210,15 @@ pub fn statements_of(
                 arguments,
             )
         }
-        Tree::ApplyStatically(position, object, class, namespace, method, trees, tpe) => {
+        Tree::ApplyStatically {
+            position,
+            receiver: object,
+            class,
+            namespace,
+            method,
+            arguments: trees,
+            tpe,
+        } => {
             let member = CalledMember {
                 class,
                 namespace: *namespace,
@@ -169,56 +239,101 @@ pub fn statements_of(
                 arguments,
             )
         }
-        Tree::New(position, class, method, trees) => {
+        Tree::New {
+            position,
+            class,
+            constructor: method,
+            arguments: trees,
+        } => {
             let params = method.params.as_slice();
             let arguments = arguments_of(alloc, locals, targets, params, next, trees)?;
             made_value(alloc, destination, *position, class, method, arguments)
         }
-        Tree::Select(position, object, class, name, tpe) => {
+        Tree::Select {
+            position,
+            object,
+            class,
+            field: name,
+            tpe,
+        } => {
             let owner = receiver_of(alloc, locals, targets, true, next, object)?;
             let place = FieldPlace { class, name, tpe };
             field_value(alloc, destination, *position, &place, owner)
         }
-        Tree::NewArray(position, array, length) => {
+        Tree::NewArray {
+            position,
+            array,
+            length,
+        } => {
             let size = operand_of(alloc, locals, targets, true, next, length)?;
             new_array_value(alloc, destination, *position, array, size)
         }
-        Tree::ArrayValue(position, array, trees) => {
+        Tree::ArrayValue {
+            position,
+            array,
+            items: trees,
+        } => {
             let expected = IrType::of_items(array)?;
             let items = items_of(alloc, locals, targets, &expected, next, trees)?;
             array_value(alloc, destination, *position, array, items)
         }
-        Tree::ArrayLength(position, array) => {
+        Tree::ArrayLength { position, array } => {
             let owner = receiver_of(alloc, locals, targets, true, next, array)?;
             length_value(alloc, destination, *position, owner)
         }
-        Tree::ArraySelect(position, array, index, tpe) => {
+        Tree::ArraySelect {
+            position,
+            array,
+            index,
+            tpe,
+        } => {
             let index_plain = is_plain(index);
             let owner = receiver_of(alloc, locals, targets, index_plain, next, array)?;
             let place = operand_of(alloc, locals, targets, true, owner.next, index)?;
             element_value(alloc, destination, *position, tpe, owner, place)
         }
-        Tree::Throw(position, value) => {
+        Tree::Throw { position, value } => {
             let object = operand_of(alloc, locals, targets, true, next, value)?;
             thrown(alloc, *position, value, object)
         }
-        Tree::StoreModule(position, class, value) => {
+        Tree::StoreModule {
+            position,
+            class,
+            value,
+        } => {
             let object = operand_of(alloc, locals, targets, true, next, value)?;
             module_stored(alloc, *position, class, value, object)
         }
-        Tree::UnaryOp(position, op, value) => {
+        Tree::UnaryOp {
+            position,
+            operator: op,
+            operand: value,
+        } => {
             let operand = operand_of(alloc, locals, targets, true, next, value)?;
             unary_value(alloc, destination, *position, *op, operand)
         }
-        Tree::IsInstanceOf(position, value, tpe) => {
+        Tree::IsInstanceOf {
+            position,
+            value,
+            tpe,
+        } => {
             let operand = operand_of(alloc, locals, targets, true, next, value)?;
             tested_value(alloc, destination, *position, tpe, value, operand)
         }
-        Tree::AsInstanceOf(position, value, tpe) => {
+        Tree::AsInstanceOf {
+            position,
+            value,
+            tpe,
+        } => {
             let operand = operand_of(alloc, locals, targets, true, next, value)?;
             cast_value(alloc, destination, *position, tpe, value, operand)
         }
-        Tree::BinaryOp(position, op, left, right) => {
+        Tree::BinaryOp {
+            position,
+            operator: op,
+            left,
+            right,
+        } => {
             let second_plain = is_plain(right);
             let one = operand_of(alloc, locals, targets, second_plain, next, left)?;
             let other = operand_of(alloc, locals, targets, true, one.next, right)?;
@@ -229,24 +344,27 @@ pub fn statements_of(
             };
             binary_value(alloc, destination, *position, &operation, one, other)
         }
-        Tree::Log(position, text) => {
+        Tree::Log {
+            position,
+            value: text,
+        } => {
             let line = operand_of(alloc, locals, targets, true, next, text)?;
             logged(alloc, *position, line)
         }
-        Tree::Undefined(_)
-        | Tree::Null(_)
-        | Tree::BooleanLiteral(_, _)
-        | Tree::CharLiteral(_, _)
-        | Tree::ByteLiteral(_, _)
-        | Tree::ShortLiteral(_, _)
-        | Tree::IntLiteral(_, _)
-        | Tree::LongLiteral(_, _)
-        | Tree::StringLiteral(_, _)
-        | Tree::VarRef(_, _, _)
-        | Tree::This(_, _)
-        | Tree::SelectStatic(_, _, _, _)
-        | Tree::LoadModule(_, _) => value_of(alloc, destination, next, tree),
-        Tree::Skip(_) => Ok(nothing(alloc, next)),
+        Tree::Undefined { .. }
+        | Tree::Null { .. }
+        | Tree::BooleanLiteral { .. }
+        | Tree::CharLiteral { .. }
+        | Tree::ByteLiteral { .. }
+        | Tree::ShortLiteral { .. }
+        | Tree::IntLiteral { .. }
+        | Tree::LongLiteral { .. }
+        | Tree::StringLiteral { .. }
+        | Tree::VarRef { .. }
+        | Tree::This { .. }
+        | Tree::SelectStatic { .. }
+        | Tree::LoadModule { .. } => value_of(alloc, destination, next, tree),
+        Tree::Skip { .. } => Ok(nothing(alloc, next)),
     }
 }
 
@@ -263,53 +381,53 @@ fn owner_of(
     ensures { IfOk result (λ p. placed_view p ≡ owner_place (is_among locals.now.mutable.now) (is_among locals.now.sure.now) (map target_view targets.now) rest_is_plain next (view target.now)) }
 {
     match target {
-        Tree::Select(_, object, _, _, _) => {
+        Tree::Select { object, .. } => {
             receiver_of(alloc, locals, targets, rest_is_plain, next, object)
         }
-        Tree::ArraySelect(_, array, index, _) => {
+        Tree::ArraySelect { array, index, .. } => {
             let index_plain = is_plain(index);
             let rest = are_both(index_plain, rest_is_plain);
             receiver_of(alloc, locals, targets, rest, next, array)
         }
-        Tree::VarDef(_, _, _, _, _)
-        | Tree::Skip(_)
-        | Tree::Block(_, _)
-        | Tree::Labeled(_, _, _, _)
-        | Tree::Assign(_, _, _)
-        | Tree::Return(_, _, _)
-        | Tree::If(_, _, _, _, _)
-        | Tree::While(_, _, _)
-        | Tree::DoWhile(_, _, _)
-        | Tree::TryCatch(_, _, _, _, _)
-        | Tree::TryFinally(_, _, _)
-        | Tree::Throw(_, _)
-        | Tree::Match(_, _, _, _, _)
-        | Tree::New(_, _, _, _)
-        | Tree::LoadModule(_, _)
-        | Tree::StoreModule(_, _, _)
-        | Tree::Apply(_, _, _, _, _)
-        | Tree::ApplyStatically(_, _, _, _, _, _, _)
-        | Tree::ApplyStatic(_, _, _, _, _, _)
-        | Tree::UnaryOp(_, _, _)
-        | Tree::BinaryOp(_, _, _, _)
-        | Tree::NewArray(_, _, _)
-        | Tree::ArrayValue(_, _, _)
-        | Tree::ArrayLength(_, _)
-        | Tree::IsInstanceOf(_, _, _)
-        | Tree::AsInstanceOf(_, _, _)
-        | Tree::Undefined(_)
-        | Tree::Null(_)
-        | Tree::BooleanLiteral(_, _)
-        | Tree::CharLiteral(_, _)
-        | Tree::ByteLiteral(_, _)
-        | Tree::ShortLiteral(_, _)
-        | Tree::IntLiteral(_, _)
-        | Tree::LongLiteral(_, _)
-        | Tree::StringLiteral(_, _)
-        | Tree::This(_, _)
-        | Tree::Log(_, _)
-        | Tree::VarRef(_, _, _)
-        | Tree::SelectStatic(_, _, _, _) => Ok(in_place(alloc, CoreExpression::Undefined, next)),
+        Tree::VarDef { .. }
+        | Tree::Skip { .. }
+        | Tree::Block { .. }
+        | Tree::Labeled { .. }
+        | Tree::Assign { .. }
+        | Tree::Return { .. }
+        | Tree::If { .. }
+        | Tree::While { .. }
+        | Tree::DoWhile { .. }
+        | Tree::TryCatch { .. }
+        | Tree::TryFinally { .. }
+        | Tree::Throw { .. }
+        | Tree::Match { .. }
+        | Tree::New { .. }
+        | Tree::LoadModule { .. }
+        | Tree::StoreModule { .. }
+        | Tree::Apply { .. }
+        | Tree::ApplyStatically { .. }
+        | Tree::ApplyStatic { .. }
+        | Tree::UnaryOp { .. }
+        | Tree::BinaryOp { .. }
+        | Tree::NewArray { .. }
+        | Tree::ArrayValue { .. }
+        | Tree::ArrayLength { .. }
+        | Tree::IsInstanceOf { .. }
+        | Tree::AsInstanceOf { .. }
+        | Tree::Undefined { .. }
+        | Tree::Null { .. }
+        | Tree::BooleanLiteral { .. }
+        | Tree::CharLiteral { .. }
+        | Tree::ByteLiteral { .. }
+        | Tree::ShortLiteral { .. }
+        | Tree::IntLiteral { .. }
+        | Tree::LongLiteral { .. }
+        | Tree::StringLiteral { .. }
+        | Tree::This { .. }
+        | Tree::Log { .. }
+        | Tree::VarRef { .. }
+        | Tree::SelectStatic { .. } => Ok(in_place(alloc, CoreExpression::Undefined, next)),
     }
 }
 
@@ -326,49 +444,49 @@ fn index_of(
     ensures { IfOk result (λ p. placed_view p ≡ index_place (is_among locals.now.mutable.now) (is_among locals.now.sure.now) (map target_view targets.now) rest_is_plain next (view target.now)) }
 {
     match target {
-        Tree::ArraySelect(_, _, index, _) => {
+        Tree::ArraySelect { index, .. } => {
             operand_of(alloc, locals, targets, rest_is_plain, next, index)
         }
-        Tree::VarDef(_, _, _, _, _)
-        | Tree::Skip(_)
-        | Tree::Block(_, _)
-        | Tree::Labeled(_, _, _, _)
-        | Tree::Assign(_, _, _)
-        | Tree::Return(_, _, _)
-        | Tree::If(_, _, _, _, _)
-        | Tree::While(_, _, _)
-        | Tree::DoWhile(_, _, _)
-        | Tree::TryCatch(_, _, _, _, _)
-        | Tree::TryFinally(_, _, _)
-        | Tree::Throw(_, _)
-        | Tree::Match(_, _, _, _, _)
-        | Tree::New(_, _, _, _)
-        | Tree::LoadModule(_, _)
-        | Tree::StoreModule(_, _, _)
-        | Tree::Select(_, _, _, _, _)
-        | Tree::Apply(_, _, _, _, _)
-        | Tree::ApplyStatically(_, _, _, _, _, _, _)
-        | Tree::ApplyStatic(_, _, _, _, _, _)
-        | Tree::UnaryOp(_, _, _)
-        | Tree::BinaryOp(_, _, _, _)
-        | Tree::NewArray(_, _, _)
-        | Tree::ArrayValue(_, _, _)
-        | Tree::ArrayLength(_, _)
-        | Tree::IsInstanceOf(_, _, _)
-        | Tree::AsInstanceOf(_, _, _)
-        | Tree::Undefined(_)
-        | Tree::Null(_)
-        | Tree::BooleanLiteral(_, _)
-        | Tree::CharLiteral(_, _)
-        | Tree::ByteLiteral(_, _)
-        | Tree::ShortLiteral(_, _)
-        | Tree::IntLiteral(_, _)
-        | Tree::LongLiteral(_, _)
-        | Tree::StringLiteral(_, _)
-        | Tree::This(_, _)
-        | Tree::Log(_, _)
-        | Tree::VarRef(_, _, _)
-        | Tree::SelectStatic(_, _, _, _) => Ok(in_place(alloc, CoreExpression::Undefined, next)),
+        Tree::VarDef { .. }
+        | Tree::Skip { .. }
+        | Tree::Block { .. }
+        | Tree::Labeled { .. }
+        | Tree::Assign { .. }
+        | Tree::Return { .. }
+        | Tree::If { .. }
+        | Tree::While { .. }
+        | Tree::DoWhile { .. }
+        | Tree::TryCatch { .. }
+        | Tree::TryFinally { .. }
+        | Tree::Throw { .. }
+        | Tree::Match { .. }
+        | Tree::New { .. }
+        | Tree::LoadModule { .. }
+        | Tree::StoreModule { .. }
+        | Tree::Select { .. }
+        | Tree::Apply { .. }
+        | Tree::ApplyStatically { .. }
+        | Tree::ApplyStatic { .. }
+        | Tree::UnaryOp { .. }
+        | Tree::BinaryOp { .. }
+        | Tree::NewArray { .. }
+        | Tree::ArrayValue { .. }
+        | Tree::ArrayLength { .. }
+        | Tree::IsInstanceOf { .. }
+        | Tree::AsInstanceOf { .. }
+        | Tree::Undefined { .. }
+        | Tree::Null { .. }
+        | Tree::BooleanLiteral { .. }
+        | Tree::CharLiteral { .. }
+        | Tree::ByteLiteral { .. }
+        | Tree::ShortLiteral { .. }
+        | Tree::IntLiteral { .. }
+        | Tree::LongLiteral { .. }
+        | Tree::StringLiteral { .. }
+        | Tree::This { .. }
+        | Tree::Log { .. }
+        | Tree::VarRef { .. }
+        | Tree::SelectStatic { .. } => Ok(in_place(alloc, CoreExpression::Undefined, next)),
     }
 }
 
@@ -389,61 +507,71 @@ fn assignment_of(
     ensures { IfOk result (λ w. code_view w ≡ assigned_code (is_among locals.now.mutable.now) (is_among locals.now.sure.now) (map target_view targets.now) next position (view target.now) (view value.now) (placed_view owner) (placed_view index)) }
 {
     match target {
-        Tree::VarRef(_, name, tpe) => {
+        Tree::VarRef { name, tpe, .. } => {
             let new_value = operand_of(alloc, locals, targets, true, next, value)?;
             assigned(alloc, position, name, tpe, value, new_value)
         }
-        Tree::Select(_, _, class, name, tpe) => {
+        Tree::Select {
+            class,
+            field: name,
+            tpe,
+            ..
+        } => {
             let new_value = operand_of(alloc, locals, targets, true, owner.next, value)?;
             let place = FieldPlace { class, name, tpe };
             field_set(alloc, position, &place, value, owner, new_value)
         }
-        Tree::SelectStatic(_, class, name, tpe) => {
+        Tree::SelectStatic {
+            class,
+            field: name,
+            tpe,
+            ..
+        } => {
             let new_value = operand_of(alloc, locals, targets, true, next, value)?;
             let place = FieldPlace { class, name, tpe };
             static_set(alloc, position, &place, value, new_value)
         }
-        Tree::ArraySelect(_, _, _, tpe) => {
+        Tree::ArraySelect { tpe, .. } => {
             let new_value = operand_of(alloc, locals, targets, true, index.next, value)?;
             element_set(alloc, position, tpe, value, owner, index, new_value)
         }
-        Tree::VarDef(_, _, _, _, _)
-        | Tree::Skip(_)
-        | Tree::Block(_, _)
-        | Tree::Labeled(_, _, _, _)
-        | Tree::Assign(_, _, _)
-        | Tree::Return(_, _, _)
-        | Tree::If(_, _, _, _, _)
-        | Tree::While(_, _, _)
-        | Tree::DoWhile(_, _, _)
-        | Tree::TryCatch(_, _, _, _, _)
-        | Tree::TryFinally(_, _, _)
-        | Tree::Throw(_, _)
-        | Tree::Match(_, _, _, _, _)
-        | Tree::New(_, _, _, _)
-        | Tree::LoadModule(_, _)
-        | Tree::StoreModule(_, _, _)
-        | Tree::Apply(_, _, _, _, _)
-        | Tree::ApplyStatically(_, _, _, _, _, _, _)
-        | Tree::ApplyStatic(_, _, _, _, _, _)
-        | Tree::UnaryOp(_, _, _)
-        | Tree::BinaryOp(_, _, _, _)
-        | Tree::NewArray(_, _, _)
-        | Tree::ArrayValue(_, _, _)
-        | Tree::ArrayLength(_, _)
-        | Tree::IsInstanceOf(_, _, _)
-        | Tree::AsInstanceOf(_, _, _)
-        | Tree::Undefined(_)
-        | Tree::Null(_)
-        | Tree::BooleanLiteral(_, _)
-        | Tree::CharLiteral(_, _)
-        | Tree::ByteLiteral(_, _)
-        | Tree::ShortLiteral(_, _)
-        | Tree::IntLiteral(_, _)
-        | Tree::LongLiteral(_, _)
-        | Tree::StringLiteral(_, _)
-        | Tree::This(_, _)
-        | Tree::Log(_, _) => Ok(nothing(alloc, next)),
+        Tree::VarDef { .. }
+        | Tree::Skip { .. }
+        | Tree::Block { .. }
+        | Tree::Labeled { .. }
+        | Tree::Assign { .. }
+        | Tree::Return { .. }
+        | Tree::If { .. }
+        | Tree::While { .. }
+        | Tree::DoWhile { .. }
+        | Tree::TryCatch { .. }
+        | Tree::TryFinally { .. }
+        | Tree::Throw { .. }
+        | Tree::Match { .. }
+        | Tree::New { .. }
+        | Tree::LoadModule { .. }
+        | Tree::StoreModule { .. }
+        | Tree::Apply { .. }
+        | Tree::ApplyStatically { .. }
+        | Tree::ApplyStatic { .. }
+        | Tree::UnaryOp { .. }
+        | Tree::BinaryOp { .. }
+        | Tree::NewArray { .. }
+        | Tree::ArrayValue { .. }
+        | Tree::ArrayLength { .. }
+        | Tree::IsInstanceOf { .. }
+        | Tree::AsInstanceOf { .. }
+        | Tree::Undefined { .. }
+        | Tree::Null { .. }
+        | Tree::BooleanLiteral { .. }
+        | Tree::CharLiteral { .. }
+        | Tree::ByteLiteral { .. }
+        | Tree::ShortLiteral { .. }
+        | Tree::IntLiteral { .. }
+        | Tree::LongLiteral { .. }
+        | Tree::StringLiteral { .. }
+        | Tree::This { .. }
+        | Tree::Log { .. } => Ok(nothing(alloc, next)),
     }
 }
 

@@ -83,7 +83,11 @@ fn keep(alloc: Global, variable: &CoreVariable, number: u64) -> Result<Written, 
 {
     let next = number_behind(number)?;
     let value = CoreExpression::Variable(copied_variable(variable)?);
-    let statement = CoreStatement::Constant(None, CoreVariable::Numbered(number), value);
+    let statement = CoreStatement::Constant {
+        position: None,
+        variable: CoreVariable::Numbered(number),
+        value,
+    };
     one(alloc, statement, next)
 }
 
@@ -110,7 +114,11 @@ fn give_back(
     ensures { IfOk result (λ w. code_view w ≡ specs.give_all_back (variable_view variable.now ∷ []) number next) }
 {
     let value = CoreExpression::Variable(CoreVariable::Numbered(number));
-    let statement = CoreStatement::Assign(None, copied_variable(variable)?, value);
+    let statement = CoreStatement::Assign {
+        position: None,
+        variable: copied_variable(variable)?,
+        value,
+    };
     one(alloc, statement, next)
 }
 

@@ -17,53 +17,95 @@ pub fn holds_finally(tree: &Tree) -> bool
     ensures { result ≡ specs.holds_finally (view tree.now) }
 {
     match tree {
-        Tree::TryFinally(_, _, _) => true,
-        Tree::VarDef(_, _, _, _, value)
-        | Tree::Labeled(_, _, _, value)
-        | Tree::Return(_, value, _)
-        | Tree::Throw(_, value)
-        | Tree::StoreModule(_, _, value)
-        | Tree::Select(_, value, _, _, _)
-        | Tree::UnaryOp(_, _, value)
-        | Tree::NewArray(_, _, value)
-        | Tree::ArrayLength(_, value)
-        | Tree::IsInstanceOf(_, value, _)
-        | Tree::AsInstanceOf(_, value, _)
-        | Tree::Log(_, value) => holds_finally(value),
-        Tree::Block(_, trees)
-        | Tree::New(_, _, _, trees)
-        | Tree::ApplyStatic(_, _, _, _, trees, _)
-        | Tree::ArrayValue(_, _, trees) => hold_finally(trees),
-        Tree::Assign(_, first, second)
-        | Tree::While(_, first, second)
-        | Tree::DoWhile(_, first, second)
-        | Tree::TryCatch(_, first, _, second, _)
-        | Tree::BinaryOp(_, _, first, second)
-        | Tree::ArraySelect(_, first, second, _) => holds_finally(first) || holds_finally(second),
-        Tree::If(_, condition, yes, no, _) => {
-            holds_finally(condition) || holds_finally(yes) || holds_finally(no)
+        Tree::TryFinally { .. } => true,
+        Tree::VarDef { value, .. }
+        | Tree::Labeled { body: value, .. }
+        | Tree::Return { value, .. }
+        | Tree::Throw { value, .. }
+        | Tree::StoreModule { value, .. }
+        | Tree::Select { object: value, .. }
+        | Tree::UnaryOp { operand: value, .. }
+        | Tree::NewArray { length: value, .. }
+        | Tree::ArrayLength { array: value, .. }
+        | Tree::IsInstanceOf { value, .. }
+        | Tree::AsInstanceOf { value, .. }
+        | Tree::Log { value, .. } => holds_finally(value),
+        Tree::Block { trees, .. }
+        | Tree::New {
+            arguments: trees,
+            ..
         }
-        Tree::Match(_, selector, cases, default, _) => {
-            holds_finally(selector) || cases_hold_finally(cases) || holds_finally(default)
+        | Tree::ApplyStatic {
+            arguments: trees,
+            ..
         }
-        Tree::Apply(_, receiver, _, trees, _) => holds_finally(receiver) || hold_finally(trees),
-        Tree::ApplyStatically(_, receiver, _, _, _, trees, _) => {
-            holds_finally(receiver) || hold_finally(trees)
+        | Tree::ArrayValue { items: trees, .. } => hold_finally(trees),
+        Tree::Assign {
+            target: first,
+            value: second,
+            ..
         }
-        Tree::Skip(_)
-        | Tree::LoadModule(_, _)
-        | Tree::SelectStatic(_, _, _, _)
-        | Tree::Undefined(_)
-        | Tree::Null(_)
-        | Tree::BooleanLiteral(_, _)
-        | Tree::CharLiteral(_, _)
-        | Tree::ByteLiteral(_, _)
-        | Tree::ShortLiteral(_, _)
-        | Tree::IntLiteral(_, _)
-        | Tree::LongLiteral(_, _)
-        | Tree::StringLiteral(_, _)
-        | Tree::VarRef(_, _, _)
-        | Tree::This(_, _) => false,
+        | Tree::While {
+            condition: first,
+            body: second,
+            ..
+        }
+        | Tree::DoWhile {
+            body: first,
+            condition: second,
+            ..
+        }
+        | Tree::TryCatch {
+            block: first,
+            handler: second,
+            ..
+        }
+        | Tree::BinaryOp {
+            left: first,
+            right: second,
+            ..
+        }
+        | Tree::ArraySelect {
+            array: first,
+            index: second,
+            ..
+        } => holds_finally(first) || holds_finally(second),
+        Tree::If {
+            condition,
+            yes,
+            no,
+            ..
+        } => { holds_finally(condition) || holds_finally(yes) || holds_finally(no) }
+        Tree::Match {
+            selector,
+            cases,
+            default,
+            ..
+        } => { holds_finally(selector) || cases_hold_finally(cases) || holds_finally(default) }
+        Tree::Apply {
+            receiver,
+            arguments: trees,
+            ..
+        } => holds_finally(receiver) || hold_finally(trees),
+        Tree::ApplyStatically {
+            receiver,
+            arguments: trees,
+            ..
+        } => { holds_finally(receiver) || hold_finally(trees) }
+        Tree::Skip { .. }
+        | Tree::LoadModule { .. }
+        | Tree::SelectStatic { .. }
+        | Tree::Undefined { .. }
+        | Tree::Null { .. }
+        | Tree::BooleanLiteral { .. }
+        | Tree::CharLiteral { .. }
+        | Tree::ByteLiteral { .. }
+        | Tree::ShortLiteral { .. }
+        | Tree::IntLiteral { .. }
+        | Tree::LongLiteral { .. }
+        | Tree::StringLiteral { .. }
+        | Tree::VarRef { .. }
+        | Tree::This { .. } => false,
     }
 }
 
@@ -142,8 +184,8 @@ fn jump_in(tree: &Tree) -> Jump<'_>
     ensures { seen_jump result ≡ jump_of (view tree.now) }
 {
     match tree {
-        Tree::Return(_, _, label) => Jump::To(label),
-        Tree::Labeled(_, label, _, _) => Jump::Around(label),
+        Tree::Return { label, .. } => Jump::To(label),
+        Tree::Labeled { label, .. } => Jump::Around(label),
         _ => Jump::None,
     }
 }

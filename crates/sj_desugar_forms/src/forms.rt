@@ -48,7 +48,14 @@ fn evaluated(
 ) -> Result<Written, NoMemory>
     ensures { IfOk result (λ w. code_view w ≡ spill.one (terms.evaluate_of (Some position) (expression_view value)) next) }
 {
-    one(alloc, CoreStatement::Evaluate(Some(position), value), next)
+    one(
+        alloc,
+        CoreStatement::Evaluate {
+            position: Some(position),
+            value,
+        },
+        next,
+    )
 }
 
 /// The value of an expression of this type goes to a destination. Where the value goes nowhere, a quiet one is left out.
@@ -72,13 +79,24 @@ pub fn finish(
             let variable = copied_variable(variable)?;
             one(
                 alloc,
-                CoreStatement::Assign(Some(position), variable, value),
+                CoreStatement::Assign {
+                    position: Some(position),
+                    variable,
+                    value,
+                },
                 next,
             )
         }
         Destination::Result(expected) => {
             let value = coerced(alloc, expected, tpe, value)?;
-            one(alloc, CoreStatement::Return(Some(position), value), next)
+            one(
+                alloc,
+                CoreStatement::Return {
+                    position: Some(position),
+                    value,
+                },
+                next,
+            )
         }
     }
 }
@@ -99,7 +117,11 @@ pub fn defined(
     let variable = CoreVariable::Local(name.copied()?);
     one(
         alloc,
-        CoreStatement::Define(Some(position), variable, value),
+        CoreStatement::Define {
+            position: Some(position),
+            variable,
+            value,
+        },
         next,
     )
 }
@@ -130,7 +152,10 @@ pub fn declared(
     let variable = CoreVariable::Local(name.copied()?);
     put_first(
         alloc,
-        CoreStatement::Declare(Some(position), variable),
+        CoreStatement::Declare {
+            position: Some(position),
+            variable,
+        },
         code,
     )
 }
@@ -167,7 +192,11 @@ fn assignment(
     let own = type_of(alloc, tree)?;
     let value = coerced(alloc, expected, &own, value)?;
     let variable = CoreVariable::Local(name.copied()?);
-    Ok(CoreStatement::Assign(Some(position), variable, value))
+    Ok(CoreStatement::Assign {
+        position: Some(position),
+        variable,
+        value,
+    })
 }
 
 /// A line of output of an operand.
@@ -178,7 +207,10 @@ pub fn logged(alloc: Global, position: Position, operand: Placed) -> Result<Writ
         statements: operand.statements,
         next: operand.next,
     };
-    let statement = CoreStatement::Log(Some(position), operand.expression);
+    let statement = CoreStatement::Log {
+        position: Some(position),
+        value: operand.expression,
+    };
     joined(front, one(alloc, statement, operand.next)?)
 }
 
@@ -196,12 +228,12 @@ pub fn branched(
         statements: condition.statements,
         next: condition.next,
     };
-    let statement = CoreStatement::If(
-        Some(position),
-        condition.expression,
-        yes.statements,
-        no.statements,
-    );
+    let statement = CoreStatement::If {
+        position: Some(position),
+        test: condition.expression,
+        yes: yes.statements,
+        no: no.statements,
+    };
     joined(front, one(alloc, statement, no.next)?)
 }
 
@@ -216,12 +248,12 @@ pub fn tried(
     ensures { IfOk result (λ w. code_view w ≡ desugar.tried position name.now (code_view block) (code_view handler)) }
 {
     let caught = CoreVariable::Local(name.copied()?);
-    let statement = CoreStatement::Try(
-        Some(position),
-        block.statements,
-        caught,
-        handler.statements,
-    );
+    let statement = CoreStatement::Try {
+        position: Some(position),
+        block: block.statements,
+        variable: caught,
+        handler: handler.statements,
+    };
     one(alloc, statement, handler.next)
 }
 
@@ -234,7 +266,11 @@ pub fn finished(
 ) -> Result<Written, NoMemory>
     ensures { IfOk result (λ w. code_view w ≡ desugar.finished position (code_view block) (code_view finalizer)) }
 {
-    let statement = CoreStatement::Finally(Some(position), block.statements, finalizer.statements);
+    let statement = CoreStatement::Finally {
+        position: Some(position),
+        block: block.statements,
+        finalizer: finalizer.statements,
+    };
     one(alloc, statement, finalizer.next)
 }
 
@@ -251,7 +287,7 @@ fn nearest_break(alloc: Global) -> Result<Vec<CoreStatement>, NoMemory>
     ensures { IfOk result (λ ss. statements_view ss.items ≡ terms.statement (terms.break_nearest None) terms.no_statements) }
 {
     let mut statements = Vec::new(alloc);
-    statements.push(CoreStatement::Break(None))?;
+    statements.push(CoreStatement::Break { position: None })?;
     Ok(statements)
 }
 
@@ -261,7 +297,12 @@ fn break_unless(alloc: Global, condition: CoreExpression) -> Result<CoreStatemen
 {
     let test = negated(alloc, condition)?;
     let leaving = nearest_break(alloc)?;
-    Ok(CoreStatement::If(None, test, leaving, Vec::new(alloc)))
+    Ok(CoreStatement::If {
+        position: None,
+        test,
+        yes: leaving,
+        no: Vec::new(alloc),
+    })
 }
 
 /// A loop with a plain condition.
@@ -286,7 +327,11 @@ fn while_code(
 ) -> Result<Written, NoMemory>
     ensures { IfOk result (λ w. code_view w ≡ desugar.wrapped (terms.while_of (Some position) (expression_view test)) (code_view body)) }
 {
-    let statement = CoreStatement::While(Some(position), test, body.statements);
+    let statement = CoreStatement::While {
+        position: Some(position),
+        test,
+        body: body.statements,
+    };
     one(alloc, statement, body.next)
 }
 
@@ -325,7 +370,10 @@ pub fn looped_behind(
     let turn = joined(body, joined(front, one(alloc, test, condition.next)?)?)?;
     one(
         alloc,
-        CoreStatement::Loop(Some(position), turn.statements),
+        CoreStatement::Loop {
+            position: Some(position),
+            body: turn.statements,
+        },
         turn.next,
     )
 }
@@ -335,7 +383,10 @@ pub fn case_of(alloc: Global, keys: &[i32], code: Written) -> Result<CoreCase, N
     ensures { IfOk result (λ c. case_view c ≡ (keys.now, terms.followed (code_view code).statements (terms.statement (terms.break_nearest None) terms.no_statements))) }
 {
     let next = code.next;
-    let body = joined(code, one(alloc, CoreStatement::Break(None), next)?)?;
+    let body = joined(
+        code,
+        one(alloc, CoreStatement::Break { position: None }, next)?,
+    )?;
     Ok(CoreCase {
         keys: copied_keys(alloc, keys)?,
         body: body.statements,
@@ -366,12 +417,12 @@ pub fn switched(
         statements: selector.statements,
         next: selector.next,
     };
-    let statement = CoreStatement::Switch(
-        Some(position),
-        selector.expression,
-        branches.cases,
-        default.statements,
-    );
+    let statement = CoreStatement::Switch {
+        position: Some(position),
+        selector: selector.expression,
+        cases: branches.cases,
+        default: default.statements,
+    };
     joined(front, one(alloc, statement, default.next)?)
 }
 

@@ -24,7 +24,11 @@ pub fn labeled(
         Destination::Result(_) => Ok(code),
         _ => {
             let label = label.copied()?;
-            let statement = CoreStatement::Labeled(Some(position), label, code.statements);
+            let statement = CoreStatement::Labeled {
+                position: Some(position),
+                label,
+                body: code.statements,
+            };
             one(alloc, statement, code.next)
         }
     }
@@ -47,7 +51,14 @@ pub fn leaving(
             let label = label.copied()?;
             joined(
                 code,
-                one(alloc, CoreStatement::Leave(Some(position), label), next)?,
+                one(
+                    alloc,
+                    CoreStatement::Leave {
+                        position: Some(position),
+                        label,
+                    },
+                    next,
+                )?,
             )
         }
     }

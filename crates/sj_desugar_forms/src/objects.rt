@@ -60,13 +60,13 @@ pub fn field_set(
     ensures { IfOk result (λ w. code_view w ≡ behind (placed_view object) (λ e j. behind (placed_view operand) (λ g. spill.one (terms.assign_field (Some position) e place.now.class.now place.now.name.now (coercions.coerced place.now.tpe.now (type_of_term (view value.now)) g))))) }
 {
     let new_value = coerced_value(alloc, place.tpe, value, operand.expression)?;
-    let statement = CoreStatement::AssignField(
-        Some(position),
-        object.expression,
-        place.class.copied()?,
-        place.name.copied()?,
-        new_value,
-    );
+    let statement = CoreStatement::AssignField {
+        position: Some(position),
+        object: object.expression,
+        class: place.class.copied()?,
+        field: place.name.copied()?,
+        value: new_value,
+    };
     let back = one(alloc, statement, operand.next)?;
     let first = Written {
         statements: object.statements,
@@ -92,7 +92,12 @@ pub fn static_set(
     let new_value = coerced_value(alloc, place.tpe, value, operand.expression)?;
     let class = place.class.copied()?;
     let name = place.name.copied()?;
-    let statement = CoreStatement::AssignStatic(Some(position), class, name, new_value);
+    let statement = CoreStatement::AssignStatic {
+        position: Some(position),
+        class,
+        field: name,
+        value: new_value,
+    };
     let front = Written {
         statements: operand.statements,
         next: operand.next,
@@ -112,7 +117,11 @@ pub fn module_stored(
 {
     let expected = IrType::of_class(class.copied()?);
     let object = coerced_value(alloc, &expected, value, operand.expression)?;
-    let statement = CoreStatement::StoreModule(Some(position), class.copied()?, object);
+    let statement = CoreStatement::StoreModule {
+        position: Some(position),
+        class: class.copied()?,
+        value: object,
+    };
     let front = Written {
         statements: operand.statements,
         next: operand.next,
@@ -130,7 +139,10 @@ pub fn thrown(
     ensures { IfOk result (λ w. code_view w ≡ behind (placed_view operand) (λ e. spill.one (terms.throw_of (Some position) (coercions.coerced Any (type_of_term (view value.now)) e)))) }
 {
     let object = coerced_value(alloc, &IrType::Any, value, operand.expression)?;
-    let statement = CoreStatement::Throw(Some(position), object);
+    let statement = CoreStatement::Throw {
+        position: Some(position),
+        value: object,
+    };
     let front = Written {
         statements: operand.statements,
         next: operand.next,

@@ -70,7 +70,11 @@ pub fn kept(
 {
     let next = number_behind(number)?;
     let variable = CoreVariable::Numbered(number);
-    let statement = CoreStatement::Constant(Some(position), variable, expression);
+    let statement = CoreStatement::Constant {
+        position: Some(position),
+        variable,
+        value: expression,
+    };
     let written = one(alloc, statement, next)?;
     Ok(Placed {
         statements: written.statements,
@@ -91,7 +95,10 @@ pub fn brought(
     let variable = CoreVariable::Numbered(number);
     let written = put_first(
         alloc,
-        CoreStatement::Declare(Some(position), variable),
+        CoreStatement::Declare {
+            position: Some(position),
+            variable,
+        },
         code,
     )?;
     Ok(Placed {

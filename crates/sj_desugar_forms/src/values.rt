@@ -28,7 +28,7 @@ pub fn value_of(
     ensures { IfOk result (λ w. code_view w ≡ value_code (destination_view destination.now) next (view tree.now)) }
 {
     match tree {
-        Tree::Undefined(position) => {
+        Tree::Undefined { position } => {
             let value = CoreExpression::Undefined;
             finish(
                 alloc,
@@ -40,7 +40,7 @@ pub fn value_of(
                 next,
             )
         }
-        Tree::Null(position) => {
+        Tree::Null { position } => {
             let value = CoreExpression::Null;
             finish(
                 alloc,
@@ -52,7 +52,7 @@ pub fn value_of(
                 next,
             )
         }
-        Tree::BooleanLiteral(position, value) => {
+        Tree::BooleanLiteral { position, value } => {
             let value = CoreExpression::Boolean(*value);
             finish(
                 alloc,
@@ -64,7 +64,10 @@ pub fn value_of(
                 next,
             )
         }
-        Tree::CharLiteral(position, unit) => {
+        Tree::CharLiteral {
+            position,
+            value: unit,
+        } => {
             let value = CoreExpression::Number(i32::from(*unit));
             finish(
                 alloc,
@@ -76,7 +79,7 @@ pub fn value_of(
                 next,
             )
         }
-        Tree::ByteLiteral(position, value) => {
+        Tree::ByteLiteral { position, value } => {
             let value = CoreExpression::Number(i32::from(*value));
             finish(
                 alloc,
@@ -88,7 +91,7 @@ pub fn value_of(
                 next,
             )
         }
-        Tree::ShortLiteral(position, value) => {
+        Tree::ShortLiteral { position, value } => {
             let value = CoreExpression::Number(i32::from(*value));
             finish(
                 alloc,
@@ -100,7 +103,7 @@ pub fn value_of(
                 next,
             )
         }
-        Tree::IntLiteral(position, value) => {
+        Tree::IntLiteral { position, value } => {
             let value = CoreExpression::Number(*value);
             finish(
                 alloc,
@@ -112,7 +115,7 @@ pub fn value_of(
                 next,
             )
         }
-        Tree::LongLiteral(position, value) => {
+        Tree::LongLiteral { position, value } => {
             let value = CoreExpression::Long(*value);
             finish(
                 alloc,
@@ -124,51 +127,59 @@ pub fn value_of(
                 next,
             )
         }
-        Tree::StringLiteral(position, units) => {
-            text_value(alloc, destination, next, *position, units)
-        }
-        Tree::VarRef(position, name, tpe) => {
-            local_value(alloc, destination, next, *position, name, tpe)
-        }
-        Tree::This(position, tpe) => {
+        Tree::StringLiteral {
+            position,
+            value: units,
+        } => { text_value(alloc, destination, next, *position, units) }
+        Tree::VarRef {
+            position,
+            name,
+            tpe,
+        } => { local_value(alloc, destination, next, *position, name, tpe) }
+        Tree::This { position, tpe } => {
             let value = CoreExpression::Variable(CoreVariable::Receiver);
             finish(alloc, destination, *position, tpe, true, value, next)
         }
-        Tree::SelectStatic(position, class, field, tpe) => {
+        Tree::SelectStatic {
+            position,
+            class,
+            field,
+            tpe,
+        } => {
             let value = static_field(class, field)?;
             finish(alloc, destination, *position, tpe, false, value, next)
         }
-        Tree::LoadModule(position, class) => {
+        Tree::LoadModule { position, class } => {
             module_value(alloc, destination, next, *position, class)
         }
-        Tree::VarDef(_, _, _, _, _)
-        | Tree::Skip(_)
-        | Tree::Block(_, _)
-        | Tree::Labeled(_, _, _, _)
-        | Tree::Assign(_, _, _)
-        | Tree::Return(_, _, _)
-        | Tree::If(_, _, _, _, _)
-        | Tree::While(_, _, _)
-        | Tree::DoWhile(_, _, _)
-        | Tree::TryCatch(_, _, _, _, _)
-        | Tree::TryFinally(_, _, _)
-        | Tree::Throw(_, _)
-        | Tree::Match(_, _, _, _, _)
-        | Tree::New(_, _, _, _)
-        | Tree::StoreModule(_, _, _)
-        | Tree::Select(_, _, _, _, _)
-        | Tree::Apply(_, _, _, _, _)
-        | Tree::ApplyStatically(_, _, _, _, _, _, _)
-        | Tree::ApplyStatic(_, _, _, _, _, _)
-        | Tree::UnaryOp(_, _, _)
-        | Tree::BinaryOp(_, _, _, _)
-        | Tree::NewArray(_, _, _)
-        | Tree::ArrayValue(_, _, _)
-        | Tree::ArrayLength(_, _)
-        | Tree::ArraySelect(_, _, _, _)
-        | Tree::IsInstanceOf(_, _, _)
-        | Tree::AsInstanceOf(_, _, _)
-        | Tree::Log(_, _) => Ok(nothing(alloc, next)),
+        Tree::VarDef { .. }
+        | Tree::Skip { .. }
+        | Tree::Block { .. }
+        | Tree::Labeled { .. }
+        | Tree::Assign { .. }
+        | Tree::Return { .. }
+        | Tree::If { .. }
+        | Tree::While { .. }
+        | Tree::DoWhile { .. }
+        | Tree::TryCatch { .. }
+        | Tree::TryFinally { .. }
+        | Tree::Throw { .. }
+        | Tree::Match { .. }
+        | Tree::New { .. }
+        | Tree::StoreModule { .. }
+        | Tree::Select { .. }
+        | Tree::Apply { .. }
+        | Tree::ApplyStatically { .. }
+        | Tree::ApplyStatic { .. }
+        | Tree::UnaryOp { .. }
+        | Tree::BinaryOp { .. }
+        | Tree::NewArray { .. }
+        | Tree::ArrayValue { .. }
+        | Tree::ArrayLength { .. }
+        | Tree::ArraySelect { .. }
+        | Tree::IsInstanceOf { .. }
+        | Tree::AsInstanceOf { .. }
+        | Tree::Log { .. } => Ok(nothing(alloc, next)),
     }
 }
 

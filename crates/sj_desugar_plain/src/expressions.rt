@@ -36,84 +36,129 @@ pub fn expression_of(
     ensures { IfOk result (λ e. expression_view e ≡ desugar.expression_of (plain.is_among sure.now) (view tree.now)) }
 {
     match tree {
-        Tree::If(_, condition, yes, no, tpe) => {
+        Tree::If {
+            condition,
+            yes,
+            no,
+            tpe,
+            ..
+        } => {
             let condition = boxed_expression(alloc, sure, condition)?;
             let yes = branch(alloc, sure, tpe, yes)?;
             let no = branch(alloc, sure, tpe, no)?;
             Ok(CoreExpression::Choice(condition, yes, no))
         }
-        Tree::ApplyStatic(_, class, namespace, method, trees, _) => {
+        Tree::ApplyStatic {
+            class,
+            namespace,
+            method,
+            arguments: trees,
+            ..
+        } => {
             let arguments = arguments_of(alloc, sure, method.params.as_slice(), trees)?;
             static_call(class, *namespace, method, arguments)
         }
-        Tree::Apply(_, object, method, trees, _) => {
+        Tree::Apply {
+            receiver: object,
+            method,
+            arguments: trees,
+            ..
+        } => {
             let callee = callee_on(alloc, object, method)?;
             let arguments = arguments_of(alloc, sure, method.params.as_slice(), trees)?;
             call_on(alloc, sure, callee, object, arguments)
         }
-        Tree::ApplyStatically(_, object, class, namespace, method, trees, _) => {
+        Tree::ApplyStatically {
+            receiver: object,
+            class,
+            namespace,
+            method,
+            arguments: trees,
+            ..
+        } => {
             let callee = member_called(class, *namespace, method)?;
             let arguments = arguments_of(alloc, sure, method.params.as_slice(), trees)?;
             call_on(alloc, sure, callee, object, arguments)
         }
-        Tree::This(_, _) => Ok(CoreExpression::Variable(CoreVariable::Receiver)),
-        Tree::New(_, class, method, trees) => {
+        Tree::This { .. } => Ok(CoreExpression::Variable(CoreVariable::Receiver)),
+        Tree::New {
+            class,
+            constructor: method,
+            arguments: trees,
+            ..
+        } => {
             let arguments = arguments_of(alloc, sure, method.params.as_slice(), trees)?;
             made(class, method, arguments)
         }
-        Tree::Select(_, object, class, field, _) => {
+        Tree::Select {
+            object,
+            class,
+            field,
+            ..
+        } => {
             let object = received(alloc, sure, object)?;
             field_of(alloc, object, class, field)
         }
-        Tree::SelectStatic(_, class, field, _) => static_field(class, field),
-        Tree::LoadModule(_, class) => module_of(class),
-        Tree::UnaryOp(_, op, operand) => {
-            Ok(CoreExpression::Unary(*op, boxed_expression(alloc, sure, operand)?))
-        }
-        Tree::BinaryOp(_, op, left, right) => {
+        Tree::SelectStatic { class, field, .. } => static_field(class, field),
+        Tree::LoadModule { class, .. } => module_of(class),
+        Tree::UnaryOp {
+            operator: op,
+            operand,
+            ..
+        } => { Ok(CoreExpression::Unary(*op, boxed_expression(alloc, sure, operand)?)) }
+        Tree::BinaryOp {
+            operator: op,
+            left,
+            right,
+            ..
+        } => {
             let left = operand(alloc, sure, *op, left)?;
             let right = operand(alloc, sure, *op, right)?;
             Ok(CoreExpression::Binary(*op, left, right))
         }
-        Tree::IsInstanceOf(_, value, tpe) => {
+        Tree::IsInstanceOf { value, tpe, .. } => {
             let value = branch(alloc, sure, &IrType::Any, value)?;
             tested(tpe, value)
         }
-        Tree::AsInstanceOf(_, value, tpe) => {
+        Tree::AsInstanceOf { value, tpe, .. } => {
             let value = branch(alloc, sure, &IrType::Any, value)?;
             cast(tpe, value)
         }
-        Tree::NewArray(_, array, length) => array_sized(alloc, sure, array, length),
-        Tree::ArrayValue(_, array, trees) => array_with(alloc, sure, array, trees),
-        Tree::ArrayLength(_, array) => length_at(alloc, sure, array),
-        Tree::ArraySelect(_, array, index, _) => {
+        Tree::NewArray { array, length, .. } => array_sized(alloc, sure, array, length),
+        Tree::ArrayValue {
+            array,
+            items: trees,
+            ..
+        } => array_with(alloc, sure, array, trees),
+        Tree::ArrayLength { array, .. } => length_at(alloc, sure, array),
+        Tree::ArraySelect { array, index, .. } => {
             let index = expression_of(alloc, sure, index)?;
             element_at(alloc, sure, array, index)
         }
-        Tree::Null(_) => Ok(CoreExpression::Null),
-        Tree::BooleanLiteral(_, value) => Ok(CoreExpression::Boolean(*value)),
-        Tree::CharLiteral(_, unit) => Ok(CoreExpression::Number(i32::from(*unit))),
-        Tree::ByteLiteral(_, value) => Ok(CoreExpression::Number(i32::from(*value))),
-        Tree::ShortLiteral(_, value) => Ok(CoreExpression::Number(i32::from(*value))),
-        Tree::IntLiteral(_, value) => Ok(CoreExpression::Number(*value)),
-        Tree::LongLiteral(_, value) => Ok(CoreExpression::Long(*value)),
-        Tree::StringLiteral(_, units) => Ok(CoreExpression::Text(units.copied()?)),
-        Tree::VarRef(_, name, _) => local_use(name),
-        Tree::VarDef(_, _, _, _, _)
-        | Tree::Skip(_)
-        | Tree::Block(_, _)
-        | Tree::Labeled(_, _, _, _)
-        | Tree::Assign(_, _, _)
-        | Tree::Return(_, _, _)
-        | Tree::While(_, _, _)
-        | Tree::DoWhile(_, _, _)
-        | Tree::TryCatch(_, _, _, _, _)
-        | Tree::TryFinally(_, _, _)
-        | Tree::Throw(_, _)
-        | Tree::Match(_, _, _, _, _)
-        | Tree::StoreModule(_, _, _)
-        | Tree::Undefined(_)
-        | Tree::Log(_, _) => Ok(CoreExpression::Undefined),
+        Tree::Null { .. } => Ok(CoreExpression::Null),
+        Tree::BooleanLiteral { value, .. } => Ok(CoreExpression::Boolean(*value)),
+        Tree::CharLiteral { value: unit, .. } => Ok(CoreExpression::Number(i32::from(*unit))),
+        Tree::ByteLiteral { value, .. } => Ok(CoreExpression::Number(i32::from(*value))),
+        Tree::ShortLiteral { value, .. } => Ok(CoreExpression::Number(i32::from(*value))),
+        Tree::IntLiteral { value, .. } => Ok(CoreExpression::Number(*value)),
+        Tree::LongLiteral { value, .. } => Ok(CoreExpression::Long(*value)),
+        Tree::StringLiteral { value: units, .. } => Ok(CoreExpression::Text(units.copied()?)),
+        Tree::VarRef { name, .. } => local_use(name),
+        Tree::VarDef { .. }
+        | Tree::Skip { .. }
+        | Tree::Block { .. }
+        | Tree::Labeled { .. }
+        | Tree::Assign { .. }
+        | Tree::Return { .. }
+        | Tree::While { .. }
+        | Tree::DoWhile { .. }
+        | Tree::TryCatch { .. }
+        | Tree::TryFinally { .. }
+        | Tree::Throw { .. }
+        | Tree::Match { .. }
+        | Tree::StoreModule { .. }
+        | Tree::Undefined { .. }
+        | Tree::Log { .. } => Ok(CoreExpression::Undefined),
     }
 }
 

@@ -24,67 +24,124 @@ fn add_mutable(tree: &Tree, names: &mut Vec<LocalName>) -> Result<(), NoMemory>
     ensures { OnOk result (reverse names.new.items ≡ plain.mutable_in (view tree.now) (reverse names.old.items)) }
 {
     match tree {
-        Tree::VarDef(_, name, _, mutable, value) => {
+        Tree::VarDef {
+            name,
+            mutable,
+            value,
+            ..
+        } => {
             add_mutable(value, names)?;
             add_if(*mutable, name, names)
         }
-        Tree::Block(_, trees) => add_all_mutable(trees, names),
-        Tree::New(_, _, _, trees) => add_all_mutable(trees, names),
-        Tree::ApplyStatic(_, _, _, _, trees, _) => add_all_mutable(trees, names),
-        Tree::ArrayValue(_, _, trees) => add_all_mutable(trees, names),
-        Tree::Labeled(_, _, _, value)
-        | Tree::Return(_, value, _)
-        | Tree::Throw(_, value)
-        | Tree::StoreModule(_, _, value)
-        | Tree::Select(_, value, _, _, _)
-        | Tree::UnaryOp(_, _, value)
-        | Tree::NewArray(_, _, value)
-        | Tree::ArrayLength(_, value)
-        | Tree::IsInstanceOf(_, value, _)
-        | Tree::AsInstanceOf(_, value, _)
-        | Tree::Log(_, value) => add_mutable(value, names),
-        Tree::Assign(_, first, second)
-        | Tree::While(_, first, second)
-        | Tree::DoWhile(_, first, second)
-        | Tree::TryCatch(_, first, _, second, _)
-        | Tree::TryFinally(_, first, second)
-        | Tree::BinaryOp(_, _, first, second)
-        | Tree::ArraySelect(_, first, second, _) => {
+        Tree::Block { trees, .. } => add_all_mutable(trees, names),
+        Tree::New {
+            arguments: trees,
+            ..
+        } => add_all_mutable(trees, names),
+        Tree::ApplyStatic {
+            arguments: trees,
+            ..
+        } => add_all_mutable(trees, names),
+        Tree::ArrayValue { items: trees, .. } => add_all_mutable(trees, names),
+        Tree::Labeled { body: value, .. }
+        | Tree::Return { value, .. }
+        | Tree::Throw { value, .. }
+        | Tree::StoreModule { value, .. }
+        | Tree::Select { object: value, .. }
+        | Tree::UnaryOp { operand: value, .. }
+        | Tree::NewArray { length: value, .. }
+        | Tree::ArrayLength { array: value, .. }
+        | Tree::IsInstanceOf { value, .. }
+        | Tree::AsInstanceOf { value, .. }
+        | Tree::Log { value, .. } => add_mutable(value, names),
+        Tree::Assign {
+            target: first,
+            value: second,
+            ..
+        }
+        | Tree::While {
+            condition: first,
+            body: second,
+            ..
+        }
+        | Tree::DoWhile {
+            body: first,
+            condition: second,
+            ..
+        }
+        | Tree::TryCatch {
+            block: first,
+            handler: second,
+            ..
+        }
+        | Tree::TryFinally {
+            block: first,
+            finalizer: second,
+            ..
+        }
+        | Tree::BinaryOp {
+            left: first,
+            right: second,
+            ..
+        }
+        | Tree::ArraySelect {
+            array: first,
+            index: second,
+            ..
+        } => {
             add_mutable(second, names)?;
             add_mutable(first, names)
         }
-        Tree::If(_, condition, yes, no, _) => {
+        Tree::If {
+            condition,
+            yes,
+            no,
+            ..
+        } => {
             add_mutable(no, names)?;
             add_mutable(yes, names)?;
             add_mutable(condition, names)
         }
-        Tree::Match(_, selector, cases, default, _) => {
+        Tree::Match {
+            selector,
+            cases,
+            default,
+            ..
+        } => {
             add_mutable(default, names)?;
             add_mutable_of_cases(cases, names)?;
             add_mutable(selector, names)
         }
-        Tree::Apply(_, receiver, _, trees, _) => {
+        Tree::Apply {
+            receiver,
+            arguments: trees,
+            ..
+        } => {
             add_all_mutable(trees, names)?;
             add_mutable(receiver, names)
         }
-        Tree::ApplyStatically(_, receiver, _, _, _, trees, _) => {
+        Tree::ApplyStatically {
+            receiver,
+            arguments: trees,
+            ..
+        } => {
             add_all_mutable(trees, names)?;
             add_mutable(receiver, names)
         }
-        Tree::Skip(_)
-        | Tree::LoadModule(_, _)
-        | Tree::SelectStatic(_, _, _, _)
-        | Tree::Undefined(_)
-        | Tree::Null(_)
-        | Tree::BooleanLiteral(_, _)
-        | Tree::CharLiteral(_, _)
-        | Tree::ByteLiteral(_, _)
-        | Tree::ShortLiteral(_, _)
-        | Tree::IntLiteral(_, _)
-        | Tree::LongLiteral(_, _)
-        | Tree::StringLiteral(_, _)
-        | Tree::VarRef(_, _, _)
-        | Tree::This(_, _) => Ok(()),
+        Tree::Skip { .. }
+        | Tree::LoadModule { .. }
+        | Tree::SelectStatic { .. }
+        | Tree::Undefined { .. }
+        | Tree::Null { .. }
+        | Tree::BooleanLiteral { .. }
+        | Tree::CharLiteral { .. }
+        | Tree::ByteLiteral { .. }
+        | Tree::ShortLiteral { .. }
+        | Tree::IntLiteral { .. }
+        | Tree::LongLiteral { .. }
+        | Tree::StringLiteral { .. }
+        | Tree::VarRef { .. }
+        | Tree::This { .. } => Ok(()),
     }
 }
 

@@ -22,52 +22,77 @@ pub fn is_plain(tree: &Tree) -> bool
     ensures { result ≡ plain.is_plain (view tree.now) }
 {
     match tree {
-        Tree::VarDef(_, _, _, _, _)
-        | Tree::Skip(_)
-        | Tree::Block(_, _)
-        | Tree::Labeled(_, _, _, _)
-        | Tree::Assign(_, _, _)
-        | Tree::Return(_, _, _)
-        | Tree::While(_, _, _)
-        | Tree::DoWhile(_, _, _)
-        | Tree::TryCatch(_, _, _, _, _)
-        | Tree::TryFinally(_, _, _)
-        | Tree::Throw(_, _)
-        | Tree::Match(_, _, _, _, _)
-        | Tree::StoreModule(_, _, _)
-        | Tree::Log(_, _) => false,
-        Tree::If(_, condition, yes, no, tpe) => {
-            !is_no_type(tpe) && is_plain(condition) && is_plain(yes) && is_plain(no)
+        Tree::VarDef { .. }
+        | Tree::Skip { .. }
+        | Tree::Block { .. }
+        | Tree::Labeled { .. }
+        | Tree::Assign { .. }
+        | Tree::Return { .. }
+        | Tree::While { .. }
+        | Tree::DoWhile { .. }
+        | Tree::TryCatch { .. }
+        | Tree::TryFinally { .. }
+        | Tree::Throw { .. }
+        | Tree::Match { .. }
+        | Tree::StoreModule { .. }
+        | Tree::Log { .. } => false,
+        Tree::If {
+            condition,
+            yes,
+            no,
+            tpe,
+            ..
+        } => { !is_no_type(tpe) && is_plain(condition) && is_plain(yes) && is_plain(no) }
+        Tree::New {
+            arguments: trees,
+            ..
+        } => are_plain(trees),
+        Tree::ApplyStatic {
+            arguments: trees,
+            ..
+        } => are_plain(trees),
+        Tree::ArrayValue { items: trees, .. } => are_plain(trees),
+        Tree::Apply {
+            receiver,
+            arguments: trees,
+            ..
+        } => is_plain(receiver) && are_plain(trees),
+        Tree::ApplyStatically {
+            receiver,
+            arguments: trees,
+            ..
+        } => { is_plain(receiver) && are_plain(trees) }
+        Tree::Select {
+            object: operand,
+            ..
         }
-        Tree::New(_, _, _, trees) => are_plain(trees),
-        Tree::ApplyStatic(_, _, _, _, trees, _) => are_plain(trees),
-        Tree::ArrayValue(_, _, trees) => are_plain(trees),
-        Tree::Apply(_, receiver, _, trees, _) => is_plain(receiver) && are_plain(trees),
-        Tree::ApplyStatically(_, receiver, _, _, _, trees, _) => {
-            is_plain(receiver) && are_plain(trees)
+        | Tree::UnaryOp { operand, .. }
+        | Tree::NewArray {
+            length: operand,
+            ..
         }
-        Tree::Select(_, operand, _, _, _)
-        | Tree::UnaryOp(_, _, operand)
-        | Tree::NewArray(_, _, operand)
-        | Tree::ArrayLength(_, operand)
-        | Tree::IsInstanceOf(_, operand, _)
-        | Tree::AsInstanceOf(_, operand, _) => is_plain(operand),
-        Tree::BinaryOp(_, _, left, right) | Tree::ArraySelect(_, left, right, _) => {
-            is_plain(left) && is_plain(right)
-        }
-        Tree::LoadModule(_, _)
-        | Tree::SelectStatic(_, _, _, _)
-        | Tree::Undefined(_)
-        | Tree::Null(_)
-        | Tree::BooleanLiteral(_, _)
-        | Tree::CharLiteral(_, _)
-        | Tree::ByteLiteral(_, _)
-        | Tree::ShortLiteral(_, _)
-        | Tree::IntLiteral(_, _)
-        | Tree::LongLiteral(_, _)
-        | Tree::StringLiteral(_, _)
-        | Tree::VarRef(_, _, _)
-        | Tree::This(_, _) => true,
+        | Tree::ArrayLength { array: operand, .. }
+        | Tree::IsInstanceOf { value: operand, .. }
+        | Tree::AsInstanceOf { value: operand, .. } => is_plain(operand),
+        Tree::BinaryOp { left, right, .. }
+        | Tree::ArraySelect {
+            array: left,
+            index: right,
+            ..
+        } => { is_plain(left) && is_plain(right) }
+        Tree::LoadModule { .. }
+        | Tree::SelectStatic { .. }
+        | Tree::Undefined { .. }
+        | Tree::Null { .. }
+        | Tree::BooleanLiteral { .. }
+        | Tree::CharLiteral { .. }
+        | Tree::ByteLiteral { .. }
+        | Tree::ShortLiteral { .. }
+        | Tree::IntLiteral { .. }
+        | Tree::LongLiteral { .. }
+        | Tree::StringLiteral { .. }
+        | Tree::VarRef { .. }
+        | Tree::This { .. } => true,
     }
 }
 
@@ -96,17 +121,17 @@ pub fn is_fixed(mutable: &[LocalName], tree: &Tree) -> bool
     ensures { result ≡ plain.is_fixed (plain.is_among mutable.now) (view tree.now) }
 {
     match tree {
-        Tree::Undefined(_)
-        | Tree::Null(_)
-        | Tree::BooleanLiteral(_, _)
-        | Tree::CharLiteral(_, _)
-        | Tree::ByteLiteral(_, _)
-        | Tree::ShortLiteral(_, _)
-        | Tree::IntLiteral(_, _)
-        | Tree::LongLiteral(_, _)
-        | Tree::StringLiteral(_, _)
-        | Tree::This(_, _) => true,
-        Tree::VarRef(_, name, _) => !is_among(mutable, name),
+        Tree::Undefined { .. }
+        | Tree::Null { .. }
+        | Tree::BooleanLiteral { .. }
+        | Tree::CharLiteral { .. }
+        | Tree::ByteLiteral { .. }
+        | Tree::ShortLiteral { .. }
+        | Tree::IntLiteral { .. }
+        | Tree::LongLiteral { .. }
+        | Tree::StringLiteral { .. }
+        | Tree::This { .. } => true,
+        Tree::VarRef { name, .. } => !is_among(mutable, name),
         _ => false,
     }
 }

@@ -45,12 +45,12 @@ pub fn is_sure(alloc: Global, sure: &[LocalName], tree: &Tree) -> Result<bool, N
     ensures { IfOk result (λ answer. answer ≡ receivers.is_sure (plain.is_among sure.now) (view tree.now)) }
 {
     match tree {
-        Tree::This(_, _)
-        | Tree::New(_, _, _, _)
-        | Tree::NewArray(_, _, _)
-        | Tree::ArrayValue(_, _, _)
-        | Tree::LoadModule(_, _) => Ok(true),
-        Tree::VarRef(_, name, tpe) => Ok(is_among(sure, name) || is_sure_type(tpe)),
+        Tree::This { .. }
+        | Tree::New { .. }
+        | Tree::NewArray { .. }
+        | Tree::ArrayValue { .. }
+        | Tree::LoadModule { .. } => Ok(true),
+        Tree::VarRef { name, tpe, .. } => Ok(is_among(sure, name) || is_sure_type(tpe)),
         _ => has_sure_type(alloc, tree),
     }
 }
@@ -94,67 +94,124 @@ fn add_sure(alloc: Global, tree: &Tree, sure: &mut Vec<LocalName>) -> Result<(),
     ensures { OnOk result (sure.new.items ≡ sures.sure_in (view tree.now) sure.old.items) }
 {
     match tree {
-        Tree::VarDef(_, name, _, mutable, value) => {
+        Tree::VarDef {
+            name,
+            mutable,
+            value,
+            ..
+        } => {
             add_sure(alloc, value, sure)?;
             add_local(alloc, name, *mutable, value, sure)
         }
-        Tree::Block(_, trees) => add_all_sure(alloc, trees, sure),
-        Tree::New(_, _, _, trees) => add_all_sure(alloc, trees, sure),
-        Tree::ApplyStatic(_, _, _, _, trees, _) => add_all_sure(alloc, trees, sure),
-        Tree::ArrayValue(_, _, trees) => add_all_sure(alloc, trees, sure),
-        Tree::Labeled(_, _, _, value)
-        | Tree::Return(_, value, _)
-        | Tree::Throw(_, value)
-        | Tree::StoreModule(_, _, value)
-        | Tree::Select(_, value, _, _, _)
-        | Tree::UnaryOp(_, _, value)
-        | Tree::NewArray(_, _, value)
-        | Tree::ArrayLength(_, value)
-        | Tree::IsInstanceOf(_, value, _)
-        | Tree::AsInstanceOf(_, value, _)
-        | Tree::Log(_, value) => add_sure(alloc, value, sure),
-        Tree::Assign(_, first, second)
-        | Tree::While(_, first, second)
-        | Tree::DoWhile(_, first, second)
-        | Tree::TryCatch(_, first, _, second, _)
-        | Tree::TryFinally(_, first, second)
-        | Tree::BinaryOp(_, _, first, second)
-        | Tree::ArraySelect(_, first, second, _) => {
+        Tree::Block { trees, .. } => add_all_sure(alloc, trees, sure),
+        Tree::New {
+            arguments: trees,
+            ..
+        } => add_all_sure(alloc, trees, sure),
+        Tree::ApplyStatic {
+            arguments: trees,
+            ..
+        } => add_all_sure(alloc, trees, sure),
+        Tree::ArrayValue { items: trees, .. } => add_all_sure(alloc, trees, sure),
+        Tree::Labeled { body: value, .. }
+        | Tree::Return { value, .. }
+        | Tree::Throw { value, .. }
+        | Tree::StoreModule { value, .. }
+        | Tree::Select { object: value, .. }
+        | Tree::UnaryOp { operand: value, .. }
+        | Tree::NewArray { length: value, .. }
+        | Tree::ArrayLength { array: value, .. }
+        | Tree::IsInstanceOf { value, .. }
+        | Tree::AsInstanceOf { value, .. }
+        | Tree::Log { value, .. } => add_sure(alloc, value, sure),
+        Tree::Assign {
+            target: first,
+            value: second,
+            ..
+        }
+        | Tree::While {
+            condition: first,
+            body: second,
+            ..
+        }
+        | Tree::DoWhile {
+            body: first,
+            condition: second,
+            ..
+        }
+        | Tree::TryCatch {
+            block: first,
+            handler: second,
+            ..
+        }
+        | Tree::TryFinally {
+            block: first,
+            finalizer: second,
+            ..
+        }
+        | Tree::BinaryOp {
+            left: first,
+            right: second,
+            ..
+        }
+        | Tree::ArraySelect {
+            array: first,
+            index: second,
+            ..
+        } => {
             add_sure(alloc, first, sure)?;
             add_sure(alloc, second, sure)
         }
-        Tree::If(_, condition, yes, no, _) => {
+        Tree::If {
+            condition,
+            yes,
+            no,
+            ..
+        } => {
             add_sure(alloc, condition, sure)?;
             add_sure(alloc, yes, sure)?;
             add_sure(alloc, no, sure)
         }
-        Tree::Match(_, selector, cases, default, _) => {
+        Tree::Match {
+            selector,
+            cases,
+            default,
+            ..
+        } => {
             add_sure(alloc, selector, sure)?;
             add_sure_of_cases(alloc, cases, sure)?;
             add_sure(alloc, default, sure)
         }
-        Tree::Apply(_, receiver, _, trees, _) => {
+        Tree::Apply {
+            receiver,
+            arguments: trees,
+            ..
+        } => {
             add_sure(alloc, receiver, sure)?;
             add_all_sure(alloc, trees, sure)
         }
-        Tree::ApplyStatically(_, receiver, _, _, _, trees, _) => {
+        Tree::ApplyStatically {
+            receiver,
+            arguments: trees,
+            ..
+        } => {
             add_sure(alloc, receiver, sure)?;
             add_all_sure(alloc, trees, sure)
         }
-        Tree::Skip(_)
-        | Tree::LoadModule(_, _)
-        | Tree::SelectStatic(_, _, _, _)
-        | Tree::Undefined(_)
-        | Tree::Null(_)
-        | Tree::BooleanLiteral(_, _)
-        | Tree::CharLiteral(_, _)
-        | Tree::ByteLiteral(_, _)
-        | Tree::ShortLiteral(_, _)
-        | Tree::IntLiteral(_, _)
-        | Tree::LongLiteral(_, _)
-        | Tree::StringLiteral(_, _)
-        | Tree::VarRef(_, _, _)
-        | Tree::This(_, _) => Ok(()),
+        Tree::Skip { .. }
+        | Tree::LoadModule { .. }
+        | Tree::SelectStatic { .. }
+        | Tree::Undefined { .. }
+        | Tree::Null { .. }
+        | Tree::BooleanLiteral { .. }
+        | Tree::CharLiteral { .. }
+        | Tree::ByteLiteral { .. }
+        | Tree::ShortLiteral { .. }
+        | Tree::IntLiteral { .. }
+        | Tree::LongLiteral { .. }
+        | Tree::StringLiteral { .. }
+        | Tree::VarRef { .. }
+        | Tree::This { .. } => Ok(()),
     }
 }
 

@@ -107,19 +107,18 @@ fn add_calls_of(statement: &CoreStatement, inquiries: &mut Vec<Inquiry>) -> Resu
     ensures { OnOk result (inquiries.new.items ≡ inquiries.old.items ++ calls.calls_of (core.statement_view statement.now)) }
 {
     match statement {
-        CoreStatement::Constant(_, _, value)
-        | CoreStatement::Define(_, _, value)
-        | CoreStatement::Assign(_, _, value)
-        | CoreStatement::Evaluate(_, value)
-        | CoreStatement::Return(_, value)
-        | CoreStatement::Log(_, value)
-        | CoreStatement::AssignStatic(_, _, _, value)
-        | CoreStatement::StoreModule(_, _, value)
-        | CoreStatement::Throw(_, value) => add_calls_in(value, inquiries),
-        CoreStatement::Declare(_, _) | CoreStatement::Leave(_, _) | CoreStatement::Break(_) => {
-            Ok(())
-        }
-        CoreStatement::AssignField(_, object, _, _, value) => {
+        CoreStatement::Constant { value, .. }
+        | CoreStatement::Define { value, .. }
+        | CoreStatement::Assign { value, .. }
+        | CoreStatement::Evaluate { value, .. }
+        | CoreStatement::Return { value, .. }
+        | CoreStatement::Log { value, .. }
+        | CoreStatement::AssignStatic { value, .. }
+        | CoreStatement::StoreModule { value, .. }
+        | CoreStatement::Throw { value, .. } => add_calls_in(value, inquiries),
+        CoreStatement::Declare { .. } | CoreStatement::Leave { .. } | CoreStatement::Break { .. } =>
+            { Ok(()) }
+        CoreStatement::AssignField { object, value, .. } => {
             add_calls_in(object, inquiries)?;
             add_calls_in(value, inquiries)
         }
@@ -134,27 +133,36 @@ fn add_calls_of(statement: &CoreStatement, inquiries: &mut Vec<Inquiry>) -> Resu
             add_calls_in(index, inquiries)?;
             add_calls_in(value, inquiries)
         }
-        CoreStatement::If(_, test, yes, no) => {
+        CoreStatement::If { test, yes, no, .. } => {
             add_calls_in(test, inquiries)?;
             add_calls_of_all(yes, inquiries)?;
             add_calls_of_all(no, inquiries)
         }
-        CoreStatement::While(_, test, body) => {
+        CoreStatement::While { test, body, .. } => {
             add_calls_in(test, inquiries)?;
             add_calls_of_all(body, inquiries)
         }
-        CoreStatement::Loop(_, body) | CoreStatement::Labeled(_, _, body) => {
+        CoreStatement::Loop { body, .. } | CoreStatement::Labeled { body, .. } => {
             add_calls_of_all(body, inquiries)
         }
-        CoreStatement::Finally(_, block, finalizer) => {
+        CoreStatement::Finally {
+            block,
+            finalizer,
+            ..
+        } => {
             add_calls_of_all(block, inquiries)?;
             add_calls_of_all(finalizer, inquiries)
         }
-        CoreStatement::Try(_, block, _, handler) => {
+        CoreStatement::Try { block, handler, .. } => {
             add_calls_of_all(block, inquiries)?;
             add_calls_of_all(handler, inquiries)
         }
-        CoreStatement::Switch(_, selector, cases, default) => {
+        CoreStatement::Switch {
+            selector,
+            cases,
+            default,
+            ..
+        } => {
             add_calls_in(selector, inquiries)?;
             add_calls_of_cases(cases, inquiries)?;
             add_calls_of_all(default, inquiries)

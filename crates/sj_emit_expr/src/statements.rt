@@ -55,33 +55,51 @@ fn emit_statement(
     ensures { IfOk result (λ s. js.statement_view s ≡ templates.statement_template names.variable_name names.label_name (lookup_of known.now) (core.statement_view statement.now)) }
 {
     match statement {
-        CoreStatement::Constant(_, variable, value) => {
+        CoreStatement::Constant {
+            variable,
+            value,
+            ..
+        } => {
             let (name, value) = variable_and_value(alloc, known, variable, value)?;
             Ok(JsStmt::Const { name, value })
         }
-        CoreStatement::Define(_, variable, value) => {
+        CoreStatement::Define {
+            variable,
+            value,
+            ..
+        } => {
             let (name, value) = variable_and_value(alloc, known, variable, value)?;
             Ok(JsStmt::Let { name, value })
         }
-        CoreStatement::Declare(_, variable) => {
+        CoreStatement::Declare { variable, .. } => {
             Ok(JsStmt::Declare(variable_name(alloc, variable)?))
         }
-        CoreStatement::Assign(_, variable, value) => {
+        CoreStatement::Assign {
+            variable,
+            value,
+            ..
+        } => {
             let (name, value) = variable_and_value(alloc, known, variable, value)?;
             Ok(JsStmt::Assign { name, value })
         }
-        CoreStatement::Evaluate(_, value) => {
+        CoreStatement::Evaluate { value, .. } => {
             Ok(JsStmt::Expression(emit_expression(alloc, known, value)?))
         }
-        CoreStatement::Return(_, value) => Ok(JsStmt::Return(emit_expression(
+        CoreStatement::Return { value, .. } => Ok(JsStmt::Return(emit_expression(
             alloc, known, value,
         )?)),
-        CoreStatement::Log(_, text) => {
+        CoreStatement::Log { value: text, .. } => {
             let text = emit_expression(alloc, known, text)?;
             let call = host_call(alloc, HostFunction::ConsoleLog, text)?;
             Ok(JsStmt::Expression(call))
         }
-        CoreStatement::AssignField(_, object, class, field, value) => {
+        CoreStatement::AssignField {
+            object,
+            class,
+            field,
+            value,
+            ..
+        } => {
             let property = field_binding(alloc, FieldBinding::Property, class, field)?;
             let object = emit_expression(alloc, known, object)?;
             let value = emit_expression(alloc, known, value)?;
@@ -91,7 +109,12 @@ fn emit_statement(
                 value,
             })
         }
-        CoreStatement::AssignStatic(_, class, field, value) => {
+        CoreStatement::AssignStatic {
+            class,
+            field,
+            value,
+            ..
+        } => {
             let setter = field_binding(alloc, FieldBinding::Setter, class, field)?;
             let value = emit_expression(alloc, known, value)?;
             Ok(JsStmt::Expression(call_of_one(alloc, setter, value)?))
@@ -108,32 +131,41 @@ fn emit_statement(
             let value = emit_expression(alloc, known, value)?;
             Ok(JsStmt::Expression(element_set(alloc, tpe, array, index, value)?))
         }
-        CoreStatement::StoreModule(_, class, value) => {
+        CoreStatement::StoreModule { class, value, .. } => {
             let store = class_binding(alloc, ClassBinding::StoreModule, class)?;
             let value = emit_expression(alloc, known, value)?;
             Ok(JsStmt::Expression(call_of_one(alloc, store, value)?))
         }
-        CoreStatement::Throw(_, value) => Ok(JsStmt::Throw(emit_expression(alloc, known, value)?)),
-        CoreStatement::Leave(_, label) => Ok(JsStmt::BreakTo(label_name(alloc, label)?)),
-        CoreStatement::Break(_) => Ok(JsStmt::Break),
-        CoreStatement::If(_, test, yes, no) => {
+        CoreStatement::Throw { value, .. } => Ok(JsStmt::Throw(emit_expression(
+            alloc, known, value,
+        )?)),
+        CoreStatement::Leave { label, .. } => Ok(JsStmt::BreakTo(label_name(alloc, label)?)),
+        CoreStatement::Break { .. } => Ok(JsStmt::Break),
+        CoreStatement::If { test, yes, no, .. } => {
             let test = emit_expression(alloc, known, test)?;
             let yes = emit_statements(alloc, known, yes)?;
             let no = emit_statements(alloc, known, no)?;
             Ok(choice(test, yes, no))
         }
-        CoreStatement::While(_, test, body) => {
+        CoreStatement::While { test, body, .. } => {
             let test = emit_expression(alloc, known, test)?;
             let body = emit_statements(alloc, known, body)?;
             Ok(JsStmt::While { test, body })
         }
-        CoreStatement::Loop(_, body) => Ok(JsStmt::DoForever(emit_statements(alloc, known, body)?)),
-        CoreStatement::Labeled(_, label, body) => {
+        CoreStatement::Loop { body, .. } => Ok(JsStmt::DoForever(emit_statements(
+            alloc, known, body,
+        )?)),
+        CoreStatement::Labeled { label, body, .. } => {
             let label = label_name(alloc, label)?;
             let body = emit_statements(alloc, known, body)?;
             Ok(JsStmt::Labeled { label, body })
         }
-        CoreStatement::Try(_, block, name, handler) => {
+        CoreStatement::Try {
+            block,
+            variable: name,
+            handler,
+            ..
+        } => {
             let body = emit_statements(alloc, known, block)?;
             let name = variable_name(alloc, name)?;
             let handler = emit_statements(alloc, known, handler)?;
@@ -143,12 +175,21 @@ fn emit_statement(
                 handler,
             })
         }
-        CoreStatement::Finally(_, block, finalizer) => {
+        CoreStatement::Finally {
+            block,
+            finalizer,
+            ..
+        } => {
             let body = emit_statements(alloc, known, block)?;
             let finalizer = emit_statements(alloc, known, finalizer)?;
             Ok(JsStmt::TryFinally { body, finalizer })
         }
-        CoreStatement::Switch(_, selector, cases, default) => {
+        CoreStatement::Switch {
+            selector,
+            cases,
+            default,
+            ..
+        } => {
             let selector = emit_expression(alloc, known, selector)?;
             let cases = emit_cases(alloc, known, cases)?;
             let default = emit_statements(alloc, known, default)?;

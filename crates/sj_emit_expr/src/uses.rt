@@ -358,25 +358,29 @@ fn add_uses_of(
     ensures { OnOk result (bindings.new.items ≡ with_uses bindings.old.items (uses.uses_of (lookup_of known.now) (core.statement_view statement.now))) }
 {
     match statement {
-        CoreStatement::Constant(_, _, value)
-        | CoreStatement::Define(_, _, value)
-        | CoreStatement::Assign(_, _, value)
-        | CoreStatement::Evaluate(_, value)
-        | CoreStatement::Return(_, value)
-        | CoreStatement::Throw(_, value)
-        | CoreStatement::Log(_, value) => add_uses_in(alloc, known, value, bindings),
-        CoreStatement::Declare(_, _) | CoreStatement::Leave(_, _) | CoreStatement::Break(_) => {
-            Ok(())
-        }
-        CoreStatement::AssignField(_, object, _, _, value) => {
+        CoreStatement::Constant { value, .. }
+        | CoreStatement::Define { value, .. }
+        | CoreStatement::Assign { value, .. }
+        | CoreStatement::Evaluate { value, .. }
+        | CoreStatement::Return { value, .. }
+        | CoreStatement::Throw { value, .. }
+        | CoreStatement::Log { value, .. } => add_uses_in(alloc, known, value, bindings),
+        CoreStatement::Declare { .. } | CoreStatement::Leave { .. } | CoreStatement::Break { .. } =>
+            { Ok(()) }
+        CoreStatement::AssignField { object, value, .. } => {
             add_uses_in(alloc, known, object, bindings)?;
             add_uses_in(alloc, known, value, bindings)
         }
-        CoreStatement::AssignStatic(_, class, field, value) => {
+        CoreStatement::AssignStatic {
+            class,
+            field,
+            value,
+            ..
+        } => {
             add(bindings, setter_use(alloc, class, field)?)?;
             add_uses_in(alloc, known, value, bindings)
         }
-        CoreStatement::StoreModule(_, class, value) => {
+        CoreStatement::StoreModule { class, value, .. } => {
             add(
                 bindings,
                 class_use(alloc, ClassBinding::StoreModule, class)?,
@@ -398,27 +402,36 @@ fn add_uses_of(
             add_uses_in(alloc, known, index, bindings)?;
             add_uses_in(alloc, known, value, bindings)
         }
-        CoreStatement::If(_, test, yes, no) => {
+        CoreStatement::If { test, yes, no, .. } => {
             add_uses_in(alloc, known, test, bindings)?;
             add_uses_of_all(alloc, known, yes, bindings)?;
             add_uses_of_all(alloc, known, no, bindings)
         }
-        CoreStatement::While(_, test, body) => {
+        CoreStatement::While { test, body, .. } => {
             add_uses_in(alloc, known, test, bindings)?;
             add_uses_of_all(alloc, known, body, bindings)
         }
-        CoreStatement::Loop(_, body) | CoreStatement::Labeled(_, _, body) => {
+        CoreStatement::Loop { body, .. } | CoreStatement::Labeled { body, .. } => {
             add_uses_of_all(alloc, known, body, bindings)
         }
-        CoreStatement::Finally(_, block, finalizer) => {
+        CoreStatement::Finally {
+            block,
+            finalizer,
+            ..
+        } => {
             add_uses_of_all(alloc, known, block, bindings)?;
             add_uses_of_all(alloc, known, finalizer, bindings)
         }
-        CoreStatement::Try(_, block, _, handler) => {
+        CoreStatement::Try { block, handler, .. } => {
             add_uses_of_all(alloc, known, block, bindings)?;
             add_uses_of_all(alloc, known, handler, bindings)
         }
-        CoreStatement::Switch(_, selector, cases, default) => {
+        CoreStatement::Switch {
+            selector,
+            cases,
+            default,
+            ..
+        } => {
             add_uses_in(alloc, known, selector, bindings)?;
             add_uses_of_cases(alloc, known, cases, bindings)?;
             add_uses_of_all(alloc, known, default, bindings)

@@ -200,24 +200,47 @@ fn statement_fits(statement: &CoreStatement)
     ensures { FitsStatement (core.statement_view statement.now) }
 {
     match statement {
-        CoreStatement::Constant(_, variable, value)
-        | CoreStatement::Define(_, variable, value)
-        | CoreStatement::Assign(_, variable, value) => {
+        CoreStatement::Constant {
+            variable,
+            value,
+            ..
+        }
+        | CoreStatement::Define {
+            variable,
+            value,
+            ..
+        }
+        | CoreStatement::Assign {
+            variable,
+            value,
+            ..
+        } => {
             variable_fits(variable);
             expression_fits(value);
         }
-        CoreStatement::Declare(_, variable) => variable_fits(variable),
-        CoreStatement::Evaluate(_, value)
-        | CoreStatement::Return(_, value)
-        | CoreStatement::Log(_, value)
-        | CoreStatement::Throw(_, value) => expression_fits(value),
-        CoreStatement::AssignField(_, object, class, name, value) => {
+        CoreStatement::Declare { variable, .. } => variable_fits(variable),
+        CoreStatement::Evaluate { value, .. }
+        | CoreStatement::Return { value, .. }
+        | CoreStatement::Log { value, .. }
+        | CoreStatement::Throw { value, .. } => expression_fits(value),
+        CoreStatement::AssignField {
+            object,
+            class,
+            field: name,
+            value,
+            ..
+        } => {
             expression_fits(object);
             text_fits(class.text());
             text_fits(name.text());
             expression_fits(value);
         }
-        CoreStatement::AssignStatic(_, class, name, value) => {
+        CoreStatement::AssignStatic {
+            class,
+            field: name,
+            value,
+            ..
+        } => {
             text_fits(class.text());
             text_fits(name.text());
             expression_fits(value);
@@ -233,36 +256,50 @@ fn statement_fits(statement: &CoreStatement)
             expression_fits(index);
             expression_fits(value);
         }
-        CoreStatement::StoreModule(_, class, value) => {
+        CoreStatement::StoreModule { class, value, .. } => {
             text_fits(class.text());
             expression_fits(value);
         }
-        CoreStatement::Leave(_, label) => text_fits(label.text()),
-        CoreStatement::Break(_) => {}
-        CoreStatement::If(_, test, yes, no) => {
+        CoreStatement::Leave { label, .. } => text_fits(label.text()),
+        CoreStatement::Break { .. } => {}
+        CoreStatement::If { test, yes, no, .. } => {
             expression_fits(test);
             statements_fit(yes);
             statements_fit(no);
         }
-        CoreStatement::While(_, test, body) => {
+        CoreStatement::While { test, body, .. } => {
             expression_fits(test);
             statements_fit(body);
         }
-        CoreStatement::Loop(_, body) => statements_fit(body),
-        CoreStatement::Labeled(_, label, body) => {
+        CoreStatement::Loop { body, .. } => statements_fit(body),
+        CoreStatement::Labeled { label, body, .. } => {
             text_fits(label.text());
             statements_fit(body);
         }
-        CoreStatement::Try(_, block, name, handler) => {
+        CoreStatement::Try {
+            block,
+            variable: name,
+            handler,
+            ..
+        } => {
             statements_fit(block);
             variable_fits(name);
             statements_fit(handler);
         }
-        CoreStatement::Finally(_, block, finalizer) => {
+        CoreStatement::Finally {
+            block,
+            finalizer,
+            ..
+        } => {
             statements_fit(block);
             statements_fit(finalizer);
         }
-        CoreStatement::Switch(_, selector, cases, default) => {
+        CoreStatement::Switch {
+            selector,
+            cases,
+            default,
+            ..
+        } => {
             expression_fits(selector);
             cases_fit(cases);
             statements_fit(default);

@@ -48,7 +48,11 @@ pub fn parameter_name(alloc: Global) -> Result<LocalName, NoMemory>
 fn parameter(alloc: Global) -> Result<Tree, NoMemory>
     ensures { IfOk result (λ tree. view tree ≡ spec.parameter) }
 {
-    Ok(Tree::VarRef(NOWHERE, parameter_name(alloc)?, IrType::Int))
+    Ok(Tree::VarRef {
+        position: NOWHERE,
+        name: parameter_name(alloc)?,
+        tpe: IrType::Int,
+    })
 }
 
 // An operation on the parameter and a number.
@@ -56,8 +60,19 @@ fn with_number(alloc: Global, operator: BinaryOp, number: i32) -> Result<Tree, N
     ensures { IfOk result (λ tree. view tree ≡ spec.with_number operator number) }
 {
     let left = Box::new(alloc, parameter(alloc)?)?;
-    let right = Box::new(alloc, Tree::IntLiteral(NOWHERE, number))?;
-    Ok(Tree::BinaryOp(NOWHERE, operator, left, right))
+    let right = Box::new(
+        alloc,
+        Tree::IntLiteral {
+            position: NOWHERE,
+            value: number,
+        },
+    )?;
+    Ok(Tree::BinaryOp {
+        position: NOWHERE,
+        operator,
+        left,
+        right,
+    })
 }
 
 // A call of the function of the class of this number.
@@ -65,14 +80,14 @@ fn call(alloc: Global, number: u32, argument: Tree) -> Result<Tree, NoMemory>
     ensures { IfOk result (λ tree. view tree ≡ spec.call_of number (view argument)) }
 {
     let arguments = vec![in alloc; argument]?;
-    Ok(Tree::ApplyStatic(
-        NOWHERE,
-        class_name(alloc, number)?,
-        Namespace::PublicStatic,
-        function_name(alloc)?,
+    Ok(Tree::ApplyStatic {
+        position: NOWHERE,
+        class: class_name(alloc, number)?,
+        namespace: Namespace::PublicStatic,
+        method: function_name(alloc)?,
         arguments,
-        IrType::Int,
-    ))
+        tpe: IrType::Int,
+    })
 }
 
 /// The body of the function of the class of this number.
@@ -95,15 +110,33 @@ pub fn main_body(alloc: Global, count: u32) -> Result<Tree, NoMemory>
     requires { 0 < count }
     ensures { IfOk result (λ tree. view tree ≡ spec.main_body count) }
 {
-    let value = call(alloc, count - 1, Tree::IntLiteral(NOWHERE, 0))?;
+    let value = call(
+        alloc,
+        count - 1,
+        Tree::IntLiteral {
+            position: NOWHERE,
+            value: 0,
+        },
+    )?;
     let right = Box::new(alloc, value)?;
     let left = Box::new(alloc, empty_text(alloc)?)?;
-    let text = Tree::BinaryOp(NOWHERE, BinaryOp::StringConcatenate, left, right);
-    Ok(Tree::Log(NOWHERE, Box::new(alloc, text)?))
+    let text = Tree::BinaryOp {
+        position: NOWHERE,
+        operator: BinaryOp::StringConcatenate,
+        left,
+        right,
+    };
+    Ok(Tree::Log {
+        position: NOWHERE,
+        value: Box::new(alloc, text)?,
+    })
 }
 
 fn empty_text(alloc: Global) -> Result<Tree, NoMemory>
     ensures { IfOk result (λ tree. view tree ≡ spec.empty_text) }
 {
-    Ok(Tree::StringLiteral(NOWHERE, Units::from_vec(Vec::new(alloc))?))
+    Ok(Tree::StringLiteral {
+        position: NOWHERE,
+        value: Units::from_vec(Vec::new(alloc))?,
+    })
 }

@@ -79,35 +79,61 @@ fn ask(
     ensures { OnOk result (asked.new.items ≡ asked.old.items ++ specs.asks sure.now.keys (view tree.now)) }
 {
     match tree {
-        Tree::Assign(_, left, _) => ask_store(alloc, left, asked),
-        Tree::New(_, class, method, _) => ask_new(class, method, asked),
-        Tree::LoadModule(_, class) => ask_load(class, asked),
-        Tree::Select(_, object, class, field, _) => {
+        Tree::Assign { target: left, .. } => ask_store(alloc, left, asked),
+        Tree::New {
+            class,
+            constructor: method,
+            ..
+        } => ask_new(class, method, asked),
+        Tree::LoadModule { class, .. } => ask_load(class, asked),
+        Tree::Select {
+            object,
+            class,
+            field,
+            ..
+        } => {
             ask_field(class, field, false, asked)?;
             ask_receiver(alloc, sure, object, asked)
         }
-        Tree::SelectStatic(_, class, field, _) => ask_field(class, field, true, asked),
-        Tree::Apply(_, receiver, method, _, _) => ask_call(alloc, sure, receiver, method, asked),
-        Tree::ApplyStatically(_, receiver, class, namespace, method, _, _) => {
+        Tree::SelectStatic { class, field, .. } => ask_field(class, field, true, asked),
+        Tree::Apply {
+            receiver,
+            method,
+            ..
+        } => ask_call(alloc, sure, receiver, method, asked),
+        Tree::ApplyStatically {
+            receiver,
+            class,
+            namespace,
+            method,
+            ..
+        } => {
             ask_static_call(class, *namespace, method, asked)?;
             ask_receiver(alloc, sure, receiver, asked)
         }
-        Tree::ApplyStatic(_, class, namespace, method, _, _) => {
-            ask_member(class, *namespace, method, asked)
-        }
-        Tree::BinaryOp(_, operator, _, right) => ask_division(alloc, *operator, right, asked),
-        Tree::NewArray(_, array, _) => {
+        Tree::ApplyStatic {
+            class,
+            namespace,
+            method,
+            ..
+        } => { ask_member(class, *namespace, method, asked) }
+        Tree::BinaryOp {
+            operator,
+            right,
+            ..
+        } => ask_division(alloc, *operator, right, asked),
+        Tree::NewArray { array, .. } => {
             ask_array(array, asked)?;
             ask_exception(alloc, "java.lang.NegativeArraySizeException", asked)
         }
-        Tree::ArrayValue(_, array, _) => ask_array(array, asked),
-        Tree::ArrayLength(_, array) => ask_receiver(alloc, sure, array, asked),
-        Tree::ArraySelect(_, array, _, _) => {
+        Tree::ArrayValue { array, .. } => ask_array(array, asked),
+        Tree::ArrayLength { array, .. } => ask_receiver(alloc, sure, array, asked),
+        Tree::ArraySelect { array, .. } => {
             ask_receiver(alloc, sure, array, asked)?;
             ask_exception(alloc, "java.lang.ArrayIndexOutOfBoundsException", asked)
         }
-        Tree::IsInstanceOf(_, _, tpe) => ask_type(tpe, asked),
-        Tree::AsInstanceOf(_, _, tpe) => ask_cast(alloc, tpe, asked),
+        Tree::IsInstanceOf { tpe, .. } => ask_type(tpe, asked),
+        Tree::AsInstanceOf { tpe, .. } => ask_cast(alloc, tpe, asked),
         _ => Ok(()),
     }
 }
@@ -295,15 +321,15 @@ fn is_other_than_zero(tree: &Tree) -> bool
     ensures { result ≡ specs.is_other_than_zero (view tree.now) }
 {
     match tree {
-        Tree::Undefined(_)
-        | Tree::Null(_)
-        | Tree::BooleanLiteral(_, _)
-        | Tree::StringLiteral(_, _) => true,
-        Tree::CharLiteral(_, value) => *value != 0,
-        Tree::ByteLiteral(_, value) => *value != 0,
-        Tree::ShortLiteral(_, value) => *value != 0,
-        Tree::IntLiteral(_, value) => *value != 0,
-        Tree::LongLiteral(_, value) => *value != 0,
+        Tree::Undefined { .. }
+        | Tree::Null { .. }
+        | Tree::BooleanLiteral { .. }
+        | Tree::StringLiteral { .. } => true,
+        Tree::CharLiteral { value, .. } => *value != 0,
+        Tree::ByteLiteral { value, .. } => *value != 0,
+        Tree::ShortLiteral { value, .. } => *value != 0,
+        Tree::IntLiteral { value, .. } => *value != 0,
+        Tree::LongLiteral { value, .. } => *value != 0,
         _ => false,
     }
 }
@@ -354,7 +380,7 @@ fn ask_store(alloc: Global, left: &Tree, asked: &mut Vec<Info>) -> Result<(), No
     ensures { OnOk result (asked.new.items ≡ asked.old.items ++ specs.of_store (view left.now)) }
 {
     match left {
-        Tree::ArraySelect(_, _, _, tpe) => ask_element(alloc, tpe, asked),
+        Tree::ArraySelect { tpe, .. } => ask_element(alloc, tpe, asked),
         _ => Ok(()),
     }
 }

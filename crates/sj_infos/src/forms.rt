@@ -59,18 +59,21 @@ fn add_form(tree: &Tree, forms: &mut Vec<BodyForm>) -> Result<(), NoMemory>
     ensures { OnOk result (forms.new.items ≡ forms.old.items ++ specs.form_of (view tree.now)) }
 {
     match tree {
-        Tree::LoadModule(_, class) => {
+        Tree::LoadModule { class, .. } => {
             forms.push(BodyForm::Load(class.copied()?))?;
             Ok(())
         }
-        Tree::StoreModule(_, class, _) => {
+        Tree::StoreModule { class, .. } => {
             forms.push(BodyForm::Store(class.copied()?))?;
             Ok(())
         }
-        Tree::Apply(_, _, method, _, _) => add_call(method, forms),
-        Tree::NewArray(_, array, _) | Tree::ArrayValue(_, array, _) => add_base(&array.base, forms),
-        Tree::IsInstanceOf(_, _, tpe) => add_test(tpe, forms),
-        Tree::AsInstanceOf(_, _, tpe) => add_cast(tpe, forms),
+        Tree::Apply { method, .. } => add_call(method, forms),
+        Tree::NewArray { array, .. } | Tree::ArrayValue { array, .. } => add_base(
+            &array.base,
+            forms,
+        ),
+        Tree::IsInstanceOf { tpe, .. } => add_test(tpe, forms),
+        Tree::AsInstanceOf { tpe, .. } => add_cast(tpe, forms),
         _ => Ok(()),
     }
 }

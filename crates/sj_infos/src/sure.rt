@@ -48,12 +48,12 @@ fn is_sure_form(sure: &IndexSet<LocalName>, tree: &Tree) -> bool
     ensures { result ≡ specs.is_sure_form sure.now.keys (view tree.now) }
 {
     match tree {
-        Tree::This(_, _)
-        | Tree::New(_, _, _, _)
-        | Tree::NewArray(_, _, _)
-        | Tree::ArrayValue(_, _, _)
-        | Tree::LoadModule(_, _) => true,
-        Tree::VarRef(_, name, _) => sure.contains(name),
+        Tree::This { .. }
+        | Tree::New { .. }
+        | Tree::NewArray { .. }
+        | Tree::ArrayValue { .. }
+        | Tree::LoadModule { .. } => true,
+        Tree::VarRef { name, .. } => sure.contains(name),
         _ => false,
     }
 }
@@ -72,7 +72,13 @@ pub fn sure_locals(alloc: Global, trees: &[&Tree]) -> Result<IndexSet<LocalName>
 fn add_local(alloc: Global, sure: &mut IndexSet<LocalName>, tree: &Tree) -> Result<(), NoMemory>
     ensures { OnOk result (sure.new.keys ≡ specs.with_local sure.old.keys (view tree.now)) }
 {
-    if let Tree::VarDef(_, name, _, false, value) = tree {
+    if let Tree::VarDef {
+        name,
+        mutable: false,
+        value,
+        ..
+    } = tree
+    {
         if is_sure(alloc, sure, value)? {
             sure.insert(name.copied()?)?;
         }

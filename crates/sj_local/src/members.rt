@@ -12,7 +12,6 @@ use crate::names::{is_empty_type, is_init, is_number, is_object, is_type};
 use crate::repeats::{Key, Keyed};
 use sj_names::{FieldName, MethodName, Namespace, NoMemory, TypeRef};
 use sj_trees::{ClassDef, ClassKind, FieldDef, IrType, MethodDef, ParamDef};
-use std::alloc::AllocError;
 
 /// What no two fields share.
 #[derive(Drop, PartialEq, Eq, Hash)]
@@ -43,7 +42,7 @@ impl Keyed for FieldDef {
 
     ghost key = { field_key };
 
-    fn key(&self) -> Result<FieldKey, AllocError> {
+    fn key(&self) -> Result<FieldKey, NoMemory> {
         Ok(FieldKey {
             is_static: self.is_static,
             name: self.name.copied()?,
@@ -58,7 +57,7 @@ impl Keyed for MethodDef {
 
     ghost key = { method_key };
 
-    fn key(&self) -> Result<MethodKey, AllocError> {
+    fn key(&self) -> Result<MethodKey, NoMemory> {
         Ok(MethodKey {
             namespace: self.namespace,
             name: self.name.copied()?,

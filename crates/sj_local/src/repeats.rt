@@ -5,7 +5,7 @@ ghost use Rattle.sj_local.specs.Firsts.{FirstRepeat};
 use crate::walks::{Declaration, Declared};
 use indexmap::IndexSet;
 use sj_names::{ClassName, NoMemory};
-use std::alloc::{AllocError, Global};
+use std::alloc::Global;
 use std::hash::Hash;
 
 /// Keys, of which those that compare as equal are one.
@@ -24,7 +24,7 @@ pub trait Keyed {
 
     ghost key: { Self → Self.Key };
 
-    fn key(&self) -> Result<Self::Key, AllocError>
+    fn key(&self) -> Result<Self::Key, NoMemory>
         ensures { IfOk result (λ k. k ≡ key self.now) };
 }
 
@@ -53,7 +53,7 @@ impl Keyed for ClassName {
 
     ghost key = { λ n. n };
 
-    fn key(&self) -> Result<ClassName, AllocError> {
+    fn key(&self) -> Result<ClassName, NoMemory> {
         self.copied()
     }
 }
@@ -69,7 +69,7 @@ impl Keyed for Declared {
 
     ghost key = { λ d. d.declaration };
 
-    fn key(&self) -> Result<Declaration, AllocError> {
+    fn key(&self) -> Result<Declaration, NoMemory> {
         match &self.declaration {
             Declaration::Local(name) => Ok(Declaration::Local(name.copied()?)),
             Declaration::Label(name) => Ok(Declaration::Label(name.copied()?)),

@@ -2,7 +2,7 @@
 ghost use Rattle.std.specs.Prelude.{◌≡◌};
 ghost use Rattle.sj_local.specs.Broken.{number};
 
-use std::alloc::{AllocError, AllocFailed};
+use std::alloc::AllocFailed;
 use thiserror::Error;
 
 /// A rule that every class keeps.
@@ -90,16 +90,6 @@ pub enum LocalError {
     /// No memory was left.
     #[error("no memory is left")]
     NoMemory,
-}
-
-impl From<AllocError> for LocalError {
-    ghost use Rattle.sj_local.specs.declared.rules.LocalError.TheVariants.{NoMemory};
-
-    ghost from_gives = { λ _ e. e ≡ NoMemory };
-
-    fn from(_error: AllocError) -> LocalError {
-        LocalError::NoMemory
-    }
 }
 
 impl<T: Drop> From<AllocFailed<T>> for LocalError {

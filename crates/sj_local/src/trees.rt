@@ -11,7 +11,7 @@ use crate::walks::Local;
 use indexmap::IndexSet;
 use sj_names::{ClassName, LabelName, LocalName, Namespace, NoMemory};
 use sj_trees::{ClassDef, ClassKind, IrType, MatchCase, Tree};
-use std::alloc::{AllocError, Global};
+use std::alloc::Global;
 
 // The innermost local of this name.
 fn innermost<'s>(scope: &'s [Local], name: &LocalName) -> Option<&'s Local>
@@ -57,8 +57,8 @@ pub fn breaks_definition(tree: &Tree, in_block: bool) -> bool
     ensures { result ≡ rules.breaks_definition in_block (view tree.now) }
 {
     match tree {
-        Tree::VarDef(_, _, tpe, _, _) => !in_block || is_empty_type(tpe),
-        Tree::Block(_, trees) => has_no_trees(trees),
+        Tree::VarDef { tpe, .. } => !in_block || is_empty_type(tpe),
+        Tree::Block { trees, .. } => has_no_trees(trees),
         _ => false,
     }
 }
@@ -67,8 +67,8 @@ pub fn breaks_variable(tree: &Tree, scope: &[Local]) -> bool
     ensures { result ≡ rules.breaks_variable scope.now (view tree.now) }
 {
     match tree {
-        Tree::VarRef(_, name, tpe) => !has_type(scope, name, tpe),
-        Tree::Assign(_, target, _) => is_immutable(target, scope),
+        Tree::VarRef { name, tpe, .. } => !has_type(scope, name, tpe),
+        Tree::Assign { target, .. } => is_immutable(target, scope),
         _ => false,
     }
 }
@@ -77,7 +77,7 @@ fn is_immutable(tree: &Tree, scope: &[Local]) -> bool
     ensures { result ≡ rules.is_immutable scope.now (view tree.now) }
 {
     match tree {
-        Tree::VarRef(_, name, _) => !is_mutable(scope, name),
+        Tree::VarRef { name, .. } => !is_mutable(scope, name),
         _ => false,
     }
 }
@@ -92,7 +92,7 @@ pub fn breaks_return(tree: &Tree, labels: &[LabelName]) -> bool
     ensures { result ≡ rules.breaks_return labels.now (view tree.now) }
 {
     match tree {
-        Tree::Return(_, _, label) => !has_label(labels, label),
+        Tree::Return { label, .. } => !has_label(labels, label),
         _ => false,
     }
 }
@@ -117,7 +117,7 @@ pub fn breaks_this(tree: &Tree, class: &ClassDef, namespace: Namespace) -> Resul
     ensures { IfOk result (λ broken. broken ≡ rules.breaks_this class.now namespace (view tree.now)) }
 {
     match tree {
-        Tree::This(_, tpe) => Ok(is_static(namespace) || !is_type_of(tpe, &class.name)?),
+        Tree::This { tpe, .. } => Ok(is_static(namespace) || !is_type_of(tpe, &class.name)?),
         _ => Ok(false),
     }
 }
@@ -125,7 +125,7 @@ pub fn breaks_this(tree: &Tree, class: &ClassDef, namespace: Namespace) -> Resul
 fn is_this(tree: &Tree) -> bool
     ensures { result ≡ rules.is_this (view tree.now) }
 {
-    matches!(tree, Tree::This(_, _))
+    matches!(tree, Tree::This { .. })
 }
 
 fn is_module_constructor(class: &ClassDef, namespace: Namespace) -> bool
@@ -138,7 +138,11 @@ pub fn breaks_store(tree: &Tree, class: &ClassDef, namespace: Namespace) -> bool
     ensures { result ≡ rules.breaks_store class.now namespace (view tree.now) }
 {
     match tree {
-        Tree::StoreModule(_, name, value) => {
+        Tree::StoreModule {
+            class: name,
+            value,
+            ..
+        } => {
             let is_right = is_module_constructor(class, namespace)
                 && name.is_same(&class.name)
                 && is_this(value);
@@ -153,10 +157,10 @@ fn is_target(tree: &Tree) -> bool
 {
     matches!(
         tree,
-        Tree::VarRef(_, _, _)
-            | Tree::Select(_, _, _, _, _)
-            | Tree::SelectStatic(_, _, _, _)
-            | Tree::ArraySelect(_, _, _, _)
+        Tree::VarRef { .. }
+            | Tree::Select { .. }
+            | Tree::SelectStatic { .. }
+            | Tree::ArraySelect { .. }
     )
 }
 
@@ -164,7 +168,7 @@ pub fn breaks_target(tree: &Tree) -> bool
     ensures { result ≡ rules.breaks_target (view tree.now) }
 {
     match tree {
-        Tree::Assign(_, target, _) => !is_target(target),
+        Tree::Assign { target, .. } => !is_target(target),
         _ => false,
     }
 }
@@ -173,7 +177,7 @@ pub fn breaks_keys(alloc: Global, tree: &Tree) -> Result<bool, NoMemory>
     ensures { IfOk result (λ broken. broken ≡ rules.breaks_keys (view tree.now)) }
 {
     match tree {
-        Tree::Match(_, _, cases, _, _) => have_repeat(alloc, cases),
+        Tree::Match { cases, .. } => have_repeat(alloc, cases),
         _ => Ok(false),
     }
 }

@@ -88,10 +88,10 @@ fn declare(walk: &mut Walk, tree: &Tree) -> Result<(), NoMemory>
     ensures labels { walk.new.labels.items ≡ walk.old.labels.items }
 {
     let declaration = match tree {
-        Tree::VarDef(_, name, _, _, _) | Tree::TryCatch(_, _, name, _, _) => {
+        Tree::VarDef { name, .. } | Tree::TryCatch { name, .. } => {
             Declaration::Local(name.copied()?)
         }
-        Tree::Labeled(_, label, _, _) => Declaration::Label(label.copied()?),
+        Tree::Labeled { label, .. } => Declaration::Label(label.copied()?),
         _ => return Ok(()),
     };
     let tree = walk.count;
@@ -134,67 +134,120 @@ fn visit(
 {
     see(alloc, method, walk, tree, in_block)?;
     match tree {
-        Tree::VarDef(_, _, _, _, one)
-        | Tree::Return(_, one, _)
-        | Tree::Throw(_, one)
-        | Tree::StoreModule(_, _, one)
-        | Tree::Select(_, one, _, _, _)
-        | Tree::UnaryOp(_, _, one)
-        | Tree::NewArray(_, _, one)
-        | Tree::ArrayLength(_, one)
-        | Tree::IsInstanceOf(_, one, _)
-        | Tree::AsInstanceOf(_, one, _)
-        | Tree::Log(_, one) => visit(alloc, method, walk, one, false),
-        Tree::Assign(_, one, two)
-        | Tree::While(_, one, two)
-        | Tree::DoWhile(_, one, two)
-        | Tree::TryFinally(_, one, two)
-        | Tree::BinaryOp(_, _, one, two)
-        | Tree::ArraySelect(_, one, two, _) => {
+        Tree::VarDef { value: one, .. }
+        | Tree::Return { value: one, .. }
+        | Tree::Throw { value: one, .. }
+        | Tree::StoreModule { value: one, .. }
+        | Tree::Select { object: one, .. }
+        | Tree::UnaryOp { operand: one, .. }
+        | Tree::NewArray { length: one, .. }
+        | Tree::ArrayLength { array: one, .. }
+        | Tree::IsInstanceOf { value: one, .. }
+        | Tree::AsInstanceOf { value: one, .. }
+        | Tree::Log { value: one, .. } => visit(alloc, method, walk, one, false),
+        Tree::Assign {
+            target: one,
+            value: two,
+            ..
+        }
+        | Tree::While {
+            condition: one,
+            body: two,
+            ..
+        }
+        | Tree::DoWhile {
+            body: one,
+            condition: two,
+            ..
+        }
+        | Tree::TryFinally {
+            block: one,
+            finalizer: two,
+            ..
+        }
+        | Tree::BinaryOp {
+            left: one,
+            right: two,
+            ..
+        }
+        | Tree::ArraySelect {
+            array: one,
+            index: two,
+            ..
+        } => {
             visit(alloc, method, walk, one, false)?;
             visit(alloc, method, walk, two, false)
         }
-        Tree::If(_, condition, yes, no, _) => {
+        Tree::If {
+            condition,
+            yes,
+            no,
+            ..
+        } => {
             visit(alloc, method, walk, condition, false)?;
             visit(alloc, method, walk, yes, false)?;
             visit(alloc, method, walk, no, false)
         }
-        Tree::Block(_, trees) => visit_block(alloc, method, walk, trees),
-        Tree::Labeled(_, label, _, body) => visit_labeled(alloc, method, walk, label, body),
-        Tree::TryCatch(_, block, name, handler, _) => {
+        Tree::Block { trees, .. } => visit_block(alloc, method, walk, trees),
+        Tree::Labeled { label, body, .. } => visit_labeled(alloc, method, walk, label, body),
+        Tree::TryCatch {
+            block,
+            name,
+            handler,
+            ..
+        } => {
             visit(alloc, method, walk, block, false)?;
             visit_handler(alloc, method, walk, name, handler)
         }
-        Tree::Match(_, selector, cases, default, _) => {
+        Tree::Match {
+            selector,
+            cases,
+            default,
+            ..
+        } => {
             visit(alloc, method, walk, selector, false)?;
             visit_cases(alloc, method, walk, cases)?;
             visit(alloc, method, walk, default, false)
         }
-        Tree::New(_, _, _, trees)
-        | Tree::ApplyStatic(_, _, _, _, trees, _)
-        | Tree::ArrayValue(_, _, trees) => visit_all(alloc, method, walk, trees),
-        Tree::Apply(_, receiver, _, trees, _) => {
+        Tree::New {
+            arguments: trees,
+            ..
+        }
+        | Tree::ApplyStatic {
+            arguments: trees,
+            ..
+        }
+        | Tree::ArrayValue { items: trees, .. } => visit_all(alloc, method, walk, trees),
+        Tree::Apply {
+            receiver,
+            arguments: trees,
+            ..
+        } => {
             visit(alloc, method, walk, receiver, false)?;
             visit_all(alloc, method, walk, trees)
         }
-        Tree::ApplyStatically(_, receiver, _, _, _, trees, _) => {
+        Tree::ApplyStatically {
+            receiver,
+            arguments: trees,
+            ..
+        } => {
             visit(alloc, method, walk, receiver, false)?;
             visit_all(alloc, method, walk, trees)
         }
-        Tree::Skip(_)
-        | Tree::LoadModule(_, _)
-        | Tree::SelectStatic(_, _, _, _)
-        | Tree::Undefined(_)
-        | Tree::Null(_)
-        | Tree::BooleanLiteral(_, _)
-        | Tree::CharLiteral(_, _)
-        | Tree::ByteLiteral(_, _)
-        | Tree::ShortLiteral(_, _)
-        | Tree::IntLiteral(_, _)
-        | Tree::LongLiteral(_, _)
-        | Tree::StringLiteral(_, _)
-        | Tree::VarRef(_, _, _)
-        | Tree::This(_, _) => Ok(()),
+        Tree::Skip { .. }
+        | Tree::LoadModule { .. }
+        | Tree::SelectStatic { .. }
+        | Tree::Undefined { .. }
+        | Tree::Null { .. }
+        | Tree::BooleanLiteral { .. }
+        | Tree::CharLiteral { .. }
+        | Tree::ByteLiteral { .. }
+        | Tree::ShortLiteral { .. }
+        | Tree::IntLiteral { .. }
+        | Tree::LongLiteral { .. }
+        | Tree::StringLiteral { .. }
+        | Tree::VarRef { .. }
+        | Tree::This { .. } => Ok(()),
     }
 }
 
@@ -309,7 +362,13 @@ fn define(walk: &mut Walk, tree: &Tree) -> Result<(), NoMemory>
     ensures scope { OnOk result (walk.new.scope.items ≡ walk.old.scope.items ++ nodes.defined (view tree.now)) }
     ensures labels { walk.new.labels.items ≡ walk.old.labels.items }
 {
-    if let Tree::VarDef(_, name, tpe, mutable, _) = tree {
+    if let Tree::VarDef {
+        name,
+        tpe,
+        mutable,
+        ..
+    } = tree
+    {
         let local = Local {
             name: name.copied()?,
             tpe: tpe.copied()?,

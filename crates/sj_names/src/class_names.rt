@@ -9,8 +9,8 @@ ghost use Rattle.std.proofs.Common.{rules};
 ghost use Rattle.sj_names.specs.Grammar.{is_class_name};
 
 use crate::naming::is_class_name;
-use crate::{NameError, Text};
-use std::alloc::{AllocError, Global};
+use crate::{NameError, NoMemory, Text};
+use std::alloc::Global;
 use std::cmp::Ordering;
 use std::fmt;
 use std::hash::{Hash, Hasher};
@@ -51,7 +51,7 @@ impl ClassName {
     }
 
     /// The same name once more, which shares the bytes.
-    pub fn copied(&self) -> Result<ClassName, AllocError>
+    pub fn copied(&self) -> Result<ClassName, NoMemory>
         ensures { IfOk result (λ n. n ≡ self.now) }
     {
         let text = self.text.copied()?;

@@ -3,8 +3,7 @@ ghost use Rattle.std.specs.Prelude.{◌≡◌, IfOk, codes, nat_eq};
 ghost use Rattle.std.specs.List.{list_all, starts_with};
 ghost use Rattle.sj_names.specs.EntryPoints as entry_points;
 
-use crate::{ClassName, SimpleName, Text};
-use std::alloc::AllocError;
+use crate::{ClassName, NoMemory, SimpleName, Text};
 
 const INIT: &str = "<init>";
 
@@ -27,7 +26,7 @@ impl EntryPoint {
     }
 
     /// The same entry once more.
-    pub fn copied(&self) -> Result<EntryPoint, AllocError>
+    pub fn copied(&self) -> Result<EntryPoint, NoMemory>
         ensures { IfOk result (λ e. e ≡ self.now) }
     {
         Ok(EntryPoint {

@@ -11,7 +11,7 @@ ghost use Rattle.sj_names.specs.Names.{IsInnerName};
 
 use crate::naming::is_plain_name;
 use crate::{NameError, NoMemory, Text};
-use std::alloc::{AllocError, Global};
+use std::alloc::Global;
 use std::cmp::Ordering;
 use std::fmt;
 use std::hash::{Hash, Hasher};
@@ -53,7 +53,7 @@ impl LocalName {
     }
 
     /// The same name once more, which shares the bytes.
-    pub fn copied(&self) -> Result<LocalName, AllocError>
+    pub fn copied(&self) -> Result<LocalName, NoMemory>
         ensures { IfOk result (λ n. n ≡ self.now) }
     {
         let text = self.text.copied()?;
@@ -190,7 +190,7 @@ impl LabelName {
     }
 
     /// The same name once more, which shares the bytes.
-    pub fn copied(&self) -> Result<LabelName, AllocError>
+    pub fn copied(&self) -> Result<LabelName, NoMemory>
         ensures { IfOk result (λ n. n ≡ self.now) }
     {
         let text = self.text.copied()?;

@@ -6,7 +6,7 @@ use crate::cuts::first_part;
 use crate::naming::is_simple_name;
 use crate::references::{is_reference, push};
 use crate::{ClassName, NameError, NoMemory, Shared, SimpleName, Text, TypeRef};
-use std::alloc::{AllocError, Global};
+use std::alloc::Global;
 
 /// A method name: its simple name, the references of its parameters and of its result. A reflective proxy has no result.
 #[derive(Drop, PartialEq, Eq, PartialOrd, Ord, Hash)]
@@ -68,7 +68,7 @@ impl MethodName {
     }
 
     /// The same name once more, which shares its texts and its parameters.
-    pub fn copied(&self) -> Result<MethodName, AllocError>
+    pub fn copied(&self) -> Result<MethodName, NoMemory>
         ensures { IfOk result (λ m. m ≡ self.now) }
     {
         Ok(MethodName {
@@ -90,7 +90,7 @@ impl MethodName {
 
 impl Member {
     /// The same member once more, which shares its names.
-    pub fn copied(&self) -> Result<Member, AllocError>
+    pub fn copied(&self) -> Result<Member, NoMemory>
         ensures { IfOk result (λ m. m ≡ self.now) }
     {
         Ok(Member {
@@ -210,7 +210,7 @@ fn parse_result(alloc: Global, text: &str) -> Result<Option<TypeRef>, NameError>
     Ok(Some(TypeRef::parse(alloc, text)?))
 }
 
-fn copied_result(result_reference: &Option<TypeRef>) -> Result<Option<TypeRef>, AllocError>
+fn copied_result(result_reference: &Option<TypeRef>) -> Result<Option<TypeRef>, NoMemory>
     ensures { IfOk result (λ r. r ≡ result_reference.now) }
 {
     match result_reference {

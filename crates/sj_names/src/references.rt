@@ -6,7 +6,7 @@ ghost use Rattle.sj_names.specs.References as references;
 use crate::cuts::{behind, behind_dimensions};
 use crate::naming::is_class_name;
 use crate::{ClassName, NameError, NoMemory, Text};
-use std::alloc::{AllocError, Global};
+use std::alloc::Global;
 
 /// A reference to a type.
 #[derive(PartialEq, Eq, PartialOrd, Ord, Hash)]
@@ -117,7 +117,7 @@ impl TypeRef {
     }
 
     /// The same reference once more.
-    pub fn copied(&self) -> Result<TypeRef, AllocError>
+    pub fn copied(&self) -> Result<TypeRef, NoMemory>
         ensures { IfOk result (λ r. r ≡ self.now) }
     {
         Ok(match self {
@@ -180,7 +180,7 @@ impl ArrayRef {
     }
 
     /// The same reference once more.
-    pub fn copied(&self) -> Result<ArrayRef, AllocError>
+    pub fn copied(&self) -> Result<ArrayRef, NoMemory>
         ensures { IfOk result (λ r. r ≡ self.now) }
     {
         Ok(ArrayRef {
@@ -284,7 +284,7 @@ impl BaseRef {
     }
 
     /// The same base once more.
-    pub fn copied(&self) -> Result<BaseRef, AllocError>
+    pub fn copied(&self) -> Result<BaseRef, NoMemory>
         ensures { IfOk result (λ r. r ≡ self.now) }
     {
         Ok(match self {

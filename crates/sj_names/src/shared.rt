@@ -4,7 +4,7 @@ ghost use Rattle.std.specs.Hash as fed;
 ghost use Rattle.std.specs.Hash.{items_Alike};
 ghost use Rattle.std.specs.Cmp.Lexicographic.{pointwise, slice_cmp, slice_partial_cmp, lists_per, lists_equiv, lists_po, lists_total, lists_agrees, lists_ties};
 
-use std::alloc::AllocError;
+use crate::NoMemory;
 use std::cmp::Ordering;
 use std::hash::{Hash, Hasher};
 use std::marker::Model;
@@ -27,7 +27,7 @@ impl<T> Model for Shared<T> {
 
 impl<T: Drop> Shared<T> {
     /// The items of `items`.
-    pub fn from_vec(items: Vec<T>) -> Result<Shared<T>, AllocError>
+    pub fn from_vec(items: Vec<T>) -> Result<Shared<T>, NoMemory>
         ensures { IfOk result (λ s. s ≡ items.items) }
     {
         let items = RcSlice::from_vec(items)?;
@@ -35,7 +35,7 @@ impl<T: Drop> Shared<T> {
     }
 
     /// The same items once more.
-    pub fn copied(&self) -> Result<Shared<T>, AllocError>
+    pub fn copied(&self) -> Result<Shared<T>, NoMemory>
         ensures { IfOk result (λ s. s ≡ self.now) }
     {
         let items = self.items.clone()?;

@@ -9,8 +9,8 @@ ghost use Rattle.std.proofs.Common.{rules};
 ghost use Rattle.sj_names.specs.Grammar.{is_plain_name, is_simple_name};
 
 use crate::naming::{is_plain_name, is_simple_name};
-use crate::{NameError, Text};
-use std::alloc::{AllocError, Global};
+use crate::{NameError, NoMemory, Text};
+use std::alloc::Global;
 use std::cmp::Ordering;
 use std::fmt;
 use std::hash::{Hash, Hasher};
@@ -51,7 +51,7 @@ impl SimpleName {
     }
 
     /// The same name once more, which shares the bytes.
-    pub fn copied(&self) -> Result<SimpleName, AllocError>
+    pub fn copied(&self) -> Result<SimpleName, NoMemory>
         ensures { IfOk result (λ n. n ≡ self.now) }
     {
         let text = self.text.copied()?;
@@ -176,7 +176,7 @@ impl FieldName {
     }
 
     /// The same name once more, which shares the bytes.
-    pub fn copied(&self) -> Result<FieldName, AllocError>
+    pub fn copied(&self) -> Result<FieldName, NoMemory>
         ensures { IfOk result (λ n. n ≡ self.now) }
     {
         let text = self.text.copied()?;

@@ -7,7 +7,8 @@ ghost use Rattle.std.specs.Cmp.{partial_equiv_from_equiv};
 ghost use Rattle.std.specs.Cmp.Rules.{hashing};
 ghost use Rattle.std.proofs.Common.{rules};
 
-use std::alloc::{AllocError, Global};
+use crate::NoMemory;
+use std::alloc::Global;
 use std::cmp::Ordering;
 use std::fmt;
 use std::hash::{Hash, Hasher};
@@ -31,7 +32,7 @@ impl Model for Text {
 
 impl Text {
     /// The text that `text` holds.
-    pub fn from_string(text: String) -> Result<Text, AllocError>
+    pub fn from_string(text: String) -> Result<Text, NoMemory>
         ensures { IfOk result (λ t. t ≡ string_bytes text) }
     {
         let text = RcStr::from_string(text)?;
@@ -39,7 +40,7 @@ impl Text {
     }
 
     /// A text with the bytes of `text`.
-    pub fn from_str(alloc: Global, text: &str) -> Result<Text, AllocError>
+    pub fn from_str(alloc: Global, text: &str) -> Result<Text, NoMemory>
         ensures { IfOk result (λ t. t ≡ text.now) }
     {
         let text = RcStr::from_str(alloc, text)?;
@@ -54,7 +55,7 @@ impl Text {
     }
 
     /// The same text once more, which shares the bytes.
-    pub fn copied(&self) -> Result<Text, AllocError>
+    pub fn copied(&self) -> Result<Text, NoMemory>
         ensures { IfOk result (λ t. t ≡ self.now) }
     {
         let text = self.text.clone()?;
@@ -155,7 +156,7 @@ impl Bytes {
     }
 
     /// A copy of `bytes`.
-    pub fn from_slice(alloc: Global, bytes: &[u8]) -> Result<Bytes, AllocError>
+    pub fn from_slice(alloc: Global, bytes: &[u8]) -> Result<Bytes, NoMemory>
         ensures { IfOk result (λ b. b ≡ bytes.now) }
     {
         let bytes = bytes.to_vec(alloc)?;
@@ -177,7 +178,7 @@ impl Bytes {
     }
 
     /// A copy of these bytes.
-    pub fn copied(&self, alloc: Global) -> Result<Bytes, AllocError>
+    pub fn copied(&self, alloc: Global) -> Result<Bytes, NoMemory>
         ensures { IfOk result (λ b. b ≡ self.now) }
     {
         Bytes::from_slice(alloc, self.as_slice())

@@ -4,8 +4,8 @@ ghost use Rattle.sj_outside.specs.Contents.{file_at, file_part, folder_at, folde
 ghost use Rattle.sj_outside.specs.View.{parts_view};
 
 use crate::parts::{Found, Part, found_at, is_new};
-use sj_names::{Bytes, Text};
-use std::alloc::{AllocError, AllocFailed, Global};
+use sj_names::{Bytes, NoMemory, Text};
+use std::alloc::{AllocFailed, Global};
 use thiserror::Error;
 
 /// Why contents don't get a part.
@@ -19,22 +19,22 @@ pub enum ContentsError {
     NoMemory,
 }
 
-impl From<AllocError> for ContentsError {
-    ghost use Rattle.sj_outside.specs.declared.contents.ContentsError.TheVariants.{NoMemory};
-
-    ghost from_gives = { λ _ e. e ≡ NoMemory };
-
-    fn from(_error: AllocError) -> ContentsError {
-        ContentsError::NoMemory
-    }
-}
-
 impl<T: Drop> From<AllocFailed<T>> for ContentsError {
     ghost use Rattle.sj_outside.specs.declared.contents.ContentsError.TheVariants.{NoMemory};
 
     ghost from_gives = { λ _ e. e ≡ NoMemory };
 
     fn from(_error: AllocFailed<T>) -> ContentsError {
+        ContentsError::NoMemory
+    }
+}
+
+impl From<NoMemory> for ContentsError {
+    ghost use Rattle.sj_outside.specs.declared.contents.ContentsError.TheVariants.{NoMemory};
+
+    ghost from_gives = { λ _ e. e ≡ NoMemory };
+
+    fn from(_error: NoMemory) -> ContentsError {
         ContentsError::NoMemory
     }
 }

@@ -89,7 +89,9 @@ fn entries_of_folder<R: Files + AllocGlobal + Clone + Drop>(
         }
         let found = found?;
         let is_folder = found.file_type()?.is_dir();
-        let name = Text::from_str(alloc, found.file_name())?;
+        let Ok(name) = Text::from_str(alloc, found.file_name()) else {
+            return Err(io::Error::from(ErrorKind::OutOfMemory));
+        };
         entries.push(Entry { name, is_folder })?;
     }
     entries.sort()?;

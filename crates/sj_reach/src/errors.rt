@@ -2,7 +2,6 @@
 ghost use Rattle.std.specs.Prelude.{◌≡◌};
 
 use sj_names::{NoMemory, Text};
-use std::alloc::AllocError;
 use thiserror::Error;
 
 /// Why there is nothing reached.
@@ -22,16 +21,6 @@ impl From<NoMemory> for ReachError {
     ghost from_gives = { λ _ e. e ≡ NoMemory };
 
     fn from(_error: NoMemory) -> ReachError {
-        ReachError::NoMemory
-    }
-}
-
-impl From<AllocError> for ReachError {
-    ghost use Rattle.sj_reach.specs.declared.errors.ReachError.TheVariants.{NoMemory};
-
-    ghost from_gives = { λ _ e. e ≡ NoMemory };
-
-    fn from(_error: AllocError) -> ReachError {
         ReachError::NoMemory
     }
 }

@@ -18,10 +18,10 @@ use crate::stops::{Stop, bad};
 use crate::tables::{class_name_of, field_name_of, local_name_of, method_name_of, position_of};
 use crate::trees::tree_of;
 use crate::types::{kind_of, member_tag_of, namespace_of, type_of};
-use sj_names::{ClassName, MethodName, Namespace, Shared};
+use sj_names::{ClassName, MethodName, Namespace, NoMemory, Shared};
 use sj_read_spec::{MemberDef, MemberTag};
 use sj_trees::{Body, ClassDef, ClassKind, Code, FieldDef, IrType, MethodDef, ParamDef, Position};
-use std::alloc::{AllocError, Global};
+use std::alloc::Global;
 
 // How deep the trees of a body may stand one in another.
 const DEPTH: u32 = 200;
@@ -292,7 +292,7 @@ fn put(
     fields: &mut Vec<FieldDef>,
     methods: &mut Vec<MethodDef>,
     member: MemberDef,
-) -> Result<(), AllocError>
+) -> Result<(), NoMemory>
     ensures { IfOk result (λ _. (fields.new.items ≡ fields.old.items ++ fields_in (member ∷ [])) × (methods.new.items ≡ methods.old.items ++ methods_in (member ∷ []))) }
 {
     match member {
@@ -309,7 +309,7 @@ struct Members {
 }
 
 // The fields and the methods among members.
-fn sorted(alloc: Global, members: Vec<MemberDef>) -> Result<Members, AllocError>
+fn sorted(alloc: Global, members: Vec<MemberDef>) -> Result<Members, NoMemory>
     ensures { IfOk result (λ ms. ms ≡ members_in members.items) }
 {
     let mut fields = Vec::new(alloc);

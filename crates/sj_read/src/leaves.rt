@@ -24,55 +24,70 @@ pub fn leaf_of<'a>(
     ensures { Gives (λ x. (view x.0, x.1.now)) result (leaf_at tables.now tag position bytes.now) }
 {
     match tag {
-        LeafForm::Skip => Ok((Tree::Skip(position), bytes)),
+        LeafForm::Skip => Ok((Tree::Skip { position }, bytes)),
         LeafForm::LoadModule => {
             let (class, rest) = class_name_of(tables.names(), bytes)?;
-            Ok((Tree::LoadModule(position, class), rest))
+            Ok((Tree::LoadModule { position, class }, rest))
         }
         LeafForm::SelectStatic => {
             let (class, rest) = class_name_of(tables.names(), bytes)?;
             let (field, rest) = field_name_of(tables.names(), rest)?;
             let (tpe, rest) = type_of(tables.names(), rest)?;
-            Ok((Tree::SelectStatic(position, class, field, tpe), rest))
+            Ok((
+                Tree::SelectStatic {
+                    position,
+                    class,
+                    field,
+                    tpe,
+                },
+                rest,
+            ))
         }
-        LeafForm::Undefined => Ok((Tree::Undefined(position), bytes)),
-        LeafForm::Null => Ok((Tree::Null(position), bytes)),
+        LeafForm::Undefined => Ok((Tree::Undefined { position }, bytes)),
+        LeafForm::Null => Ok((Tree::Null { position }, bytes)),
         LeafForm::BooleanLiteral => {
             let (value, rest) = mark_of(bytes)?;
-            Ok((Tree::BooleanLiteral(position, value), rest))
+            Ok((Tree::BooleanLiteral { position, value }, rest))
         }
         LeafForm::CharLiteral => {
             let (value, rest) = short_of(bytes)?;
-            Ok((Tree::CharLiteral(position, value), rest))
+            Ok((Tree::CharLiteral { position, value }, rest))
         }
         LeafForm::ByteLiteral => {
             let (value, rest) = signed_byte_of(bytes)?;
-            Ok((Tree::ByteLiteral(position, value), rest))
+            Ok((Tree::ByteLiteral { position, value }, rest))
         }
         LeafForm::ShortLiteral => {
             let (value, rest) = signed_short_of(bytes)?;
-            Ok((Tree::ShortLiteral(position, value), rest))
+            Ok((Tree::ShortLiteral { position, value }, rest))
         }
         LeafForm::IntLiteral => {
             let (value, rest) = signed_number_of(bytes)?;
-            Ok((Tree::IntLiteral(position, value), rest))
+            Ok((Tree::IntLiteral { position, value }, rest))
         }
         LeafForm::LongLiteral => {
             let (value, rest) = signed_long_of(bytes)?;
-            Ok((Tree::LongLiteral(position, value), rest))
+            Ok((Tree::LongLiteral { position, value }, rest))
         }
         LeafForm::StringLiteral => {
             let (value, rest) = units_of(tables.strings(), bytes)?;
-            Ok((Tree::StringLiteral(position, value), rest))
+            Ok((Tree::StringLiteral { position, value }, rest))
         }
         LeafForm::VarRef => {
             let (name, rest) = local_name_of(tables.names(), bytes)?;
             let (tpe, rest) = type_of(tables.names(), rest)?;
-            Ok((Tree::VarRef(position, name, tpe), rest))
+            Ok((
+                Tree::VarRef {
+                    position,
+                    name,
+                    tpe,
+                },
+                rest,
+            ))
         }
         LeafForm::This => {
             let (tpe, rest) = type_of(tables.names(), bytes)?;
-            Ok((Tree::This(position, tpe), rest))
+            Ok((Tree::This { position, tpe }, rest))
         }
     }
 }

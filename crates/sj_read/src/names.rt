@@ -3,10 +3,9 @@ ghost use Rattle.std.specs.Prelude.{◌≡◌, IfOk, Some, None, if◌then◌els
 ghost use Rattle.sj_names.specs.Grammar.{is_class_name, is_plain_name, is_simple_name};
 
 use sj_names::{
-    ClassName, FieldName, LabelName, LocalName, SimpleName, Text, is_class_name, is_plain_name,
-    is_simple_name,
+    ClassName, FieldName, LabelName, LocalName, NoMemory, SimpleName, Text, is_class_name,
+    is_plain_name, is_simple_name,
 };
-use std::alloc::AllocError;
 use std::marker::Model;
 
 /// An entry of the table of names, with the grammars that it meets.
@@ -46,7 +45,7 @@ impl NameEntry {
     }
 
     // The entry as the name of a class, where it is one.
-    pub fn class_name(&self) -> Result<Option<ClassName>, AllocError>
+    pub fn class_name(&self) -> Result<Option<ClassName>, NoMemory>
         ensures { IfOk result (λ o. o ≡ (if is_class_name self.now then Some self.now else None)) }
     {
         if !self.is_class {
@@ -56,7 +55,7 @@ impl NameEntry {
     }
 
     // The entry as a simple name, where it is one.
-    pub fn simple_name(&self) -> Result<Option<SimpleName>, AllocError>
+    pub fn simple_name(&self) -> Result<Option<SimpleName>, NoMemory>
         ensures { IfOk result (λ o. o ≡ (if is_simple_name self.now then Some self.now else None)) }
     {
         if !self.is_simple {
@@ -66,7 +65,7 @@ impl NameEntry {
     }
 
     // The entry as the name of a field, where it is one.
-    pub fn field_name(&self) -> Result<Option<FieldName>, AllocError>
+    pub fn field_name(&self) -> Result<Option<FieldName>, NoMemory>
         ensures { IfOk result (λ o. o ≡ (if is_plain_name self.now then Some self.now else None)) }
     {
         if !self.is_plain {
@@ -76,7 +75,7 @@ impl NameEntry {
     }
 
     // The entry as the name of a local variable, where it is one.
-    pub fn local_name(&self) -> Result<Option<LocalName>, AllocError>
+    pub fn local_name(&self) -> Result<Option<LocalName>, NoMemory>
         ensures { IfOk result (λ o. o ≡ (if is_plain_name self.now then Some self.now else None)) }
     {
         if !self.is_plain {
@@ -86,7 +85,7 @@ impl NameEntry {
     }
 
     // The entry as the name of a label, where it is one.
-    pub fn label_name(&self) -> Result<Option<LabelName>, AllocError>
+    pub fn label_name(&self) -> Result<Option<LabelName>, NoMemory>
         ensures { IfOk result (λ o. o ≡ (if is_plain_name self.now then Some self.now else None)) }
     {
         if !self.is_plain {

@@ -5,7 +5,7 @@ ghost use Rattle.sj_read_spec.specs.Reading.{fault};
 use sj_names::NoMemory;
 use sj_read_spec::Fault;
 use sj_trees::Code;
-use std::alloc::{AllocError, AllocFailed};
+use std::alloc::AllocFailed;
 
 /// Why a reader stops: at a fault of the file, or for want of memory.
 #[derive(Clone, Copy, Debug, PartialEq, Eq)]
@@ -20,16 +20,6 @@ impl From<NoMemory> for Stop {
     ghost from_gives = { λ _ e. e ≡ NoMemory };
 
     fn from(_error: NoMemory) -> Stop {
-        Stop::NoMemory
-    }
-}
-
-impl From<AllocError> for Stop {
-    ghost use Rattle.sj_read.specs.declared.stops.Stop.TheVariants.{NoMemory};
-
-    ghost from_gives = { λ _ e. e ≡ NoMemory };
-
-    fn from(_error: AllocError) -> Stop {
         Stop::NoMemory
     }
 }

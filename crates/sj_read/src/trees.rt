@@ -191,7 +191,16 @@ fn var_def_of<'a>(
     let (tpe, rest) = type_of(tables.names(), rest)?;
     let (mutable, rest) = mark_of(rest)?;
     let (value, rest) = boxed_of(alloc, tables, depth, rest)?;
-    Ok((Tree::VarDef(position, name, tpe, mutable, value), rest))
+    Ok((
+        Tree::VarDef {
+            position,
+            name,
+            tpe,
+            mutable,
+            value,
+        },
+        rest,
+    ))
 }
 
 // Statements in a row.
@@ -208,7 +217,7 @@ fn block_of<'a>(
 {
     let (count, rest) = number_of(bytes)?;
     let (trees, rest) = trees_of(alloc, tables, depth, count, rest)?;
-    Ok((Tree::Block(position, trees), rest))
+    Ok((Tree::Block { position, trees }, rest))
 }
 
 // A labeled block.
@@ -226,7 +235,15 @@ fn labeled_of<'a>(
     let (label, rest) = label_name_of(tables.names(), bytes)?;
     let (tpe, rest) = type_of(tables.names(), rest)?;
     let (body, rest) = boxed_of(alloc, tables, depth, rest)?;
-    Ok((Tree::Labeled(position, label, tpe, body), rest))
+    Ok((
+        Tree::Labeled {
+            position,
+            label,
+            tpe,
+            body,
+        },
+        rest,
+    ))
 }
 
 // An assignment.
@@ -243,7 +260,14 @@ fn assign_of<'a>(
 {
     let (target, rest) = boxed_of(alloc, tables, depth, bytes)?;
     let (value, rest) = boxed_of(alloc, tables, depth, rest)?;
-    Ok((Tree::Assign(position, target, value), rest))
+    Ok((
+        Tree::Assign {
+            position,
+            target,
+            value,
+        },
+        rest,
+    ))
 }
 
 // A jump to the end of a labeled block.
@@ -260,7 +284,14 @@ fn return_of<'a>(
 {
     let (value, rest) = boxed_of(alloc, tables, depth, bytes)?;
     let (label, rest) = label_name_of(tables.names(), rest)?;
-    Ok((Tree::Return(position, value, label), rest))
+    Ok((
+        Tree::Return {
+            position,
+            value,
+            label,
+        },
+        rest,
+    ))
 }
 
 // A throw.
@@ -276,7 +307,7 @@ fn throw_of<'a>(
     ensures { Gives (λ x. (view x.0, x.1.now)) result (statement_at (tree_at depth tables.now) tables.now StatementForm.Throw position bytes.now) }
 {
     let (value, rest) = boxed_of(alloc, tables, depth, bytes)?;
-    Ok((Tree::Throw(position, value), rest))
+    Ok((Tree::Throw { position, value }, rest))
 }
 
 // A module's instance set.
@@ -293,7 +324,14 @@ fn store_module_of<'a>(
 {
     let (class, rest) = class_name_of(tables.names(), bytes)?;
     let (value, rest) = boxed_of(alloc, tables, depth, rest)?;
-    Ok((Tree::StoreModule(position, class, value), rest))
+    Ok((
+        Tree::StoreModule {
+            position,
+            class,
+            value,
+        },
+        rest,
+    ))
 }
 
 // A line of output.
@@ -309,7 +347,7 @@ fn log_of<'a>(
     ensures { Gives (λ x. (view x.0, x.1.now)) result (statement_at (tree_at depth tables.now) tables.now StatementForm.Log position bytes.now) }
 {
     let (value, rest) = boxed_of(alloc, tables, depth, bytes)?;
-    Ok((Tree::Log(position, value), rest))
+    Ok((Tree::Log { position, value }, rest))
 }
 
 // A form that chooses, repeats or catches.
@@ -351,7 +389,13 @@ fn if_of<'a>(
     let (alternative, rest) = boxed_of(alloc, tables, depth, rest)?;
     let (tpe, rest) = type_of(tables.names(), rest)?;
     Ok((
-        Tree::If(position, condition, consequent, alternative, tpe),
+        Tree::If {
+            position,
+            condition,
+            yes: consequent,
+            no: alternative,
+            tpe,
+        },
         rest,
     ))
 }
@@ -370,7 +414,14 @@ fn while_of<'a>(
 {
     let (condition, rest) = boxed_of(alloc, tables, depth, bytes)?;
     let (body, rest) = boxed_of(alloc, tables, depth, rest)?;
-    Ok((Tree::While(position, condition, body), rest))
+    Ok((
+        Tree::While {
+            position,
+            condition,
+            body,
+        },
+        rest,
+    ))
 }
 
 // A loop that tests behind.
@@ -387,7 +438,14 @@ fn do_while_of<'a>(
 {
     let (body, rest) = boxed_of(alloc, tables, depth, bytes)?;
     let (condition, rest) = boxed_of(alloc, tables, depth, rest)?;
-    Ok((Tree::DoWhile(position, body, condition), rest))
+    Ok((
+        Tree::DoWhile {
+            position,
+            body,
+            condition,
+        },
+        rest,
+    ))
 }
 
 // A block with a handler.
@@ -406,7 +464,16 @@ fn try_catch_of<'a>(
     let (name, rest) = local_name_of(tables.names(), rest)?;
     let (handler, rest) = boxed_of(alloc, tables, depth, rest)?;
     let (tpe, rest) = type_of(tables.names(), rest)?;
-    Ok((Tree::TryCatch(position, block, name, handler, tpe), rest))
+    Ok((
+        Tree::TryCatch {
+            position,
+            block,
+            name,
+            handler,
+            tpe,
+        },
+        rest,
+    ))
 }
 
 // A block with a finalizer.
@@ -423,7 +490,14 @@ fn try_finally_of<'a>(
 {
     let (block, rest) = boxed_of(alloc, tables, depth, bytes)?;
     let (finalizer, rest) = boxed_of(alloc, tables, depth, rest)?;
-    Ok((Tree::TryFinally(position, block, finalizer), rest))
+    Ok((
+        Tree::TryFinally {
+            position,
+            block,
+            finalizer,
+        },
+        rest,
+    ))
 }
 
 // A choice by a number.
@@ -443,7 +517,16 @@ fn match_of<'a>(
     let (cases, rest) = cases_of(alloc, tables, depth, count, rest)?;
     let (default, rest) = boxed_of(alloc, tables, depth, rest)?;
     let (tpe, rest) = type_of(tables.names(), rest)?;
-    Ok((Tree::Match(position, selector, cases, default, tpe), rest))
+    Ok((
+        Tree::Match {
+            position,
+            selector,
+            cases,
+            default,
+            tpe,
+        },
+        rest,
+    ))
 }
 
 // A form that calls a method or reads a field of an object.
@@ -483,7 +566,15 @@ fn new_of<'a>(
     let (method, rest) = method_name_of(tables.methods(), rest)?;
     let (count, rest) = number_of(rest)?;
     let (arguments, rest) = trees_of(alloc, tables, depth, count, rest)?;
-    Ok((Tree::New(position, class, method, arguments), rest))
+    Ok((
+        Tree::New {
+            position,
+            class,
+            constructor: method,
+            arguments,
+        },
+        rest,
+    ))
 }
 
 // A field of an object.
@@ -502,7 +593,16 @@ fn select_of<'a>(
     let (class, rest) = class_name_of(tables.names(), rest)?;
     let (field, rest) = field_name_of(tables.names(), rest)?;
     let (tpe, rest) = type_of(tables.names(), rest)?;
-    Ok((Tree::Select(position, qualifier, class, field, tpe), rest))
+    Ok((
+        Tree::Select {
+            position,
+            object: qualifier,
+            class,
+            field,
+            tpe,
+        },
+        rest,
+    ))
 }
 
 // A call that the receiver's class decides.
@@ -523,7 +623,13 @@ fn apply_of<'a>(
     let (arguments, rest) = trees_of(alloc, tables, depth, count, rest)?;
     let (tpe, rest) = type_of(tables.names(), rest)?;
     Ok((
-        Tree::Apply(position, receiver, method, arguments, tpe),
+        Tree::Apply {
+            position,
+            receiver,
+            method,
+            arguments,
+            tpe,
+        },
         rest,
     ))
 }
@@ -548,7 +654,15 @@ fn apply_statically_of<'a>(
     let (arguments, rest) = trees_of(alloc, tables, depth, count, rest)?;
     let (tpe, rest) = type_of(tables.names(), rest)?;
     Ok((
-        Tree::ApplyStatically(position, receiver, class, namespace, method, arguments, tpe),
+        Tree::ApplyStatically {
+            position,
+            receiver,
+            class,
+            namespace,
+            method,
+            arguments,
+            tpe,
+        },
         rest,
     ))
 }
@@ -572,7 +686,14 @@ fn apply_static_of<'a>(
     let (arguments, rest) = trees_of(alloc, tables, depth, count, rest)?;
     let (tpe, rest) = type_of(tables.names(), rest)?;
     Ok((
-        Tree::ApplyStatic(position, class, namespace, method, arguments, tpe),
+        Tree::ApplyStatic {
+            position,
+            class,
+            namespace,
+            method,
+            arguments,
+            tpe,
+        },
         rest,
     ))
 }
@@ -615,7 +736,14 @@ fn unary_op_of<'a>(
 {
     let (operator, rest) = unary_of(bytes)?;
     let (operand, rest) = boxed_of(alloc, tables, depth, rest)?;
-    Ok((Tree::UnaryOp(position, operator, operand), rest))
+    Ok((
+        Tree::UnaryOp {
+            position,
+            operator,
+            operand,
+        },
+        rest,
+    ))
 }
 
 // An operator with two operands.
@@ -633,7 +761,15 @@ fn binary_op_of<'a>(
     let (operator, rest) = binary_of(bytes)?;
     let (left, rest) = boxed_of(alloc, tables, depth, rest)?;
     let (right, rest) = boxed_of(alloc, tables, depth, rest)?;
-    Ok((Tree::BinaryOp(position, operator, left, right), rest))
+    Ok((
+        Tree::BinaryOp {
+            position,
+            operator,
+            left,
+            right,
+        },
+        rest,
+    ))
 }
 
 // A new array.
@@ -650,7 +786,14 @@ fn new_array_of<'a>(
 {
     let (array, rest) = array_reference_of(tables.names(), bytes)?;
     let (length, rest) = boxed_of(alloc, tables, depth, rest)?;
-    Ok((Tree::NewArray(position, array, length), rest))
+    Ok((
+        Tree::NewArray {
+            position,
+            array,
+            length,
+        },
+        rest,
+    ))
 }
 
 // An array of items.
@@ -668,7 +811,14 @@ fn array_value_of<'a>(
     let (array, rest) = array_reference_of(tables.names(), bytes)?;
     let (count, rest) = number_of(rest)?;
     let (items, rest) = trees_of(alloc, tables, depth, count, rest)?;
-    Ok((Tree::ArrayValue(position, array, items), rest))
+    Ok((
+        Tree::ArrayValue {
+            position,
+            array,
+            items,
+        },
+        rest,
+    ))
 }
 
 // The length of an array.
@@ -684,7 +834,7 @@ fn array_length_of<'a>(
     ensures { Gives (λ x. (view x.0, x.1.now)) result (operation_at (tree_at depth tables.now) tables.now OperationForm.ArrayLength position bytes.now) }
 {
     let (array, rest) = boxed_of(alloc, tables, depth, bytes)?;
-    Ok((Tree::ArrayLength(position, array), rest))
+    Ok((Tree::ArrayLength { position, array }, rest))
 }
 
 // An item of an array.
@@ -702,7 +852,15 @@ fn array_select_of<'a>(
     let (array, rest) = boxed_of(alloc, tables, depth, bytes)?;
     let (index, rest) = boxed_of(alloc, tables, depth, rest)?;
     let (tpe, rest) = type_of(tables.names(), rest)?;
-    Ok((Tree::ArraySelect(position, array, index, tpe), rest))
+    Ok((
+        Tree::ArraySelect {
+            position,
+            array,
+            index,
+            tpe,
+        },
+        rest,
+    ))
 }
 
 // A test of a type.
@@ -719,7 +877,14 @@ fn is_instance_of_of<'a>(
 {
     let (value, rest) = boxed_of(alloc, tables, depth, bytes)?;
     let (tpe, rest) = type_of(tables.names(), rest)?;
-    Ok((Tree::IsInstanceOf(position, value, tpe), rest))
+    Ok((
+        Tree::IsInstanceOf {
+            position,
+            value,
+            tpe,
+        },
+        rest,
+    ))
 }
 
 // A cast.
@@ -736,5 +901,12 @@ fn as_instance_of_of<'a>(
 {
     let (value, rest) = boxed_of(alloc, tables, depth, bytes)?;
     let (tpe, rest) = type_of(tables.names(), rest)?;
-    Ok((Tree::AsInstanceOf(position, value, tpe), rest))
+    Ok((
+        Tree::AsInstanceOf {
+            position,
+            value,
+            tpe,
+        },
+        rest,
+    ))
 }

@@ -37,7 +37,13 @@ fn load_module_of<'a>(alloc: Global, fuel: usize, bytes: &'a [u8]) -> Read<'a>
     ensures { Gives (λ x. (view x.0, x.1.now)) result (reading.leaf_at (reading.tree_at fuel) fuel leaves.LoadModule bytes.now) }
 {
     let (class, rest) = class_field(alloc, fuel, bytes)?;
-    ended_tree(Tree::LoadModule(NOWHERE, class), rest)
+    ended_tree(
+        Tree::LoadModule {
+            position: NOWHERE,
+            class,
+        },
+        rest,
+    )
 }
 
 #[tactic(auto, unfolding(sj_text_spec::specs::Reading::leaf_at))]
@@ -47,7 +53,15 @@ fn select_static_of<'a>(alloc: Global, fuel: usize, bytes: &'a [u8]) -> Read<'a>
     let (class, rest) = class_field(alloc, fuel, bytes)?;
     let (field, rest) = field_field(alloc, fuel, rest)?;
     let (tpe, rest) = type_field(alloc, fuel, rest)?;
-    ended_tree(Tree::SelectStatic(NOWHERE, class, field, tpe), rest)
+    ended_tree(
+        Tree::SelectStatic {
+            position: NOWHERE,
+            class,
+            field,
+            tpe,
+        },
+        rest,
+    )
 }
 
 #[tactic(auto, unfolding(sj_text_spec::specs::Reading::leaf_at))]
@@ -55,7 +69,13 @@ fn string_literal_of<'a>(alloc: Global, fuel: usize, bytes: &'a [u8]) -> Read<'a
     ensures { Gives (λ x. (view x.0, x.1.now)) result (reading.leaf_at (reading.tree_at fuel) fuel leaves.StringLiteral bytes.now) }
 {
     let (text, rest) = string_field(alloc, fuel, bytes)?;
-    ended_tree(Tree::StringLiteral(NOWHERE, text), rest)
+    ended_tree(
+        Tree::StringLiteral {
+            position: NOWHERE,
+            value: text,
+        },
+        rest,
+    )
 }
 
 #[tactic(auto, unfolding(sj_text_spec::specs::Reading::leaf_at))]
@@ -64,7 +84,14 @@ fn var_ref_of<'a>(alloc: Global, fuel: usize, bytes: &'a [u8]) -> Read<'a>
 {
     let (name, rest) = name_field(alloc, fuel, bytes)?;
     let (tpe, rest) = type_field(alloc, fuel, rest)?;
-    ended_tree(Tree::VarRef(NOWHERE, name, tpe), rest)
+    ended_tree(
+        Tree::VarRef {
+            position: NOWHERE,
+            name,
+            tpe,
+        },
+        rest,
+    )
 }
 
 #[tactic(auto, unfolding(sj_text_spec::specs::Reading::leaf_at))]
@@ -72,7 +99,13 @@ fn this_of<'a>(alloc: Global, fuel: usize, bytes: &'a [u8]) -> Read<'a>
     ensures { Gives (λ x. (view x.0, x.1.now)) result (reading.leaf_at (reading.tree_at fuel) fuel leaves.This bytes.now) }
 {
     let (tpe, rest) = type_field(alloc, fuel, bytes)?;
-    ended_tree(Tree::This(NOWHERE, tpe), rest)
+    ended_tree(
+        Tree::This {
+            position: NOWHERE,
+            tpe,
+        },
+        rest,
+    )
 }
 
 /// A form without trees in it, behind its name.
@@ -81,34 +114,70 @@ pub fn leaf_of<'a>(alloc: Global, fuel: usize, form: LeafForm, bytes: &'a [u8]) 
     ensures { Gives (λ x. (view x.0, x.1.now)) result (reading.leaf_at (reading.tree_at fuel) fuel form bytes.now) }
 {
     match form {
-        LeafForm::Skip => ended_tree(Tree::Skip(NOWHERE), bytes),
+        LeafForm::Skip => ended_tree(Tree::Skip { position: NOWHERE }, bytes),
         LeafForm::LoadModule => load_module_of(alloc, fuel, bytes),
         LeafForm::SelectStatic => select_static_of(alloc, fuel, bytes),
-        LeafForm::Undefined => ended_tree(Tree::Undefined(NOWHERE), bytes),
-        LeafForm::Null => ended_tree(Tree::Null(NOWHERE), bytes),
+        LeafForm::Undefined => ended_tree(Tree::Undefined { position: NOWHERE }, bytes),
+        LeafForm::Null => ended_tree(Tree::Null { position: NOWHERE }, bytes),
         LeafForm::BooleanLiteral => {
             let (value, rest) = mark_field(bytes)?;
-            ended_tree(Tree::BooleanLiteral(NOWHERE, value), rest)
+            ended_tree(
+                Tree::BooleanLiteral {
+                    position: NOWHERE,
+                    value,
+                },
+                rest,
+            )
         }
         LeafForm::CharLiteral => {
             let (value, rest) = char_field(bytes)?;
-            ended_tree(Tree::CharLiteral(NOWHERE, value), rest)
+            ended_tree(
+                Tree::CharLiteral {
+                    position: NOWHERE,
+                    value,
+                },
+                rest,
+            )
         }
         LeafForm::ByteLiteral => {
             let (value, rest) = byte_field(bytes)?;
-            ended_tree(Tree::ByteLiteral(NOWHERE, value), rest)
+            ended_tree(
+                Tree::ByteLiteral {
+                    position: NOWHERE,
+                    value,
+                },
+                rest,
+            )
         }
         LeafForm::ShortLiteral => {
             let (value, rest) = short_field(bytes)?;
-            ended_tree(Tree::ShortLiteral(NOWHERE, value), rest)
+            ended_tree(
+                Tree::ShortLiteral {
+                    position: NOWHERE,
+                    value,
+                },
+                rest,
+            )
         }
         LeafForm::IntLiteral => {
             let (value, rest) = int_field(bytes)?;
-            ended_tree(Tree::IntLiteral(NOWHERE, value), rest)
+            ended_tree(
+                Tree::IntLiteral {
+                    position: NOWHERE,
+                    value,
+                },
+                rest,
+            )
         }
         LeafForm::LongLiteral => {
             let (value, rest) = long_field(bytes)?;
-            ended_tree(Tree::LongLiteral(NOWHERE, value), rest)
+            ended_tree(
+                Tree::LongLiteral {
+                    position: NOWHERE,
+                    value,
+                },
+                rest,
+            )
         }
         LeafForm::StringLiteral => string_literal_of(alloc, fuel, bytes),
         LeafForm::VarRef => var_ref_of(alloc, fuel, bytes),

@@ -316,7 +316,16 @@ fn var_def_of<'a>(alloc: Global, fuel: usize, bytes: &'a [u8]) -> Read<'a>
     let (tpe, rest) = type_field(alloc, fuel, rest)?;
     let (mutable, rest) = mark_field(rest)?;
     let (value, rest) = boxed_field(alloc, fuel, rest)?;
-    ended_tree(Tree::VarDef(NOWHERE, name, tpe, mutable, value), rest)
+    ended_tree(
+        Tree::VarDef {
+            position: NOWHERE,
+            name,
+            tpe,
+            mutable,
+            value,
+        },
+        rest,
+    )
 }
 
 #[cycle(trees)]
@@ -325,7 +334,13 @@ fn block_of<'a>(alloc: Global, fuel: usize, bytes: &'a [u8]) -> Read<'a>
     ensures { Gives (λ x. (view x.0, x.1.now)) result (reading.statement_at (reading.tree_at fuel) fuel statements.Block bytes.now) }
 {
     let (trees, rest) = trees_field(alloc, fuel, bytes)?;
-    ended_tree(Tree::Block(NOWHERE, trees), rest)
+    ended_tree(
+        Tree::Block {
+            position: NOWHERE,
+            trees,
+        },
+        rest,
+    )
 }
 
 #[cycle(trees)]
@@ -336,7 +351,15 @@ fn labeled_of<'a>(alloc: Global, fuel: usize, bytes: &'a [u8]) -> Read<'a>
     let (label, rest) = label_field(alloc, fuel, bytes)?;
     let (tpe, rest) = type_field(alloc, fuel, rest)?;
     let (body, rest) = boxed_field(alloc, fuel, rest)?;
-    ended_tree(Tree::Labeled(NOWHERE, label, tpe, body), rest)
+    ended_tree(
+        Tree::Labeled {
+            position: NOWHERE,
+            label,
+            tpe,
+            body,
+        },
+        rest,
+    )
 }
 
 #[cycle(trees)]
@@ -346,7 +369,14 @@ fn assign_of<'a>(alloc: Global, fuel: usize, bytes: &'a [u8]) -> Read<'a>
 {
     let (target, rest) = boxed_field(alloc, fuel, bytes)?;
     let (value, rest) = boxed_field(alloc, fuel, rest)?;
-    ended_tree(Tree::Assign(NOWHERE, target, value), rest)
+    ended_tree(
+        Tree::Assign {
+            position: NOWHERE,
+            target,
+            value,
+        },
+        rest,
+    )
 }
 
 #[cycle(trees)]
@@ -356,7 +386,14 @@ fn return_of<'a>(alloc: Global, fuel: usize, bytes: &'a [u8]) -> Read<'a>
 {
     let (value, rest) = boxed_field(alloc, fuel, bytes)?;
     let (label, rest) = label_field(alloc, fuel, rest)?;
-    ended_tree(Tree::Return(NOWHERE, value, label), rest)
+    ended_tree(
+        Tree::Return {
+            position: NOWHERE,
+            value,
+            label,
+        },
+        rest,
+    )
 }
 
 #[cycle(trees)]
@@ -365,7 +402,13 @@ fn throw_of<'a>(alloc: Global, fuel: usize, bytes: &'a [u8]) -> Read<'a>
     ensures { Gives (λ x. (view x.0, x.1.now)) result (reading.statement_at (reading.tree_at fuel) fuel statements.Throw bytes.now) }
 {
     let (value, rest) = boxed_field(alloc, fuel, bytes)?;
-    ended_tree(Tree::Throw(NOWHERE, value), rest)
+    ended_tree(
+        Tree::Throw {
+            position: NOWHERE,
+            value,
+        },
+        rest,
+    )
 }
 
 #[cycle(trees)]
@@ -375,7 +418,14 @@ fn store_module_of<'a>(alloc: Global, fuel: usize, bytes: &'a [u8]) -> Read<'a>
 {
     let (class, rest) = class_field(alloc, fuel, bytes)?;
     let (value, rest) = boxed_field(alloc, fuel, rest)?;
-    ended_tree(Tree::StoreModule(NOWHERE, class, value), rest)
+    ended_tree(
+        Tree::StoreModule {
+            position: NOWHERE,
+            class,
+            value,
+        },
+        rest,
+    )
 }
 
 #[cycle(trees)]
@@ -384,7 +434,13 @@ fn log_of<'a>(alloc: Global, fuel: usize, bytes: &'a [u8]) -> Read<'a>
     ensures { Gives (λ x. (view x.0, x.1.now)) result (reading.statement_at (reading.tree_at fuel) fuel statements.Log bytes.now) }
 {
     let (value, rest) = boxed_field(alloc, fuel, bytes)?;
-    ended_tree(Tree::Log(NOWHERE, value), rest)
+    ended_tree(
+        Tree::Log {
+            position: NOWHERE,
+            value,
+        },
+        rest,
+    )
 }
 
 /// A form that sets, leaves, throws or writes, or holds statements in a row.
@@ -415,7 +471,13 @@ fn if_of<'a>(alloc: Global, fuel: usize, bytes: &'a [u8]) -> Read<'a>
     let (alternative, rest) = boxed_field(alloc, fuel, rest)?;
     let (tpe, rest) = type_field(alloc, fuel, rest)?;
     ended_tree(
-        Tree::If(NOWHERE, condition, consequent, alternative, tpe),
+        Tree::If {
+            position: NOWHERE,
+            condition,
+            yes: consequent,
+            no: alternative,
+            tpe,
+        },
         rest,
     )
 }
@@ -427,7 +489,14 @@ fn while_of<'a>(alloc: Global, fuel: usize, bytes: &'a [u8]) -> Read<'a>
 {
     let (condition, rest) = boxed_field(alloc, fuel, bytes)?;
     let (body, rest) = boxed_field(alloc, fuel, rest)?;
-    ended_tree(Tree::While(NOWHERE, condition, body), rest)
+    ended_tree(
+        Tree::While {
+            position: NOWHERE,
+            condition,
+            body,
+        },
+        rest,
+    )
 }
 
 #[cycle(trees)]
@@ -437,7 +506,14 @@ fn do_while_of<'a>(alloc: Global, fuel: usize, bytes: &'a [u8]) -> Read<'a>
 {
     let (body, rest) = boxed_field(alloc, fuel, bytes)?;
     let (condition, rest) = boxed_field(alloc, fuel, rest)?;
-    ended_tree(Tree::DoWhile(NOWHERE, body, condition), rest)
+    ended_tree(
+        Tree::DoWhile {
+            position: NOWHERE,
+            body,
+            condition,
+        },
+        rest,
+    )
 }
 
 #[cycle(trees)]
@@ -449,7 +525,16 @@ fn try_catch_of<'a>(alloc: Global, fuel: usize, bytes: &'a [u8]) -> Read<'a>
     let (name, rest) = name_field(alloc, fuel, rest)?;
     let (handler, rest) = boxed_field(alloc, fuel, rest)?;
     let (tpe, rest) = type_field(alloc, fuel, rest)?;
-    ended_tree(Tree::TryCatch(NOWHERE, block, name, handler, tpe), rest)
+    ended_tree(
+        Tree::TryCatch {
+            position: NOWHERE,
+            block,
+            name,
+            handler,
+            tpe,
+        },
+        rest,
+    )
 }
 
 #[cycle(trees)]
@@ -459,7 +544,14 @@ fn try_finally_of<'a>(alloc: Global, fuel: usize, bytes: &'a [u8]) -> Read<'a>
 {
     let (block, rest) = boxed_field(alloc, fuel, bytes)?;
     let (finalizer, rest) = boxed_field(alloc, fuel, rest)?;
-    ended_tree(Tree::TryFinally(NOWHERE, block, finalizer), rest)
+    ended_tree(
+        Tree::TryFinally {
+            position: NOWHERE,
+            block,
+            finalizer,
+        },
+        rest,
+    )
 }
 
 #[cycle(trees)]
@@ -471,7 +563,16 @@ fn match_of<'a>(alloc: Global, fuel: usize, bytes: &'a [u8]) -> Read<'a>
     let (cases, rest) = cases_field(alloc, fuel, rest)?;
     let (default, rest) = boxed_field(alloc, fuel, rest)?;
     let (tpe, rest) = type_field(alloc, fuel, rest)?;
-    ended_tree(Tree::Match(NOWHERE, selector, cases, default, tpe), rest)
+    ended_tree(
+        Tree::Match {
+            position: NOWHERE,
+            selector,
+            cases,
+            default,
+            tpe,
+        },
+        rest,
+    )
 }
 
 /// A form that chooses, repeats or catches.
@@ -498,7 +599,15 @@ fn new_of<'a>(alloc: Global, fuel: usize, bytes: &'a [u8]) -> Read<'a>
     let (class, rest) = class_field(alloc, fuel, bytes)?;
     let (method, rest) = method_field(alloc, fuel, rest)?;
     let (arguments, rest) = trees_field(alloc, fuel, rest)?;
-    ended_tree(Tree::New(NOWHERE, class, method, arguments), rest)
+    ended_tree(
+        Tree::New {
+            position: NOWHERE,
+            class,
+            constructor: method,
+            arguments,
+        },
+        rest,
+    )
 }
 
 #[cycle(trees)]
@@ -510,7 +619,16 @@ fn select_of<'a>(alloc: Global, fuel: usize, bytes: &'a [u8]) -> Read<'a>
     let (class, rest) = class_field(alloc, fuel, rest)?;
     let (field, rest) = field_field(alloc, fuel, rest)?;
     let (tpe, rest) = type_field(alloc, fuel, rest)?;
-    ended_tree(Tree::Select(NOWHERE, qualifier, class, field, tpe), rest)
+    ended_tree(
+        Tree::Select {
+            position: NOWHERE,
+            object: qualifier,
+            class,
+            field,
+            tpe,
+        },
+        rest,
+    )
 }
 
 #[cycle(trees)]
@@ -522,7 +640,16 @@ fn apply_of<'a>(alloc: Global, fuel: usize, bytes: &'a [u8]) -> Read<'a>
     let (method, rest) = method_field(alloc, fuel, rest)?;
     let (arguments, rest) = trees_field(alloc, fuel, rest)?;
     let (tpe, rest) = type_field(alloc, fuel, rest)?;
-    ended_tree(Tree::Apply(NOWHERE, receiver, method, arguments, tpe), rest)
+    ended_tree(
+        Tree::Apply {
+            position: NOWHERE,
+            receiver,
+            method,
+            arguments,
+            tpe,
+        },
+        rest,
+    )
 }
 
 #[cycle(trees)]
@@ -537,7 +664,15 @@ fn apply_statically_of<'a>(alloc: Global, fuel: usize, bytes: &'a [u8]) -> Read<
     let (arguments, rest) = trees_field(alloc, fuel, rest)?;
     let (tpe, rest) = type_field(alloc, fuel, rest)?;
     ended_tree(
-        Tree::ApplyStatically(NOWHERE, receiver, class, namespace, method, arguments, tpe),
+        Tree::ApplyStatically {
+            position: NOWHERE,
+            receiver,
+            class,
+            namespace,
+            method,
+            arguments,
+            tpe,
+        },
         rest,
     )
 }
@@ -553,7 +688,14 @@ fn apply_static_of<'a>(alloc: Global, fuel: usize, bytes: &'a [u8]) -> Read<'a>
     let (arguments, rest) = trees_field(alloc, fuel, rest)?;
     let (tpe, rest) = type_field(alloc, fuel, rest)?;
     ended_tree(
-        Tree::ApplyStatic(NOWHERE, class, namespace, method, arguments, tpe),
+        Tree::ApplyStatic {
+            position: NOWHERE,
+            class,
+            namespace,
+            method,
+            arguments,
+            tpe,
+        },
         rest,
     )
 }
@@ -580,7 +722,14 @@ fn unary_op_of<'a>(alloc: Global, fuel: usize, bytes: &'a [u8]) -> Read<'a>
 {
     let (operator, rest) = unary_field(bytes)?;
     let (operand, rest) = boxed_field(alloc, fuel, rest)?;
-    ended_tree(Tree::UnaryOp(NOWHERE, operator, operand), rest)
+    ended_tree(
+        Tree::UnaryOp {
+            position: NOWHERE,
+            operator,
+            operand,
+        },
+        rest,
+    )
 }
 
 #[cycle(trees)]
@@ -591,7 +740,15 @@ fn binary_op_of<'a>(alloc: Global, fuel: usize, bytes: &'a [u8]) -> Read<'a>
     let (operator, rest) = binary_field(bytes)?;
     let (left, rest) = boxed_field(alloc, fuel, rest)?;
     let (right, rest) = boxed_field(alloc, fuel, rest)?;
-    ended_tree(Tree::BinaryOp(NOWHERE, operator, left, right), rest)
+    ended_tree(
+        Tree::BinaryOp {
+            position: NOWHERE,
+            operator,
+            left,
+            right,
+        },
+        rest,
+    )
 }
 
 #[cycle(trees)]
@@ -601,7 +758,14 @@ fn new_array_of<'a>(alloc: Global, fuel: usize, bytes: &'a [u8]) -> Read<'a>
 {
     let (array, rest) = array_field(alloc, fuel, bytes)?;
     let (length, rest) = boxed_field(alloc, fuel, rest)?;
-    ended_tree(Tree::NewArray(NOWHERE, array, length), rest)
+    ended_tree(
+        Tree::NewArray {
+            position: NOWHERE,
+            array,
+            length,
+        },
+        rest,
+    )
 }
 
 #[cycle(trees)]
@@ -611,7 +775,14 @@ fn array_value_of<'a>(alloc: Global, fuel: usize, bytes: &'a [u8]) -> Read<'a>
 {
     let (array, rest) = array_field(alloc, fuel, bytes)?;
     let (items, rest) = trees_field(alloc, fuel, rest)?;
-    ended_tree(Tree::ArrayValue(NOWHERE, array, items), rest)
+    ended_tree(
+        Tree::ArrayValue {
+            position: NOWHERE,
+            array,
+            items,
+        },
+        rest,
+    )
 }
 
 #[cycle(trees)]
@@ -620,7 +791,13 @@ fn array_length_of<'a>(alloc: Global, fuel: usize, bytes: &'a [u8]) -> Read<'a>
     ensures { Gives (λ x. (view x.0, x.1.now)) result (reading.operation_at (reading.tree_at fuel) fuel operations.ArrayLength bytes.now) }
 {
     let (array, rest) = boxed_field(alloc, fuel, bytes)?;
-    ended_tree(Tree::ArrayLength(NOWHERE, array), rest)
+    ended_tree(
+        Tree::ArrayLength {
+            position: NOWHERE,
+            array,
+        },
+        rest,
+    )
 }
 
 #[cycle(trees)]
@@ -631,7 +808,15 @@ fn array_select_of<'a>(alloc: Global, fuel: usize, bytes: &'a [u8]) -> Read<'a>
     let (array, rest) = boxed_field(alloc, fuel, bytes)?;
     let (index, rest) = boxed_field(alloc, fuel, rest)?;
     let (tpe, rest) = type_field(alloc, fuel, rest)?;
-    ended_tree(Tree::ArraySelect(NOWHERE, array, index, tpe), rest)
+    ended_tree(
+        Tree::ArraySelect {
+            position: NOWHERE,
+            array,
+            index,
+            tpe,
+        },
+        rest,
+    )
 }
 
 #[cycle(trees)]
@@ -641,7 +826,14 @@ fn is_instance_of_of<'a>(alloc: Global, fuel: usize, bytes: &'a [u8]) -> Read<'a
 {
     let (value, rest) = boxed_field(alloc, fuel, bytes)?;
     let (tpe, rest) = type_field(alloc, fuel, rest)?;
-    ended_tree(Tree::IsInstanceOf(NOWHERE, value, tpe), rest)
+    ended_tree(
+        Tree::IsInstanceOf {
+            position: NOWHERE,
+            value,
+            tpe,
+        },
+        rest,
+    )
 }
 
 #[cycle(trees)]
@@ -651,7 +843,14 @@ fn as_instance_of_of<'a>(alloc: Global, fuel: usize, bytes: &'a [u8]) -> Read<'a
 {
     let (value, rest) = boxed_field(alloc, fuel, bytes)?;
     let (tpe, rest) = type_field(alloc, fuel, rest)?;
-    ended_tree(Tree::AsInstanceOf(NOWHERE, value, tpe), rest)
+    ended_tree(
+        Tree::AsInstanceOf {
+            position: NOWHERE,
+            value,
+            tpe,
+        },
+        rest,
+    )
 }
 
 /// An operator, an array's form or a test.

@@ -3,7 +3,6 @@ ghost use Rattle.std.specs.Prelude.{◌≡◌, ◌↔◌, IfOk, IsTrue};
 
 use crate::{Body, IrType, Position};
 use sj_names::{ClassName, FieldName, LocalName, MethodName, Namespace, NoMemory, Shared, Text};
-use std::alloc::AllocError;
 
 /// What a class definition defines.
 #[derive(Clone, Copy, Debug, PartialEq, Eq)]
@@ -62,7 +61,7 @@ pub struct ClassDef {
 
 impl ParamDef {
     /// The same parameter once more.
-    pub fn copied(&self) -> Result<ParamDef, AllocError>
+    pub fn copied(&self) -> Result<ParamDef, NoMemory>
         ensures { IfOk result (λ p. p ≡ self.now) }
     {
         Ok(ParamDef {
@@ -84,7 +83,7 @@ impl ParamDef {
 
 impl FieldDef {
     /// The same field once more.
-    pub fn copied(&self) -> Result<FieldDef, AllocError>
+    pub fn copied(&self) -> Result<FieldDef, NoMemory>
         ensures { IfOk result (λ f. f ≡ self.now) }
     {
         Ok(FieldDef {

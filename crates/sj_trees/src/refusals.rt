@@ -2,7 +2,7 @@
 ghost use Rattle.std.specs.Prelude.{◌≡◌};
 ghost use Rattle.sj_trees.specs.Refusals.{name_of, number_of, reserved_of};
 
-use std::alloc::{AllocError, AllocFailed};
+use std::alloc::AllocFailed;
 use thiserror::Error;
 
 /// A reserved part of the format, which this profile doesn't read.
@@ -139,16 +139,6 @@ impl Code {
             Code::Unsupported(form) => Some(form),
             _ => None,
         }
-    }
-}
-
-impl From<AllocError> for ReadRefusal {
-    ghost use Rattle.sj_trees.specs.declared.refusals.ReadRefusal.TheVariants.{NoMemory};
-
-    ghost from_gives = { λ _ e. e ≡ NoMemory };
-
-    fn from(_error: AllocError) -> ReadRefusal {
-        ReadRefusal::NoMemory
     }
 }
 

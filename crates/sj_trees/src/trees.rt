@@ -9,87 +9,256 @@ use sj_units::Units;
 #[cycle(tree)]
 pub enum Tree {
     /// A definition of a local variable: its name, its type, whether it may be assigned, and its first value.
-    VarDef(Position, LocalName, IrType, bool, Box<Tree>),
+    VarDef {
+        position: Position,
+        name: LocalName,
+        tpe: IrType,
+        mutable: bool,
+        value: Box<Tree>,
+    },
     /// No statement.
-    Skip(Position),
+    Skip {
+        position: Position,
+    },
     /// Statements in a row; the last is the value.
-    Block(Position, Vec<Tree>),
+    Block {
+        position: Position,
+        trees: Vec<Tree>,
+    },
     /// A block to which a `Return` may go: its label, its type and its body.
-    Labeled(Position, LabelName, IrType, Box<Tree>),
+    Labeled {
+        position: Position,
+        label: LabelName,
+        tpe: IrType,
+        body: Box<Tree>,
+    },
     /// An assignment: what is set, and the new value.
-    Assign(Position, Box<Tree>, Box<Tree>),
+    Assign {
+        position: Position,
+        target: Box<Tree>,
+        value: Box<Tree>,
+    },
     /// A jump with a value to the end of the label's block.
-    Return(Position, Box<Tree>, LabelName),
+    Return {
+        position: Position,
+        value: Box<Tree>,
+        label: LabelName,
+    },
     /// A choice: the condition, both branches and the type.
-    If(Position, Box<Tree>, Box<Tree>, Box<Tree>, IrType),
+    If {
+        position: Position,
+        condition: Box<Tree>,
+        yes: Box<Tree>,
+        no: Box<Tree>,
+        tpe: IrType,
+    },
     /// A loop that tests in front: the condition and the body.
-    While(Position, Box<Tree>, Box<Tree>),
+    While {
+        position: Position,
+        condition: Box<Tree>,
+        body: Box<Tree>,
+    },
     /// A loop that tests behind: the body and the condition.
-    DoWhile(Position, Box<Tree>, Box<Tree>),
+    DoWhile {
+        position: Position,
+        body: Box<Tree>,
+        condition: Box<Tree>,
+    },
     /// A block, the variable of what is caught, its handler, and the type.
-    TryCatch(Position, Box<Tree>, LocalName, Box<Tree>, IrType),
+    TryCatch {
+        position: Position,
+        block: Box<Tree>,
+        name: LocalName,
+        handler: Box<Tree>,
+        tpe: IrType,
+    },
     /// A block, and what runs after it in any case.
-    TryFinally(Position, Box<Tree>, Box<Tree>),
+    TryFinally {
+        position: Position,
+        block: Box<Tree>,
+        finalizer: Box<Tree>,
+    },
     /// A throw of a value.
-    Throw(Position, Box<Tree>),
+    Throw {
+        position: Position,
+        value: Box<Tree>,
+    },
     /// A choice by a number: the selector, the cases, the default and the type.
-    Match(Position, Box<Tree>, Vec<MatchCase>, Box<Tree>, IrType),
+    Match {
+        position: Position,
+        selector: Box<Tree>,
+        cases: Vec<MatchCase>,
+        default: Box<Tree>,
+        tpe: IrType,
+    },
     /// A new object: its class, the constructor and the arguments.
-    New(Position, ClassName, MethodName, Vec<Tree>),
+    New {
+        position: Position,
+        class: ClassName,
+        constructor: MethodName,
+        arguments: Vec<Tree>,
+    },
     /// The instance of a module class.
-    LoadModule(Position, ClassName),
+    LoadModule {
+        position: Position,
+        class: ClassName,
+    },
     /// The instance of a module class is set.
-    StoreModule(Position, ClassName, Box<Tree>),
+    StoreModule {
+        position: Position,
+        class: ClassName,
+        value: Box<Tree>,
+    },
     /// A field of an object: the object, the field's class, its name and its type.
-    Select(Position, Box<Tree>, ClassName, FieldName, IrType),
+    Select {
+        position: Position,
+        object: Box<Tree>,
+        class: ClassName,
+        field: FieldName,
+        tpe: IrType,
+    },
     /// A static field: its class, its name and its type.
-    SelectStatic(Position, ClassName, FieldName, IrType),
+    SelectStatic {
+        position: Position,
+        class: ClassName,
+        field: FieldName,
+        tpe: IrType,
+    },
     /// A call that the receiver's class decides.
-    Apply(Position, Box<Tree>, MethodName, Vec<Tree>, IrType),
+    Apply {
+        position: Position,
+        receiver: Box<Tree>,
+        method: MethodName,
+        arguments: Vec<Tree>,
+        tpe: IrType,
+    },
     /// A call on a receiver of the method that the named class has.
-    ApplyStatically(Position, Box<Tree>, ClassName, Namespace, MethodName, Vec<Tree>, IrType),
+    ApplyStatically {
+        position: Position,
+        receiver: Box<Tree>,
+        class: ClassName,
+        namespace: Namespace,
+        method: MethodName,
+        arguments: Vec<Tree>,
+        tpe: IrType,
+    },
     /// A call of a static method.
-    ApplyStatic(Position, ClassName, Namespace, MethodName, Vec<Tree>, IrType),
+    ApplyStatic {
+        position: Position,
+        class: ClassName,
+        namespace: Namespace,
+        method: MethodName,
+        arguments: Vec<Tree>,
+        tpe: IrType,
+    },
     /// An operator and its operand.
-    UnaryOp(Position, UnaryOp, Box<Tree>),
+    UnaryOp {
+        position: Position,
+        operator: UnaryOp,
+        operand: Box<Tree>,
+    },
     /// An operator and its operands, left and right.
-    BinaryOp(Position, BinaryOp, Box<Tree>, Box<Tree>),
+    BinaryOp {
+        position: Position,
+        operator: BinaryOp,
+        left: Box<Tree>,
+        right: Box<Tree>,
+    },
     /// A new array of zeros: its reference and its length.
-    NewArray(Position, ArrayRef, Box<Tree>),
+    NewArray {
+        position: Position,
+        array: ArrayRef,
+        length: Box<Tree>,
+    },
     /// A new array of the items.
-    ArrayValue(Position, ArrayRef, Vec<Tree>),
+    ArrayValue {
+        position: Position,
+        array: ArrayRef,
+        items: Vec<Tree>,
+    },
     /// The length of an array.
-    ArrayLength(Position, Box<Tree>),
+    ArrayLength {
+        position: Position,
+        array: Box<Tree>,
+    },
     /// An item of an array: the array, the index and the item's type.
-    ArraySelect(Position, Box<Tree>, Box<Tree>, IrType),
+    ArraySelect {
+        position: Position,
+        array: Box<Tree>,
+        index: Box<Tree>,
+        tpe: IrType,
+    },
     /// Whether a value is of a type.
-    IsInstanceOf(Position, Box<Tree>, IrType),
+    IsInstanceOf {
+        position: Position,
+        value: Box<Tree>,
+        tpe: IrType,
+    },
     /// A cast of a value to a type.
-    AsInstanceOf(Position, Box<Tree>, IrType),
+    AsInstanceOf {
+        position: Position,
+        value: Box<Tree>,
+        tpe: IrType,
+    },
     /// The undefined value.
-    Undefined(Position),
+    Undefined {
+        position: Position,
+    },
     /// The null value.
-    Null(Position),
+    Null {
+        position: Position,
+    },
     /// A truth value.
-    BooleanLiteral(Position, bool),
+    BooleanLiteral {
+        position: Position,
+        value: bool,
+    },
     /// A 16-bit unit.
-    CharLiteral(Position, u16),
+    CharLiteral {
+        position: Position,
+        value: u16,
+    },
     /// An 8-bit number.
-    ByteLiteral(Position, i8),
+    ByteLiteral {
+        position: Position,
+        value: i8,
+    },
     /// A 16-bit number.
-    ShortLiteral(Position, i16),
+    ShortLiteral {
+        position: Position,
+        value: i16,
+    },
     /// A 32-bit number.
-    IntLiteral(Position, i32),
+    IntLiteral {
+        position: Position,
+        value: i32,
+    },
     /// A 64-bit number.
-    LongLiteral(Position, i64),
+    LongLiteral {
+        position: Position,
+        value: i64,
+    },
     /// A text of 16-bit units.
-    StringLiteral(Position, Units),
+    StringLiteral {
+        position: Position,
+        value: Units,
+    },
     /// A local variable or a parameter: its name and its type.
-    VarRef(Position, LocalName, IrType),
+    VarRef {
+        position: Position,
+        name: LocalName,
+        tpe: IrType,
+    },
     /// The object on which the method was called, and its type.
-    This(Position, IrType),
+    This {
+        position: Position,
+        tpe: IrType,
+    },
     /// A line of output.
-    Log(Position, Box<Tree>),
+    Log {
+        position: Position,
+        value: Box<Tree>,
+    },
 }
 
 /// A case of a `Match`: the numbers that choose it, and its tree.
@@ -104,47 +273,210 @@ impl Drop for Tree {
     #[cycle(tree)]
     fn drop(self) {
         match self {
-            Tree::VarDef(_, _one, _two, _, _three) => {}
-            Tree::Block(_, _one) => {}
-            Tree::Labeled(_, _one, _two, _three) => {}
-            Tree::Assign(_, _one, _two) => {}
-            Tree::Return(_, _one, _two) => {}
-            Tree::If(_, _one, _two, _three, _four) => {}
-            Tree::While(_, _one, _two) => {}
-            Tree::DoWhile(_, _one, _two) => {}
-            Tree::TryCatch(_, _one, _two, _three, _four) => {}
-            Tree::TryFinally(_, _one, _two) => {}
-            Tree::Throw(_, _one) => {}
-            Tree::Match(_, _one, _two, _three, _four) => {}
-            Tree::New(_, _one, _two, _three) => {}
-            Tree::LoadModule(_, _one) => {}
-            Tree::StoreModule(_, _one, _two) => {}
-            Tree::Select(_, _one, _two, _three, _four) => {}
-            Tree::SelectStatic(_, _one, _two, _three) => {}
-            Tree::Apply(_, _one, _two, _three, _four) => {}
-            Tree::ApplyStatically(_, _one, _two, _, _three, _four, _five) => {}
-            Tree::ApplyStatic(_, _one, _, _two, _three, _four) => {}
-            Tree::UnaryOp(_, _, _one) => {}
-            Tree::BinaryOp(_, _, _one, _two) => {}
-            Tree::NewArray(_, _one, _two) => {}
-            Tree::ArrayValue(_, _one, _two) => {}
-            Tree::ArrayLength(_, _one) => {}
-            Tree::ArraySelect(_, _one, _two, _three) => {}
-            Tree::IsInstanceOf(_, _one, _two) => {}
-            Tree::AsInstanceOf(_, _one, _two) => {}
-            Tree::StringLiteral(_, _one) => {}
-            Tree::VarRef(_, _one, _two) => {}
-            Tree::This(_, _one) => {}
-            Tree::Log(_, _one) => {}
-            Tree::Skip(_)
-            | Tree::Undefined(_)
-            | Tree::Null(_)
-            | Tree::BooleanLiteral(_, _)
-            | Tree::CharLiteral(_, _)
-            | Tree::ByteLiteral(_, _)
-            | Tree::ShortLiteral(_, _)
-            | Tree::IntLiteral(_, _)
-            | Tree::LongLiteral(_, _) => {}
+            Tree::VarDef {
+                position: _,
+                name: _name,
+                tpe: _tpe,
+                mutable: _,
+                value: _value,
+            } => {}
+            Tree::Block {
+                position: _,
+                trees: _trees,
+            } => {}
+            Tree::Labeled {
+                position: _,
+                label: _label,
+                tpe: _tpe,
+                body: _body,
+            } => {}
+            Tree::Assign {
+                position: _,
+                target: _target,
+                value: _value,
+            } => {}
+            Tree::Return {
+                position: _,
+                value: _value,
+                label: _label,
+            } => {}
+            Tree::If {
+                position: _,
+                condition: _condition,
+                yes: _yes,
+                no: _no,
+                tpe: _tpe,
+            } => {}
+            Tree::While {
+                position: _,
+                condition: _condition,
+                body: _body,
+            } => {}
+            Tree::DoWhile {
+                position: _,
+                body: _body,
+                condition: _condition,
+            } => {}
+            Tree::TryCatch {
+                position: _,
+                block: _block,
+                name: _name,
+                handler: _handler,
+                tpe: _tpe,
+            } => {}
+            Tree::TryFinally {
+                position: _,
+                block: _block,
+                finalizer: _finalizer,
+            } => {}
+            Tree::Throw {
+                position: _,
+                value: _value,
+            } => {}
+            Tree::Match {
+                position: _,
+                selector: _selector,
+                cases: _cases,
+                default: _default,
+                tpe: _tpe,
+            } => {}
+            Tree::New {
+                position: _,
+                class: _class,
+                constructor: _constructor,
+                arguments: _arguments,
+            } => {}
+            Tree::LoadModule {
+                position: _,
+                class: _class,
+            } => {}
+            Tree::StoreModule {
+                position: _,
+                class: _class,
+                value: _value,
+            } => {}
+            Tree::Select {
+                position: _,
+                object: _object,
+                class: _class,
+                field: _field,
+                tpe: _tpe,
+            } => {}
+            Tree::SelectStatic {
+                position: _,
+                class: _class,
+                field: _field,
+                tpe: _tpe,
+            } => {}
+            Tree::Apply {
+                position: _,
+                receiver: _receiver,
+                method: _method,
+                arguments: _arguments,
+                tpe: _tpe,
+            } => {}
+            Tree::ApplyStatically {
+                position: _,
+                receiver: _receiver,
+                class: _class,
+                namespace: _,
+                method: _method,
+                arguments: _arguments,
+                tpe: _tpe,
+            } => {}
+            Tree::ApplyStatic {
+                position: _,
+                class: _class,
+                namespace: _,
+                method: _method,
+                arguments: _arguments,
+                tpe: _tpe,
+            } => {}
+            Tree::UnaryOp {
+                position: _,
+                operator: _,
+                operand: _operand,
+            } => {}
+            Tree::BinaryOp {
+                position: _,
+                operator: _,
+                left: _left,
+                right: _right,
+            } => {}
+            Tree::NewArray {
+                position: _,
+                array: _array,
+                length: _length,
+            } => {}
+            Tree::ArrayValue {
+                position: _,
+                array: _array,
+                items: _items,
+            } => {}
+            Tree::ArrayLength {
+                position: _,
+                array: _array,
+            } => {}
+            Tree::ArraySelect {
+                position: _,
+                array: _array,
+                index: _index,
+                tpe: _tpe,
+            } => {}
+            Tree::IsInstanceOf {
+                position: _,
+                value: _value,
+                tpe: _tpe,
+            } => {}
+            Tree::AsInstanceOf {
+                position: _,
+                value: _value,
+                tpe: _tpe,
+            } => {}
+            Tree::StringLiteral {
+                position: _,
+                value: _value,
+            } => {}
+            Tree::VarRef {
+                position: _,
+                name: _name,
+                tpe: _tpe,
+            } => {}
+            Tree::This {
+                position: _,
+                tpe: _tpe,
+            } => {}
+            Tree::Log {
+                position: _,
+                value: _value,
+            } => {}
+            Tree::Skip { position: _ }
+            | Tree::Undefined { position: _ }
+            | Tree::Null { position: _ }
+            | Tree::BooleanLiteral {
+                position: _,
+                value: _,
+            }
+            | Tree::CharLiteral {
+                position: _,
+                value: _,
+            }
+            | Tree::ByteLiteral {
+                position: _,
+                value: _,
+            }
+            | Tree::ShortLiteral {
+                position: _,
+                value: _,
+            }
+            | Tree::IntLiteral {
+                position: _,
+                value: _,
+            }
+            | Tree::LongLiteral {
+                position: _,
+                value: _,
+            } => {}
         }
     }
 }

@@ -2,8 +2,7 @@
 ghost use Rattle.std.specs.Prelude.{◌≡◌, ◌↔◌, IfOk, IsTrue};
 ghost use Rattle.sj_trees.specs.Types.{class_type, base_type, element_type, reference_type};
 
-use sj_names::{ArrayRef, BaseRef, ClassName, OBJECT, TypeRef};
-use std::alloc::AllocError;
+use sj_names::{ArrayRef, BaseRef, ClassName, NoMemory, OBJECT, TypeRef};
 
 /// A type of the IR.
 pub enum IrType {
@@ -54,7 +53,7 @@ impl Drop for IrType {
 
 impl IrType {
     /// The same type once more.
-    pub fn copied(&self) -> Result<IrType, AllocError>
+    pub fn copied(&self) -> Result<IrType, NoMemory>
         ensures { IfOk result (λ t. t ≡ self.now) }
     {
         Ok(match self {
@@ -110,7 +109,7 @@ impl IrType {
     }
 
     /// The type that a reference stands for: none for `V`.
-    pub fn of_reference(reference: &TypeRef) -> Result<IrType, AllocError>
+    pub fn of_reference(reference: &TypeRef) -> Result<IrType, NoMemory>
         ensures { IfOk result (λ t. t ≡ reference_type reference.now) }
     {
         Ok(match reference {
@@ -127,7 +126,7 @@ impl IrType {
     }
 
     /// The type that the base of an array stands for.
-    pub fn of_base(base: &BaseRef) -> Result<IrType, AllocError>
+    pub fn of_base(base: &BaseRef) -> Result<IrType, NoMemory>
         ensures { IfOk result (λ t. t ≡ base_type base.now) }
     {
         Ok(match base {
@@ -142,7 +141,7 @@ impl IrType {
     }
 
     /// The type of the items of an array: an array with one dimension less, or at one dimension the type of the base.
-    pub fn of_items(array: &ArrayRef) -> Result<IrType, AllocError>
+    pub fn of_items(array: &ArrayRef) -> Result<IrType, NoMemory>
         ensures { IfOk result (λ t. t ≡ element_type array.now) }
     {
         match array.dimensions {

@@ -13,45 +13,45 @@ pub fn type_of(alloc: Global, tree: &Tree) -> Result<IrType, NoMemory>
     ensures { IfOk result (λ t. t ≡ type_of_term (view tree.now)) }
 {
     Ok(match tree {
-        Tree::Block(_, trees) => type_of_last_tree(alloc, trees)?,
-        Tree::TryFinally(_, block, _) => type_of(alloc, block)?,
-        Tree::While(_, condition, _) | Tree::DoWhile(_, _, condition) => type_of_loop(condition),
-        Tree::Labeled(_, _, tpe, _)
-        | Tree::If(_, _, _, _, tpe)
-        | Tree::TryCatch(_, _, _, _, tpe)
-        | Tree::Match(_, _, _, _, tpe)
-        | Tree::Select(_, _, _, _, tpe)
-        | Tree::SelectStatic(_, _, _, tpe)
-        | Tree::Apply(_, _, _, _, tpe)
-        | Tree::ApplyStatically(_, _, _, _, _, _, tpe)
-        | Tree::ApplyStatic(_, _, _, _, _, tpe)
-        | Tree::ArraySelect(_, _, _, tpe)
-        | Tree::AsInstanceOf(_, _, tpe)
-        | Tree::VarRef(_, _, tpe)
-        | Tree::This(_, tpe) => tpe.copied()?,
-        Tree::New(_, class, _, _) | Tree::LoadModule(_, class) => {
+        Tree::Block { trees, .. } => type_of_last_tree(alloc, trees)?,
+        Tree::TryFinally { block, .. } => type_of(alloc, block)?,
+        Tree::While { condition, .. } | Tree::DoWhile { condition, .. } => type_of_loop(condition),
+        Tree::Labeled { tpe, .. }
+        | Tree::If { tpe, .. }
+        | Tree::TryCatch { tpe, .. }
+        | Tree::Match { tpe, .. }
+        | Tree::Select { tpe, .. }
+        | Tree::SelectStatic { tpe, .. }
+        | Tree::Apply { tpe, .. }
+        | Tree::ApplyStatically { tpe, .. }
+        | Tree::ApplyStatic { tpe, .. }
+        | Tree::ArraySelect { tpe, .. }
+        | Tree::AsInstanceOf { tpe, .. }
+        | Tree::VarRef { tpe, .. }
+        | Tree::This { tpe, .. } => tpe.copied()?,
+        Tree::New { class, .. } | Tree::LoadModule { class, .. } => {
             IrType::of_class(class.copied()?)
         }
-        Tree::NewArray(_, array, _) | Tree::ArrayValue(_, array, _) => IrType::Array(
+        Tree::NewArray { array, .. } | Tree::ArrayValue { array, .. } => IrType::Array(
             array.copied()?,
         ),
-        Tree::UnaryOp(_, op, _) => op.result_type(),
-        Tree::BinaryOp(_, op, _, _) => op.result_type(),
-        Tree::Return(_, _, _) | Tree::Throw(_, _) => IrType::Nothing,
-        Tree::Undefined(_) => IrType::Undefined,
-        Tree::Null(_) => IrType::Null,
-        Tree::BooleanLiteral(_, _) | Tree::IsInstanceOf(_, _, _) => IrType::Boolean,
-        Tree::CharLiteral(_, _) => IrType::Char,
-        Tree::ByteLiteral(_, _) => IrType::Byte,
-        Tree::ShortLiteral(_, _) => IrType::Short,
-        Tree::IntLiteral(_, _) | Tree::ArrayLength(_, _) => IrType::Int,
-        Tree::LongLiteral(_, _) => IrType::Long,
-        Tree::StringLiteral(_, _) => IrType::String,
-        Tree::VarDef(_, _, _, _, _)
-        | Tree::Skip(_)
-        | Tree::Assign(_, _, _)
-        | Tree::StoreModule(_, _, _)
-        | Tree::Log(_, _) => IrType::NoType,
+        Tree::UnaryOp { operator: op, .. } => op.result_type(),
+        Tree::BinaryOp { operator: op, .. } => op.result_type(),
+        Tree::Return { .. } | Tree::Throw { .. } => IrType::Nothing,
+        Tree::Undefined { .. } => IrType::Undefined,
+        Tree::Null { .. } => IrType::Null,
+        Tree::BooleanLiteral { .. } | Tree::IsInstanceOf { .. } => IrType::Boolean,
+        Tree::CharLiteral { .. } => IrType::Char,
+        Tree::ByteLiteral { .. } => IrType::Byte,
+        Tree::ShortLiteral { .. } => IrType::Short,
+        Tree::IntLiteral { .. } | Tree::ArrayLength { .. } => IrType::Int,
+        Tree::LongLiteral { .. } => IrType::Long,
+        Tree::StringLiteral { .. } => IrType::String,
+        Tree::VarDef { .. }
+        | Tree::Skip { .. }
+        | Tree::Assign { .. }
+        | Tree::StoreModule { .. }
+        | Tree::Log { .. } => IrType::NoType,
     })
 }
 
@@ -70,7 +70,7 @@ fn type_of_loop(condition: &Tree) -> IrType
     ensures { result ≡ loop_type (view condition.now) }
 {
     match condition {
-        Tree::BooleanLiteral(_, true) => IrType::Nothing,
+        Tree::BooleanLiteral { value: true, .. } => IrType::Nothing,
         _ => IrType::NoType,
     }
 }

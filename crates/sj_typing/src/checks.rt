@@ -254,97 +254,156 @@ fn check_parts<O: Oracle>(
     ensures ran { AsRun (IsAnswer (O.stand oracle.old)) (checks.parts_of namespace labels.old.items place (view tree.now)) (seen result) (O.told oracle.old) (O.told oracle.new) }
 {
     match tree {
-        Tree::VarDef(_, _, _, _, one) => check(alloc, namespace, labels, one, place, oracle),
-        Tree::Block(_, trees) => check_all(alloc, namespace, labels, trees, place, oracle),
-        Tree::Labeled(_, label, tpe, body) => {
-            check_labeled(alloc, namespace, labels, label, tpe, body, place, oracle)
-        }
-        Tree::Assign(_, one, two) => {
+        Tree::VarDef { value: one, .. } => check(alloc, namespace, labels, one, place, oracle),
+        Tree::Block { trees, .. } => check_all(alloc, namespace, labels, trees, place, oracle),
+        Tree::Labeled {
+            label,
+            tpe,
+            body,
+            ..
+        } => { check_labeled(alloc, namespace, labels, label, tpe, body, place, oracle) }
+        Tree::Assign {
+            target: one,
+            value: two,
+            ..
+        } => {
             let first = check(alloc, namespace, labels, one, place, oracle)?;
             let second = check(alloc, namespace, labels, two, first.next, oracle);
             behind(first, second)
         }
-        Tree::Return(_, one, _) => check(alloc, namespace, labels, one, place, oracle),
-        Tree::If(_, condition, yes, no, _) => {
+        Tree::Return { value: one, .. } => check(alloc, namespace, labels, one, place, oracle),
+        Tree::If {
+            condition,
+            yes,
+            no,
+            ..
+        } => {
             let first = check(alloc, namespace, labels, condition, place, oracle)?;
             let second = check(alloc, namespace, labels, yes, first.next, oracle)?;
             let third = check(alloc, namespace, labels, no, second.next, oracle);
             behind(first, behind(second, third))
         }
-        Tree::While(_, one, two) => {
+        Tree::While {
+            condition: one,
+            body: two,
+            ..
+        } => {
             let first = check(alloc, namespace, labels, one, place, oracle)?;
             let second = check(alloc, namespace, labels, two, first.next, oracle);
             behind(first, second)
         }
-        Tree::DoWhile(_, one, two) => {
+        Tree::DoWhile {
+            body: one,
+            condition: two,
+            ..
+        } => {
             let first = check(alloc, namespace, labels, one, place, oracle)?;
             let second = check(alloc, namespace, labels, two, first.next, oracle);
             behind(first, second)
         }
-        Tree::TryCatch(_, one, _, two, _) => {
+        Tree::TryCatch {
+            block: one,
+            handler: two,
+            ..
+        } => {
             let first = check(alloc, namespace, labels, one, place, oracle)?;
             let second = check(alloc, namespace, labels, two, first.next, oracle);
             behind(first, second)
         }
-        Tree::TryFinally(_, one, two) => {
+        Tree::TryFinally {
+            block: one,
+            finalizer: two,
+            ..
+        } => {
             let first = check(alloc, namespace, labels, one, place, oracle)?;
             let second = check(alloc, namespace, labels, two, first.next, oracle);
             behind(first, second)
         }
-        Tree::Throw(_, one) => check(alloc, namespace, labels, one, place, oracle),
-        Tree::Match(_, selector, cases, default, _) => {
+        Tree::Throw { value: one, .. } => check(alloc, namespace, labels, one, place, oracle),
+        Tree::Match {
+            selector,
+            cases,
+            default,
+            ..
+        } => {
             let first = check(alloc, namespace, labels, selector, place, oracle)?;
             let second = check_cases(alloc, namespace, labels, cases, first.next, oracle)?;
             let third = check(alloc, namespace, labels, default, second.next, oracle);
             behind(first, behind(second, third))
         }
-        Tree::New(_, _, _, trees) => check_all(alloc, namespace, labels, trees, place, oracle),
-        Tree::StoreModule(_, _, one) => check(alloc, namespace, labels, one, place, oracle),
-        Tree::Select(_, one, _, _, _) => check(alloc, namespace, labels, one, place, oracle),
-        Tree::Apply(_, receiver, _, trees, _) => {
+        Tree::New {
+            arguments: trees,
+            ..
+        } => check_all(alloc, namespace, labels, trees, place, oracle),
+        Tree::StoreModule { value: one, .. } => check(alloc, namespace, labels, one, place, oracle),
+        Tree::Select { object: one, .. } => check(alloc, namespace, labels, one, place, oracle),
+        Tree::Apply {
+            receiver,
+            arguments: trees,
+            ..
+        } => {
             let first = check(alloc, namespace, labels, receiver, place, oracle)?;
             let second = check_all(alloc, namespace, labels, trees, first.next, oracle);
             behind(first, second)
         }
-        Tree::ApplyStatically(_, receiver, _, _, _, trees, _) => {
+        Tree::ApplyStatically {
+            receiver,
+            arguments: trees,
+            ..
+        } => {
             let first = check(alloc, namespace, labels, receiver, place, oracle)?;
             let second = check_all(alloc, namespace, labels, trees, first.next, oracle);
             behind(first, second)
         }
-        Tree::ApplyStatic(_, _, _, _, trees, _) => {
-            check_all(alloc, namespace, labels, trees, place, oracle)
-        }
-        Tree::UnaryOp(_, _, one) => check(alloc, namespace, labels, one, place, oracle),
-        Tree::BinaryOp(_, _, one, two) => {
+        Tree::ApplyStatic {
+            arguments: trees,
+            ..
+        } => { check_all(alloc, namespace, labels, trees, place, oracle) }
+        Tree::UnaryOp { operand: one, .. } => check(alloc, namespace, labels, one, place, oracle),
+        Tree::BinaryOp {
+            left: one,
+            right: two,
+            ..
+        } => {
             let first = check(alloc, namespace, labels, one, place, oracle)?;
             let second = check(alloc, namespace, labels, two, first.next, oracle);
             behind(first, second)
         }
-        Tree::NewArray(_, _, one) => check(alloc, namespace, labels, one, place, oracle),
-        Tree::ArrayValue(_, _, trees) => check_all(alloc, namespace, labels, trees, place, oracle),
-        Tree::ArrayLength(_, one) => check(alloc, namespace, labels, one, place, oracle),
-        Tree::ArraySelect(_, one, two, _) => {
+        Tree::NewArray { length: one, .. } => check(alloc, namespace, labels, one, place, oracle),
+        Tree::ArrayValue { items: trees, .. } => check_all(
+            alloc, namespace, labels, trees, place, oracle,
+        ),
+        Tree::ArrayLength { array: one, .. } => check(alloc, namespace, labels, one, place, oracle),
+        Tree::ArraySelect {
+            array: one,
+            index: two,
+            ..
+        } => {
             let first = check(alloc, namespace, labels, one, place, oracle)?;
             let second = check(alloc, namespace, labels, two, first.next, oracle);
             behind(first, second)
         }
-        Tree::IsInstanceOf(_, one, _) => check(alloc, namespace, labels, one, place, oracle),
-        Tree::AsInstanceOf(_, one, _) => check(alloc, namespace, labels, one, place, oracle),
-        Tree::Log(_, one) => check(alloc, namespace, labels, one, place, oracle),
-        Tree::Skip(_)
-        | Tree::LoadModule(_, _)
-        | Tree::SelectStatic(_, _, _, _)
-        | Tree::Undefined(_)
-        | Tree::Null(_)
-        | Tree::BooleanLiteral(_, _)
-        | Tree::CharLiteral(_, _)
-        | Tree::ByteLiteral(_, _)
-        | Tree::ShortLiteral(_, _)
-        | Tree::IntLiteral(_, _)
-        | Tree::LongLiteral(_, _)
-        | Tree::StringLiteral(_, _)
-        | Tree::VarRef(_, _, _)
-        | Tree::This(_, _) => Ok(Checked {
+        Tree::IsInstanceOf { value: one, .. } => check(
+            alloc, namespace, labels, one, place, oracle,
+        ),
+        Tree::AsInstanceOf { value: one, .. } => check(
+            alloc, namespace, labels, one, place, oracle,
+        ),
+        Tree::Log { value: one, .. } => check(alloc, namespace, labels, one, place, oracle),
+        Tree::Skip { .. }
+        | Tree::LoadModule { .. }
+        | Tree::SelectStatic { .. }
+        | Tree::Undefined { .. }
+        | Tree::Null { .. }
+        | Tree::BooleanLiteral { .. }
+        | Tree::CharLiteral { .. }
+        | Tree::ByteLiteral { .. }
+        | Tree::ShortLiteral { .. }
+        | Tree::IntLiteral { .. }
+        | Tree::LongLiteral { .. }
+        | Tree::StringLiteral { .. }
+        | Tree::VarRef { .. }
+        | Tree::This { .. } => Ok(Checked {
             next: place,
             settable: true,
         }),

@@ -54,60 +54,120 @@ pub fn row_of(
     ensures { IfOk result (λ r. r ≡ rows.row_of namespace labels.now settable (view tree.now)) }
 {
     match tree {
-        Tree::VarDef(_, _, tpe, _, value) => fits_one(alloc, value, tpe.copied()?),
-        Tree::Labeled(_, _, tpe, body) => yields_one(alloc, body, tpe),
-        Tree::Assign(_, target, value) => assign_row(alloc, settable, target, value),
-        Tree::Return(_, value, label) => return_row(alloc, labels, value, label),
-        Tree::If(_, condition, yes, no, tpe) => if_row(alloc, condition, yes, no, tpe),
-        Tree::While(_, condition, _) | Tree::DoWhile(_, _, condition) => {
+        Tree::VarDef { tpe, value, .. } => fits_one(alloc, value, tpe.copied()?),
+        Tree::Labeled { tpe, body, .. } => yields_one(alloc, body, tpe),
+        Tree::Assign { target, value, .. } => assign_row(alloc, settable, target, value),
+        Tree::Return { value, label, .. } => return_row(alloc, labels, value, label),
+        Tree::If {
+            condition,
+            yes,
+            no,
+            tpe,
+            ..
+        } => if_row(alloc, condition, yes, no, tpe),
+        Tree::While { condition, .. } | Tree::DoWhile { condition, .. } => {
             fits_one(alloc, condition, IrType::Boolean)
         }
-        Tree::TryCatch(_, block, _, handler, tpe) => yields_two(alloc, block, handler, tpe),
-        Tree::Throw(_, value) => fits_one(alloc, value, IrType::Any),
-        Tree::Match(_, selector, cases, default, tpe) => {
-            match_row(alloc, selector, cases, default, tpe)
-        }
-        Tree::New(_, _, method, trees) => new_row(alloc, method, trees),
-        Tree::StoreModule(_, class, value) => {
+        Tree::TryCatch {
+            block,
+            handler,
+            tpe,
+            ..
+        } => yields_two(alloc, block, handler, tpe),
+        Tree::Throw { value, .. } => fits_one(alloc, value, IrType::Any),
+        Tree::Match {
+            selector,
+            cases,
+            default,
+            tpe,
+            ..
+        } => { match_row(alloc, selector, cases, default, tpe) }
+        Tree::New {
+            constructor: method,
+            arguments: trees,
+            ..
+        } => new_row(alloc, method, trees),
+        Tree::StoreModule { class, value, .. } => {
             fits_one(alloc, value, IrType::of_class(class.copied()?))
         }
-        Tree::Select(_, object, class, field, tpe) => {
-            select_row(alloc, namespace, object, class, field, tpe)
-        }
-        Tree::SelectStatic(_, class, field, tpe) => static_row(alloc, class, field, tpe),
-        Tree::Apply(_, receiver, method, trees, tpe) => {
-            apply_row(alloc, receiver, method, trees, tpe)
-        }
-        Tree::ApplyStatically(_, receiver, class, space, method, trees, tpe) => {
-            statically_row(alloc, receiver, class, *space, method, trees, tpe)
-        }
-        Tree::ApplyStatic(_, _, space, method, trees, tpe) => {
-            call_row(alloc, is_static(*space), method, trees, tpe)
-        }
-        Tree::UnaryOp(_, op, operand) => fits_one(alloc, operand, unary_operand(*op)),
-        Tree::BinaryOp(_, op, left, right) => operands_row(alloc, *op, left, right),
-        Tree::NewArray(_, _, length) => fits_one(alloc, length, IrType::Int),
-        Tree::ArrayValue(_, array, trees) => items_row(alloc, array, trees),
-        Tree::ArrayLength(_, array) => length_row(alloc, array),
-        Tree::ArraySelect(_, array, index, tpe) => item_row(alloc, array, index, tpe),
-        Tree::IsInstanceOf(_, value, tpe) => any_row(alloc, is_test_type(tpe), value),
-        Tree::AsInstanceOf(_, value, tpe) => any_row(alloc, is_cast_type(tpe), value),
-        Tree::Log(_, value) => fits_one(alloc, value, IrType::String),
-        Tree::Skip(_)
-        | Tree::Block(_, _)
-        | Tree::TryFinally(_, _, _)
-        | Tree::LoadModule(_, _)
-        | Tree::Undefined(_)
-        | Tree::Null(_)
-        | Tree::BooleanLiteral(_, _)
-        | Tree::CharLiteral(_, _)
-        | Tree::ByteLiteral(_, _)
-        | Tree::ShortLiteral(_, _)
-        | Tree::IntLiteral(_, _)
-        | Tree::LongLiteral(_, _)
-        | Tree::StringLiteral(_, _)
-        | Tree::VarRef(_, _, _)
-        | Tree::This(_, _) => Ok(no_row(alloc)),
+        Tree::Select {
+            object,
+            class,
+            field,
+            tpe,
+            ..
+        } => { select_row(alloc, namespace, object, class, field, tpe) }
+        Tree::SelectStatic {
+            class,
+            field,
+            tpe,
+            ..
+        } => static_row(alloc, class, field, tpe),
+        Tree::Apply {
+            receiver,
+            method,
+            arguments: trees,
+            tpe,
+            ..
+        } => { apply_row(alloc, receiver, method, trees, tpe) }
+        Tree::ApplyStatically {
+            receiver,
+            class,
+            namespace: space,
+            method,
+            arguments: trees,
+            tpe,
+            ..
+        } => { statically_row(alloc, receiver, class, *space, method, trees, tpe) }
+        Tree::ApplyStatic {
+            namespace: space,
+            method,
+            arguments: trees,
+            tpe,
+            ..
+        } => { call_row(alloc, is_static(*space), method, trees, tpe) }
+        Tree::UnaryOp {
+            operator: op,
+            operand,
+            ..
+        } => fits_one(alloc, operand, unary_operand(*op)),
+        Tree::BinaryOp {
+            operator: op,
+            left,
+            right,
+            ..
+        } => operands_row(alloc, *op, left, right),
+        Tree::NewArray { length, .. } => fits_one(alloc, length, IrType::Int),
+        Tree::ArrayValue {
+            array,
+            items: trees,
+            ..
+        } => items_row(alloc, array, trees),
+        Tree::ArrayLength { array, .. } => length_row(alloc, array),
+        Tree::ArraySelect {
+            array,
+            index,
+            tpe,
+            ..
+        } => item_row(alloc, array, index, tpe),
+        Tree::IsInstanceOf { value, tpe, .. } => any_row(alloc, is_test_type(tpe), value),
+        Tree::AsInstanceOf { value, tpe, .. } => any_row(alloc, is_cast_type(tpe), value),
+        Tree::Log { value, .. } => fits_one(alloc, value, IrType::String),
+        Tree::Skip { .. }
+        | Tree::Block { .. }
+        | Tree::TryFinally { .. }
+        | Tree::LoadModule { .. }
+        | Tree::Undefined { .. }
+        | Tree::Null { .. }
+        | Tree::BooleanLiteral { .. }
+        | Tree::CharLiteral { .. }
+        | Tree::ByteLiteral { .. }
+        | Tree::ShortLiteral { .. }
+        | Tree::IntLiteral { .. }
+        | Tree::LongLiteral { .. }
+        | Tree::StringLiteral { .. }
+        | Tree::VarRef { .. }
+        | Tree::This { .. } => Ok(no_row(alloc)),
     }
 }
 

@@ -81,7 +81,7 @@ pub fn is_static(namespace: Namespace) -> bool
 fn is_this(tree: &Tree) -> bool
     ensures { result ≡ rows.is_this (view tree.now) }
 {
-    matches!(tree, Tree::This(_, _))
+    matches!(tree, Tree::This { .. })
 }
 
 /// Whether a tree may be the receiver of a call in this namespace.
@@ -109,7 +109,7 @@ fn is_this_of(tree: &Tree, class: &ClassName) -> Result<bool, NoMemory>
     ensures { IfOk result (λ own. own ≡ rows.is_own Namespace.Constructor (view tree.now) class.now) }
 {
     match tree {
-        Tree::This(_, tpe) => Ok(is_type(tpe, &IrType::of_class(class.copied()?))),
+        Tree::This { tpe, .. } => Ok(is_type(tpe, &IrType::of_class(class.copied()?))),
         _ => Ok(false),
     }
 }

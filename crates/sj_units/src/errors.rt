@@ -1,25 +1,9 @@
-// Want of memory, and the refusal of bytes that are no text.
+// The refusal of bytes that are no text.
 ghost use Rattle.std.specs.Prelude.{◌≡◌};
 
-use std::alloc::{AllocError, AllocFailed};
+use sj_names::NoMemory;
+use std::alloc::AllocFailed;
 use thiserror::Error;
-
-/// No memory was left.
-#[derive(Clone, Copy, Debug, PartialEq, Eq, Error)]
-#[error("no memory is left")]
-pub struct NoMemory;
-
-impl From<AllocError> for NoMemory {
-    fn from(_error: AllocError) -> NoMemory {
-        NoMemory
-    }
-}
-
-impl<T: Drop> From<AllocFailed<T>> for NoMemory {
-    fn from(_error: AllocFailed<T>) -> NoMemory {
-        NoMemory
-    }
-}
 
 /// Why bytes give no text.
 #[derive(Clone, Copy, Debug, PartialEq, Eq, Error)]
@@ -32,22 +16,22 @@ pub enum UnitsError {
     NoMemory,
 }
 
-impl From<AllocError> for UnitsError {
-    ghost use Rattle.sj_units.specs.declared.errors.UnitsError.TheVariants.{NoMemory};
-
-    ghost from_gives = { λ _ e. e ≡ NoMemory };
-
-    fn from(_error: AllocError) -> UnitsError {
-        UnitsError::NoMemory
-    }
-}
-
 impl<T: Drop> From<AllocFailed<T>> for UnitsError {
     ghost use Rattle.sj_units.specs.declared.errors.UnitsError.TheVariants.{NoMemory};
 
     ghost from_gives = { λ _ e. e ≡ NoMemory };
 
     fn from(_error: AllocFailed<T>) -> UnitsError {
+        UnitsError::NoMemory
+    }
+}
+
+impl From<NoMemory> for UnitsError {
+    ghost use Rattle.sj_units.specs.declared.errors.UnitsError.TheVariants.{NoMemory};
+
+    ghost from_gives = { λ _ e. e ≡ NoMemory };
+
+    fn from(_error: NoMemory) -> UnitsError {
         UnitsError::NoMemory
     }
 }

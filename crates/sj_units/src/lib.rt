@@ -5,6 +5,7 @@ mod errors;
 mod modified;
 mod texts;
 
-pub use errors::{NoMemory, UnitsError};
+pub use errors::UnitsError;
 pub use modified::{is_modified, read_modified, reads_what_is_written, write_modified};
+pub use sj_names::NoMemory;
 pub use texts::Units;

@@ -2,7 +2,7 @@
 ghost use Rattle.std.specs.Prelude.{◌≡◌, ◌↔◌, IfOk, IsTrue};
 ghost use Rattle.sj_units.specs.Modified.{IsText};
 
-use std::alloc::AllocError;
+use crate::NoMemory;
 use std::fmt;
 use std::marker::Model;
 use std::rc::RcSlice;
@@ -27,7 +27,7 @@ impl Model for Units {
 
 impl Units {
     /// The text of these units.
-    pub fn from_vec(units: Vec<u16>) -> Result<Units, AllocError>
+    pub fn from_vec(units: Vec<u16>) -> Result<Units, NoMemory>
         requires { IsText units.items }
         ensures { IfOk result (λ u. u ≡ units.items) }
     {
@@ -44,7 +44,7 @@ impl Units {
     }
 
     /// The same text once more, which shares the units.
-    pub fn copied(&self) -> Result<Units, AllocError>
+    pub fn copied(&self) -> Result<Units, NoMemory>
         ensures { IfOk result (λ u. u ≡ self.now) }
     {
         let units = self.units.clone()?;

@@ -11,13 +11,13 @@ ghost use Rattle.sjsir.specs.Printing as spec;
 use crate::answers::Status;
 use crate::reading::read_whole;
 use crate::stops::Stop;
-use sj_names::Meter;
+use sj_names::{Meter, NoMemory};
 use sj_outside::{Folders, Lines, OutsideError};
 use sj_read::read_class;
 use sj_text_files::each_is_a_byte;
 use sj_text_print::print_listing;
 use sj_trees::{Code, ReadRefusal, Reserved};
-use std::alloc::{AllocError, Global};
+use std::alloc::Global;
 
 /// The line of a file, and whether it is a listing.
 #[derive(Drop)]
@@ -109,22 +109,22 @@ fn file_line(alloc: Global, path: &str, bytes: &[u8]) -> Result<FileLine, Stop>
 }
 
 /// The line of a file that is refused.
-fn refusal_line(alloc: Global, path: &str, code: Code, place: u64) -> Result<String, AllocError>
+fn refusal_line(alloc: Global, path: &str, code: Code, place: u64) -> Result<String, NoMemory>
     ensures { IfOk result (λ t. string_bytes t ≡ output.refusal_line path.now code place) }
 {
     let number = code.number();
     let form = form_words(alloc, code.form())?;
-    format!(in alloc; "{path} refused {number} {place}{form}\n")
+    Ok(format!(in alloc; "{path} refused {number} {place}{form}\n")?)
 }
 
 // The name of a form with a space in front, or nothing.
-fn form_words(alloc: Global, form: Option<Reserved>) -> Result<String, AllocError>
+fn form_words(alloc: Global, form: Option<Reserved>) -> Result<String, NoMemory>
     ensures { IfOk result (λ t. string_bytes t ≡ output.form_words form) }
 {
     match form {
         Some(form) => {
             let name = form.name();
-            format!(in alloc; " {name}")
+            Ok(format!(in alloc; " {name}")?)
         }
         None => Ok(String::new(alloc)),
     }

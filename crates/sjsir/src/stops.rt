@@ -4,7 +4,7 @@ ghost use Rattle.sjsir.specs.Printing.{status_after};
 
 use crate::answers::Status;
 use sj_names::NoMemory;
-use std::alloc::{AllocError, AllocFailed};
+use std::alloc::AllocFailed;
 
 /// Why a run ends early.
 #[derive(Clone, Copy, Debug, PartialEq, Eq)]
@@ -37,17 +37,6 @@ impl From<NoMemory> for Stop {
     ghost from_gives = { λ _ e. e ≡ NoMemory };
 
     fn from(_error: NoMemory) -> Stop {
-        Stop::NoMemory
-    }
-}
-
-impl From<AllocError> for Stop {
-    ghost use Rattle.std.specs.Prelude.{◌≡◌};
-    ghost use Rattle.sjsir.specs.declared.stops.Stop.TheVariants.{NoMemory};
-
-    ghost from_gives = { λ _ e. e ≡ NoMemory };
-
-    fn from(_error: AllocError) -> Stop {
         Stop::NoMemory
     }
 }

@@ -8,8 +8,9 @@ ghost use Rattle.sjsir.specs.Writing as spec;
 
 use crate::answers::Status;
 use crate::making::Made;
+use sj_names::NoMemory;
 use sj_outside::{Lines, Outputs, OutsideError};
-use std::alloc::{AllocError, Global};
+use std::alloc::Global;
 
 const NO_FILE: &str = "refused: no class file has this class\n";
 
@@ -45,7 +46,7 @@ pub fn write_made<O: Outputs, L: Lines>(
         },
         Made::NoListing(place) => match no_listing_line(alloc, *place) {
             Ok(text) => print_text(alloc, Status::SomeRefused, text.as_str(), lines),
-            Err(AllocError) => Status::NoMemory,
+            Err(NoMemory) => Status::NoMemory,
         },
         Made::NoFile => print_text(alloc, Status::SomeRefused, NO_FILE, lines),
         Made::TooDeep => print_text(alloc, Status::SomeRefused, TOO_DEEP, lines),
@@ -53,8 +54,8 @@ pub fn write_made<O: Outputs, L: Lines>(
 }
 
 /// The line where a text is no listing.
-fn no_listing_line(alloc: Global, place: u64) -> Result<String, AllocError>
+fn no_listing_line(alloc: Global, place: u64) -> Result<String, NoMemory>
     ensures { IfOk result (λ text. string_bytes text ≡ output.no_listing_line place) }
 {
-    format!(in alloc; "refused {place}\n")
+    Ok(format!(in alloc; "refused {place}\n")?)
 }

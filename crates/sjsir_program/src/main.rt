@@ -4,9 +4,9 @@
 mod real_files;
 
 use real_files::RealFiles;
+use sj_names::NoMemory;
 use sj_outside::{RealFolders, RealLines, real_words};
 use sjsir::{Status, run};
-use std::alloc::AllocError;
 use std::process::ExitCode;
 
 fn main(rt: HostRuntime) -> ExitCode {
@@ -15,7 +15,7 @@ fn main(rt: HostRuntime) -> ExitCode {
     let mut lines = RealLines::new(&rt);
     let status = match real_words(&rt) {
         Ok(words) => run(rt.alloc(), words, &mut folders, &mut files, &mut lines),
-        Err(AllocError) => Status::NoMemory,
+        Err(NoMemory) => Status::NoMemory,
     };
     ExitCode::from(status.exit_code())
 }

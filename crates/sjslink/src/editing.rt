@@ -8,12 +8,12 @@ ghost use Rattle.sjslink.specs.Editing as editing;
 use crate::reports::{accepted_line, refused_line};
 use crate::writing::{print_line, put_edit};
 use folder_files::read_folder;
-use sj_names::{Folder, Items, Meter, SourceFile};
+use sj_names::{Folder, Items, Meter, NoMemory, SourceFile};
 use sj_outside::{Folders, Lines, Outputs, OutsideError};
 use sj_session::{EditRefusal, Session};
 use sj_words::Link;
 use sj_workshop::Workshop;
-use std::alloc::{AllocError, Global};
+use std::alloc::Global;
 
 /// How a run ends before its time.
 pub enum Fault {
@@ -25,13 +25,13 @@ pub enum Fault {
     NoMemory,
 }
 
-impl From<AllocError> for Fault {
+impl From<NoMemory> for Fault {
     ghost use Rattle.std.specs.Prelude.{◌≡◌};
     ghost use Rattle.sjslink.specs.declared.editing.Fault.TheVariants.{NoMemory};
 
     ghost from_gives = { λ _ e. e ≡ NoMemory };
 
-    fn from(_error: AllocError) -> Fault {
+    fn from(_error: NoMemory) -> Fault {
         Fault::NoMemory
     }
 }

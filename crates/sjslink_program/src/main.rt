@@ -1,9 +1,9 @@
 //! The command `sjslink`, over real folders, files and standard output.
 #![tactic(auto)]
 
+use sj_names::NoMemory;
 use sj_outside::{RealFolders, RealLines, RealOutputs, real_words};
 use sjslink::{Status, run};
-use std::alloc::AllocError;
 use std::process::ExitCode;
 
 // The most words: each edit has a number of 32 bits. More are no command, and nothing is printed.
@@ -18,7 +18,7 @@ fn main(rt: HostRuntime) -> ExitCode {
             run(rt.alloc(), words, &mut folders, &mut outputs, &mut lines)
         }
         Ok(_) => Status::Usage,
-        Err(AllocError) => Status::NoMemory,
+        Err(NoMemory) => Status::NoMemory,
     };
     ExitCode::from(status.exit_code())
 }

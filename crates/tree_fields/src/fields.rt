@@ -42,101 +42,160 @@ pub fn fields_in(tree: &Tree) -> [Field<'_>; 7]
     ensures smaller { size_of_fields (map field_seen result) < size (view tree.now) }
 {
     match tree {
-        Tree::VarDef(position, name, tpe, mark, value) => four(
+        Tree::VarDef {
+            position,
+            name,
+            tpe,
+            mutable: mark,
+            value,
+        } => four(
             *position,
             Field::Name(name.text()),
             Field::Type(tpe),
             Field::Mark(*mark),
             Field::Tree(value),
         ),
-        Tree::Skip(position) => alone(*position),
-        Tree::Block(position, trees) => one(*position, Field::Trees(trees)),
-        Tree::Labeled(position, label, tpe, body) => three(
+        Tree::Skip { position } => alone(*position),
+        Tree::Block { position, trees } => one(*position, Field::Trees(trees)),
+        Tree::Labeled {
+            position,
+            label,
+            tpe,
+            body,
+        } => three(
             *position,
             Field::Name(label.text()),
             Field::Type(tpe),
             Field::Tree(body),
         ),
-        Tree::Assign(position, target, value) => two(
-            *position,
-            Field::Tree(target),
-            Field::Tree(value),
-        ),
-        Tree::Return(position, value, label) => two(
-            *position,
-            Field::Tree(value),
-            Field::Name(label.text()),
-        ),
-        Tree::If(position, condition, consequent, alternative, tpe) => four(
+        Tree::Assign {
+            position,
+            target,
+            value,
+        } => two(*position, Field::Tree(target), Field::Tree(value)),
+        Tree::Return {
+            position,
+            value,
+            label,
+        } => two(*position, Field::Tree(value), Field::Name(label.text())),
+        Tree::If {
+            position,
+            condition,
+            yes: consequent,
+            no: alternative,
+            tpe,
+        } => four(
             *position,
             Field::Tree(condition),
             Field::Tree(consequent),
             Field::Tree(alternative),
             Field::Type(tpe),
         ),
-        Tree::While(position, condition, body) => two(
-            *position,
-            Field::Tree(condition),
-            Field::Tree(body),
-        ),
-        Tree::DoWhile(position, body, condition) => two(
-            *position,
-            Field::Tree(body),
-            Field::Tree(condition),
-        ),
-        Tree::TryCatch(position, block, name, handler, tpe) => four(
+        Tree::While {
+            position,
+            condition,
+            body,
+        } => two(*position, Field::Tree(condition), Field::Tree(body)),
+        Tree::DoWhile {
+            position,
+            body,
+            condition,
+        } => two(*position, Field::Tree(body), Field::Tree(condition)),
+        Tree::TryCatch {
+            position,
+            block,
+            name,
+            handler,
+            tpe,
+        } => four(
             *position,
             Field::Tree(block),
             Field::Name(name.text()),
             Field::Tree(handler),
             Field::Type(tpe),
         ),
-        Tree::TryFinally(position, block, finalizer) => two(
-            *position,
-            Field::Tree(block),
-            Field::Tree(finalizer),
-        ),
-        Tree::Throw(position, value) => one(*position, Field::Tree(value)),
-        Tree::Match(position, selector, cases, default, tpe) => four(
+        Tree::TryFinally {
+            position,
+            block,
+            finalizer,
+        } => two(*position, Field::Tree(block), Field::Tree(finalizer)),
+        Tree::Throw { position, value } => one(*position, Field::Tree(value)),
+        Tree::Match {
+            position,
+            selector,
+            cases,
+            default,
+            tpe,
+        } => four(
             *position,
             Field::Tree(selector),
             Field::Cases(cases),
             Field::Tree(default),
             Field::Type(tpe),
         ),
-        Tree::New(position, class, method, arguments) => three(
+        Tree::New {
+            position,
+            class,
+            constructor: method,
+            arguments,
+        } => three(
             *position,
             Field::Name(class.text()),
             Field::Method(method),
             Field::Trees(arguments),
         ),
-        Tree::LoadModule(position, class) => one(*position, Field::Name(class.text())),
-        Tree::StoreModule(position, class, value) => two(
-            *position,
-            Field::Name(class.text()),
-            Field::Tree(value),
-        ),
-        Tree::Select(position, qualifier, class, field, tpe) => four(
+        Tree::LoadModule { position, class } => one(*position, Field::Name(class.text())),
+        Tree::StoreModule {
+            position,
+            class,
+            value,
+        } => two(*position, Field::Name(class.text()), Field::Tree(value)),
+        Tree::Select {
+            position,
+            object: qualifier,
+            class,
+            field,
+            tpe,
+        } => four(
             *position,
             Field::Tree(qualifier),
             Field::Name(class.text()),
             Field::Name(field.text()),
             Field::Type(tpe),
         ),
-        Tree::SelectStatic(position, class, field, tpe) => three(
+        Tree::SelectStatic {
+            position,
+            class,
+            field,
+            tpe,
+        } => three(
             *position,
             Field::Name(class.text()),
             Field::Name(field.text()),
             Field::Type(tpe),
         ),
-        Tree::Apply(position, receiver, method, arguments, tpe) => four(
+        Tree::Apply {
+            position,
+            receiver,
+            method,
+            arguments,
+            tpe,
+        } => four(
             *position,
             Field::Tree(receiver),
             Field::Method(method),
             Field::Trees(arguments),
             Field::Type(tpe),
         ),
-        Tree::ApplyStatically(position, receiver, class, namespace, method, arguments, tpe) => six(
+        Tree::ApplyStatically {
+            position,
+            receiver,
+            class,
+            namespace,
+            method,
+            arguments,
+            tpe,
+        } => six(
             *position,
             Field::Tree(receiver),
             Field::Name(class.text()),
@@ -145,7 +204,14 @@ pub fn fields_in(tree: &Tree) -> [Field<'_>; 7]
             Field::Trees(arguments),
             Field::Type(tpe),
         ),
-        Tree::ApplyStatic(position, class, namespace, method, arguments, tpe) => five(
+        Tree::ApplyStatic {
+            position,
+            class,
+            namespace,
+            method,
+            arguments,
+            tpe,
+        } => five(
             *position,
             Field::Name(class.text()),
             Field::Namespace(*namespace),
@@ -153,60 +219,70 @@ pub fn fields_in(tree: &Tree) -> [Field<'_>; 7]
             Field::Trees(arguments),
             Field::Type(tpe),
         ),
-        Tree::UnaryOp(position, operator, operand) => two(
-            *position,
-            Field::Unary(*operator),
-            Field::Tree(operand),
-        ),
-        Tree::BinaryOp(position, operator, left, right) => three(
+        Tree::UnaryOp {
+            position,
+            operator,
+            operand,
+        } => two(*position, Field::Unary(*operator), Field::Tree(operand)),
+        Tree::BinaryOp {
+            position,
+            operator,
+            left,
+            right,
+        } => three(
             *position,
             Field::Binary(*operator),
             Field::Tree(left),
             Field::Tree(right),
         ),
-        Tree::NewArray(position, array, length) => two(
-            *position,
-            Field::Array(array),
-            Field::Tree(length),
-        ),
-        Tree::ArrayValue(position, array, items) => two(
-            *position,
-            Field::Array(array),
-            Field::Trees(items),
-        ),
-        Tree::ArrayLength(position, array) => one(*position, Field::Tree(array)),
-        Tree::ArraySelect(position, array, index, tpe) => three(
+        Tree::NewArray {
+            position,
+            array,
+            length,
+        } => two(*position, Field::Array(array), Field::Tree(length)),
+        Tree::ArrayValue {
+            position,
+            array,
+            items,
+        } => two(*position, Field::Array(array), Field::Trees(items)),
+        Tree::ArrayLength { position, array } => one(*position, Field::Tree(array)),
+        Tree::ArraySelect {
+            position,
+            array,
+            index,
+            tpe,
+        } => three(
             *position,
             Field::Tree(array),
             Field::Tree(index),
             Field::Type(tpe),
         ),
-        Tree::IsInstanceOf(position, value, tpe) => two(
-            *position,
-            Field::Tree(value),
-            Field::Type(tpe),
-        ),
-        Tree::AsInstanceOf(position, value, tpe) => two(
-            *position,
-            Field::Tree(value),
-            Field::Type(tpe),
-        ),
-        Tree::Undefined(position) => alone(*position),
-        Tree::Null(position) => alone(*position),
-        Tree::BooleanLiteral(position, value) => one(*position, Field::Mark(*value)),
-        Tree::CharLiteral(position, value) => one(*position, Field::Unit(*value)),
-        Tree::ByteLiteral(position, value) => one(*position, Field::Byte(*value)),
-        Tree::ShortLiteral(position, value) => one(*position, Field::Short(*value)),
-        Tree::IntLiteral(position, value) => one(*position, Field::Int(*value)),
-        Tree::LongLiteral(position, value) => one(*position, Field::Long(*value)),
-        Tree::StringLiteral(position, value) => one(*position, Field::Text(value)),
-        Tree::VarRef(position, name, tpe) => two(
-            *position,
-            Field::Name(name.text()),
-            Field::Type(tpe),
-        ),
-        Tree::This(position, tpe) => one(*position, Field::Type(tpe)),
-        Tree::Log(position, value) => one(*position, Field::Tree(value)),
+        Tree::IsInstanceOf {
+            position,
+            value,
+            tpe,
+        } => two(*position, Field::Tree(value), Field::Type(tpe)),
+        Tree::AsInstanceOf {
+            position,
+            value,
+            tpe,
+        } => two(*position, Field::Tree(value), Field::Type(tpe)),
+        Tree::Undefined { position } => alone(*position),
+        Tree::Null { position } => alone(*position),
+        Tree::BooleanLiteral { position, value } => one(*position, Field::Mark(*value)),
+        Tree::CharLiteral { position, value } => one(*position, Field::Unit(*value)),
+        Tree::ByteLiteral { position, value } => one(*position, Field::Byte(*value)),
+        Tree::ShortLiteral { position, value } => one(*position, Field::Short(*value)),
+        Tree::IntLiteral { position, value } => one(*position, Field::Int(*value)),
+        Tree::LongLiteral { position, value } => one(*position, Field::Long(*value)),
+        Tree::StringLiteral { position, value } => one(*position, Field::Text(value)),
+        Tree::VarRef {
+            position,
+            name,
+            tpe,
+        } => two(*position, Field::Name(name.text()), Field::Type(tpe)),
+        Tree::This { position, tpe } => one(*position, Field::Type(tpe)),
+        Tree::Log { position, value } => one(*position, Field::Tree(value)),
     }
 }
 

@@ -59,154 +59,203 @@ pub fn own_in(tree: &Tree) -> Own<'_>
 {
     let plain = nothing(tree.form());
     match tree {
-        Tree::VarDef(_, text, tpe, mark, _) => Own {
+        Tree::VarDef {
+            name: text,
+            tpe,
+            mutable: mark,
+            ..
+        } => Own {
             text: text.text(),
             tpe: Some(tpe),
             mark: *mark,
             ..plain
         },
-        Tree::Labeled(_, text, tpe, _) => Own {
+        Tree::Labeled {
+            label: text,
+            tpe,
+            ..
+        } => Own {
             text: text.text(),
             tpe: Some(tpe),
             ..plain
         },
-        Tree::Return(_, _, text) => Own {
+        Tree::Return { label: text, .. } => Own {
             text: text.text(),
             ..plain
         },
-        Tree::If(_, _, _, _, tpe) => Own {
+        Tree::If { tpe, .. } => Own {
             tpe: Some(tpe),
             ..plain
         },
-        Tree::TryCatch(_, _, text, _, tpe) => Own {
+        Tree::TryCatch {
+            name: text,
+            tpe,
+            ..
+        } => Own {
             text: text.text(),
             tpe: Some(tpe),
             ..plain
         },
-        Tree::Match(_, _, _, _, tpe) => Own {
+        Tree::Match { tpe, .. } => Own {
             tpe: Some(tpe),
             ..plain
         },
-        Tree::New(_, class, method, _) => Own {
+        Tree::New {
+            class,
+            constructor: method,
+            ..
+        } => Own {
             class: class.text(),
             method: Some(method),
             ..plain
         },
-        Tree::LoadModule(_, class) => Own {
+        Tree::LoadModule { class, .. } => Own {
             class: class.text(),
             ..plain
         },
-        Tree::StoreModule(_, class, _) => Own {
+        Tree::StoreModule { class, .. } => Own {
             class: class.text(),
             ..plain
         },
-        Tree::Select(_, _, class, field, tpe) => Own {
+        Tree::Select {
+            class,
+            field,
+            tpe,
+            ..
+        } => Own {
             class: class.text(),
             field: field.text(),
             tpe: Some(tpe),
             ..plain
         },
-        Tree::SelectStatic(_, class, field, tpe) => Own {
+        Tree::SelectStatic {
+            class,
+            field,
+            tpe,
+            ..
+        } => Own {
             class: class.text(),
             field: field.text(),
             tpe: Some(tpe),
             ..plain
         },
-        Tree::Apply(_, _, method, _, tpe) => Own {
+        Tree::Apply { method, tpe, .. } => Own {
             method: Some(method),
             tpe: Some(tpe),
             ..plain
         },
-        Tree::ApplyStatically(_, _, class, namespace, method, _, tpe) => Own {
+        Tree::ApplyStatically {
+            class,
+            namespace,
+            method,
+            tpe,
+            ..
+        } => Own {
             class: class.text(),
             namespace: Some(*namespace),
             method: Some(method),
             tpe: Some(tpe),
             ..plain
         },
-        Tree::ApplyStatic(_, class, namespace, method, _, tpe) => Own {
+        Tree::ApplyStatic {
+            class,
+            namespace,
+            method,
+            tpe,
+            ..
+        } => Own {
             class: class.text(),
             namespace: Some(*namespace),
             method: Some(method),
             tpe: Some(tpe),
             ..plain
         },
-        Tree::UnaryOp(_, unary, _) => Own {
+        Tree::UnaryOp {
+            operator: unary,
+            ..
+        } => Own {
             unary: Some(*unary),
             ..plain
         },
-        Tree::BinaryOp(_, binary, _, _) => Own {
+        Tree::BinaryOp {
+            operator: binary,
+            ..
+        } => Own {
             binary: Some(*binary),
             ..plain
         },
-        Tree::NewArray(_, array, _) => Own {
+        Tree::NewArray { array, .. } => Own {
             array: Some(array),
             ..plain
         },
-        Tree::ArrayValue(_, array, _) => Own {
+        Tree::ArrayValue { array, .. } => Own {
             array: Some(array),
             ..plain
         },
-        Tree::ArraySelect(_, _, _, tpe) => Own {
+        Tree::ArraySelect { tpe, .. } => Own {
             tpe: Some(tpe),
             ..plain
         },
-        Tree::IsInstanceOf(_, _, tpe) => Own {
+        Tree::IsInstanceOf { tpe, .. } => Own {
             tpe: Some(tpe),
             ..plain
         },
-        Tree::AsInstanceOf(_, _, tpe) => Own {
+        Tree::AsInstanceOf { tpe, .. } => Own {
             tpe: Some(tpe),
             ..plain
         },
-        Tree::BooleanLiteral(_, mark) => Own {
+        Tree::BooleanLiteral { value: mark, .. } => Own {
             mark: *mark,
             ..plain
         },
-        Tree::CharLiteral(_, unit) => Own {
+        Tree::CharLiteral { value: unit, .. } => Own {
             unit: *unit,
             ..plain
         },
-        Tree::ByteLiteral(_, number) => Own {
+        Tree::ByteLiteral { value: number, .. } => Own {
             number: i64::from(*number),
             ..plain
         },
-        Tree::ShortLiteral(_, number) => Own {
+        Tree::ShortLiteral { value: number, .. } => Own {
             number: i64::from(*number),
             ..plain
         },
-        Tree::IntLiteral(_, number) => Own {
+        Tree::IntLiteral { value: number, .. } => Own {
             number: i64::from(*number),
             ..plain
         },
-        Tree::LongLiteral(_, number) => Own {
+        Tree::LongLiteral { value: number, .. } => Own {
             number: *number,
             ..plain
         },
-        Tree::StringLiteral(_, units) => Own {
+        Tree::StringLiteral { value: units, .. } => Own {
             units: units.as_slice(),
             ..plain
         },
-        Tree::VarRef(_, text, tpe) => Own {
+        Tree::VarRef {
+            name: text,
+            tpe,
+            ..
+        } => Own {
             text: text.text(),
             tpe: Some(tpe),
             ..plain
         },
-        Tree::This(_, tpe) => Own {
+        Tree::This { tpe, .. } => Own {
             tpe: Some(tpe),
             ..plain
         },
-        Tree::Skip(_)
-        | Tree::Block(_, _)
-        | Tree::Assign(_, _, _)
-        | Tree::While(_, _, _)
-        | Tree::DoWhile(_, _, _)
-        | Tree::TryFinally(_, _, _)
-        | Tree::Throw(_, _)
-        | Tree::ArrayLength(_, _)
-        | Tree::Undefined(_)
-        | Tree::Null(_)
-        | Tree::Log(_, _) => plain,
+        Tree::Skip { .. }
+        | Tree::Block { .. }
+        | Tree::Assign { .. }
+        | Tree::While { .. }
+        | Tree::DoWhile { .. }
+        | Tree::TryFinally { .. }
+        | Tree::Throw { .. }
+        | Tree::ArrayLength { .. }
+        | Tree::Undefined { .. }
+        | Tree::Null { .. }
+        | Tree::Log { .. } => plain,
     }
 }
 

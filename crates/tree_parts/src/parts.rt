@@ -24,46 +24,98 @@ pub fn parts_in(tree: &Tree) -> Parts<'_>
     ensures smaller { size_of_parts (seen result) < size (view tree.now) }
 {
     match tree {
-        Tree::VarDef(_, _, _, _, one)
-        | Tree::Labeled(_, _, _, one)
-        | Tree::Return(_, one, _)
-        | Tree::Throw(_, one)
-        | Tree::StoreModule(_, _, one)
-        | Tree::Select(_, one, _, _, _)
-        | Tree::UnaryOp(_, _, one)
-        | Tree::NewArray(_, _, one)
-        | Tree::ArrayLength(_, one)
-        | Tree::IsInstanceOf(_, one, _)
-        | Tree::AsInstanceOf(_, one, _)
-        | Tree::Log(_, one) => Parts::One(one),
-        Tree::Assign(_, one, two)
-        | Tree::While(_, one, two)
-        | Tree::DoWhile(_, one, two)
-        | Tree::TryCatch(_, one, _, two, _)
-        | Tree::TryFinally(_, one, two)
-        | Tree::BinaryOp(_, _, one, two)
-        | Tree::ArraySelect(_, one, two, _) => Parts::Two(one, two),
-        Tree::If(_, one, two, three, _) => Parts::Three(one, two, three),
-        Tree::Block(_, trees)
-        | Tree::New(_, _, _, trees)
-        | Tree::ApplyStatic(_, _, _, _, trees, _)
-        | Tree::ArrayValue(_, _, trees) => Parts::Many(trees),
-        Tree::Apply(_, one, _, trees, _) | Tree::ApplyStatically(_, one, _, _, _, trees, _) =>
-            Parts::OneAndMany(one, trees),
-        Tree::Match(_, one, cases, two, _) => Parts::Cases(one, cases, two),
-        Tree::Skip(_)
-        | Tree::LoadModule(_, _)
-        | Tree::SelectStatic(_, _, _, _)
-        | Tree::Undefined(_)
-        | Tree::Null(_)
-        | Tree::BooleanLiteral(_, _)
-        | Tree::CharLiteral(_, _)
-        | Tree::ByteLiteral(_, _)
-        | Tree::ShortLiteral(_, _)
-        | Tree::IntLiteral(_, _)
-        | Tree::LongLiteral(_, _)
-        | Tree::StringLiteral(_, _)
-        | Tree::VarRef(_, _, _)
-        | Tree::This(_, _) => Parts::None,
+        Tree::VarDef { value: one, .. }
+        | Tree::Labeled { body: one, .. }
+        | Tree::Return { value: one, .. }
+        | Tree::Throw { value: one, .. }
+        | Tree::StoreModule { value: one, .. }
+        | Tree::Select { object: one, .. }
+        | Tree::UnaryOp { operand: one, .. }
+        | Tree::NewArray { length: one, .. }
+        | Tree::ArrayLength { array: one, .. }
+        | Tree::IsInstanceOf { value: one, .. }
+        | Tree::AsInstanceOf { value: one, .. }
+        | Tree::Log { value: one, .. } => Parts::One(one),
+        Tree::Assign {
+            target: one,
+            value: two,
+            ..
+        }
+        | Tree::While {
+            condition: one,
+            body: two,
+            ..
+        }
+        | Tree::DoWhile {
+            body: one,
+            condition: two,
+            ..
+        }
+        | Tree::TryCatch {
+            block: one,
+            handler: two,
+            ..
+        }
+        | Tree::TryFinally {
+            block: one,
+            finalizer: two,
+            ..
+        }
+        | Tree::BinaryOp {
+            left: one,
+            right: two,
+            ..
+        }
+        | Tree::ArraySelect {
+            array: one,
+            index: two,
+            ..
+        } => Parts::Two(one, two),
+        Tree::If {
+            condition: one,
+            yes: two,
+            no: three,
+            ..
+        } => Parts::Three(one, two, three),
+        Tree::Block { trees, .. }
+        | Tree::New {
+            arguments: trees,
+            ..
+        }
+        | Tree::ApplyStatic {
+            arguments: trees,
+            ..
+        }
+        | Tree::ArrayValue { items: trees, .. } => Parts::Many(trees),
+        Tree::Apply {
+            receiver: one,
+            arguments: trees,
+            ..
+        }
+        | Tree::ApplyStatically {
+            receiver: one,
+            arguments: trees,
+            ..
+        } => Parts::OneAndMany(one, trees),
+        Tree::Match {
+            selector: one,
+            cases,
+            default: two,
+            ..
+        } => Parts::Cases(one, cases, two),
+        Tree::Skip { .. }
+        | Tree::LoadModule { .. }
+        | Tree::SelectStatic { .. }
+        | Tree::Undefined { .. }
+        | Tree::Null { .. }
+        | Tree::BooleanLiteral { .. }
+        | Tree::CharLiteral { .. }
+        | Tree::ByteLiteral { .. }
+        | Tree::ShortLiteral { .. }
+        | Tree::IntLiteral { .. }
+        | Tree::LongLiteral { .. }
+        | Tree::StringLiteral { .. }
+        | Tree::VarRef { .. }
+        | Tree::This { .. } => Parts::None,
     }
 }

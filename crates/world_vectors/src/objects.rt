@@ -66,9 +66,9 @@ fn is_of_object(tree: &Tree) -> bool
     ensures { result ≡ true → IsOfObject (view tree.now) }
 {
     match tree {
-        Tree::Select(_, object, _, _, _)
-        | Tree::ArrayLength(_, object)
-        | Tree::ArraySelect(_, object, _, _) => is_object(object),
+        Tree::Select { object, .. }
+        | Tree::ArrayLength { array: object, .. }
+        | Tree::ArraySelect { array: object, .. } => is_object(object),
         _ => true,
     }
 }
@@ -78,23 +78,23 @@ fn is_object(tree: &Tree) -> bool
     ensures { result ≡ true → is_sure_type (type_of_term (view tree.now)) ≡ false }
 {
     match tree {
-        Tree::This(_, tpe)
-        | Tree::VarRef(_, _, tpe)
-        | Tree::Labeled(_, _, tpe, _)
-        | Tree::If(_, _, _, _, tpe)
-        | Tree::TryCatch(_, _, _, _, tpe)
-        | Tree::Match(_, _, _, _, tpe)
-        | Tree::Select(_, _, _, _, tpe)
-        | Tree::SelectStatic(_, _, _, tpe)
-        | Tree::Apply(_, _, _, _, tpe)
-        | Tree::ApplyStatically(_, _, _, _, _, _, tpe)
-        | Tree::ApplyStatic(_, _, _, _, _, tpe)
-        | Tree::ArraySelect(_, _, _, tpe)
-        | Tree::AsInstanceOf(_, _, tpe) => !is_primitive(tpe),
-        Tree::New(_, _, _, _)
-        | Tree::LoadModule(_, _)
-        | Tree::NewArray(_, _, _)
-        | Tree::ArrayValue(_, _, _) => true,
+        Tree::This { tpe, .. }
+        | Tree::VarRef { tpe, .. }
+        | Tree::Labeled { tpe, .. }
+        | Tree::If { tpe, .. }
+        | Tree::TryCatch { tpe, .. }
+        | Tree::Match { tpe, .. }
+        | Tree::Select { tpe, .. }
+        | Tree::SelectStatic { tpe, .. }
+        | Tree::Apply { tpe, .. }
+        | Tree::ApplyStatically { tpe, .. }
+        | Tree::ApplyStatic { tpe, .. }
+        | Tree::ArraySelect { tpe, .. }
+        | Tree::AsInstanceOf { tpe, .. } => !is_primitive(tpe),
+        Tree::New { .. }
+        | Tree::LoadModule { .. }
+        | Tree::NewArray { .. }
+        | Tree::ArrayValue { .. } => true,
         _ => false,
     }
 }

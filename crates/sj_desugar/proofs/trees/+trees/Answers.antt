@@ -40,11 +40,11 @@ statements_of-returns-in-If t c =
     let s = is_among a.locals.now.sure.now in
     let ls = map target_view a.targets.now in
     let k = destination_view a.destination.now in
-    let v : view a.tree.now ≡ if_then n.position (view n.condition.value) (view n.yes.value) (view n.no.value) n.field-4 = ap view (n.is ∙ sym (rolls-If n.position n.condition n.yes n.no n.field-4)) ∙ fold-roll-Tree Term Case view_step case_step (Tree-F.If n.position n.condition n.yes n.no n.field-4) in
+    let v : view a.tree.now ≡ if_then n.position (view n.condition.value) (view n.yes.value) (view n.no.value) n.tpe = ap view (n.is ∙ sym (rolls-If n.position n.condition n.yes n.no n.tpe)) ∙ fold-roll-Tree Term Case view_step case_step (Tree-F.If n.position n.condition n.yes n.no n.tpe) in
     let e_test : placed_view c.in_ok-test-in-If.test ≡ comes_to m s ls true a.next (view n.condition.value) = subst (λ (x : Tree). placed_view c.in_ok-test-in-If.test ≡ comes_to m s ls true a.next (view x)) c.deref-in-If.ensures c.in_ok-test-in-If.ensures in
     let e_first : code_view c.in_ok-first-in-If.first ≡ into m s ls k c.in_ok-test-in-If.test.next (view n.yes.value) = subst (λ (x : Tree). code_view c.in_ok-first-in-If.first ≡ into m s ls k c.in_ok-test-in-If.test.next (view x)) c.deref-in-If-2.ensures c.in_ok-first-in-If.ensures in
     let e_second : code_view c.in_ok-second-in-If.second ≡ into m s ls k c.in_ok-first-in-If.first.next (view n.no.value) = subst (λ (x : Tree). code_view c.in_ok-second-in-If.second ≡ into m s ls k c.in_ok-first-in-If.first.next (view x)) c.deref-in-If-3.ensures c.in_ok-second-in-If.ensures in
-    subst (λ x. IfOk c.branched.result (λ w. code_view w ≡ x)) (sym (ap (into m s ls k a.next) v ∙ if-joins m s ls k a.next n.position (placed_view c.in_ok-test-in-If.test) (code_view c.in_ok-first-in-If.first) (code_view c.in_ok-second-in-If.second) (view n.condition.value) (view n.yes.value) (view n.no.value) n.field-4 e_test e_first e_second)) c.branched.ensures
+    subst (λ x. IfOk c.branched.result (λ w. code_view w ≡ x)) (sym (ap (into m s ls k a.next) v ∙ if-joins m s ls k a.next n.position (placed_view c.in_ok-test-in-If.test) (code_view c.in_ok-first-in-If.first) (code_view c.in_ok-second-in-If.second) (view n.condition.value) (view n.yes.value) (view n.no.value) n.tpe e_test e_first e_second)) c.branched.ensures
 
 pub statements_of-returns-in-VarDef : goal.statements_of-returns-in-VarDef
 statements_of-returns-in-VarDef t c =
@@ -54,12 +54,12 @@ statements_of-returns-in-VarDef t c =
     let s = is_among a.locals.now.sure.now in
     let ls = map target_view a.targets.now in
     let k = destination_view a.destination.now in
-    let v : view a.tree.now ≡ var_def n.position n.name n.tpe n.field-3 (view n.value.value) = ap view (n.is ∙ sym (rolls-VarDef n.position n.name n.tpe n.field-3 n.value)) ∙ fold-roll-Tree Term Case view_step case_step (Tree-F.VarDef n.position n.name n.tpe n.field-3 n.value) in
+    let v : view a.tree.now ≡ var_def n.position n.name n.tpe n.mutable (view n.value.value) = ap view (n.is ∙ sym (rolls-VarDef n.position n.name n.tpe n.mutable n.value)) ∙ fold-roll-Tree Term Case view_step case_step (Tree-F.VarDef n.position n.name n.tpe n.mutable n.value) in
     let simple : c.is_plain-simple.result ≡ is_plain (view n.value.value) = subst (λ (x : Tree). c.is_plain-simple.result ≡ is_plain (view x)) c.deref.ensures c.is_plain-simple.ensures in
     let d = destination_view c.in_ok-local-in-VarDef.local in
     let code = code_view c.in_ok-value_code-in-VarDef.value_code in
     let e_value : code ≡ into m s ls d a.next (view n.value.value) = subst (λ (x : Tree). code ≡ into m s ls d a.next (view x)) c.deref-else-simple.ensures c.in_ok-value_code-in-VarDef.ensures in
-    subst (λ x. IfOk c.declared.result (λ w. code_view w ≡ x)) (sym (ap (into m s ls k a.next) v ∙ declared-joins m s ls k a.next n.position d code n.name n.tpe n.field-3 (view n.value.value) (sym simple ∙ c.if-simple.false) c.in_ok-local-in-VarDef.ensures e_value)) c.declared.ensures
+    subst (λ x. IfOk c.declared.result (λ w. code_view w ≡ x)) (sym (ap (into m s ls k a.next) v ∙ declared-joins m s ls k a.next n.position d code n.name n.tpe n.mutable (view n.value.value) (sym simple ∙ c.if-simple.false) c.in_ok-local-in-VarDef.ensures e_value)) c.declared.ensures
 
 pub statements_of-returns-in-TryCatch : goal.statements_of-returns-in-TryCatch
 statements_of-returns-in-TryCatch t c =
@@ -69,10 +69,10 @@ statements_of-returns-in-TryCatch t c =
     let s = is_among a.locals.now.sure.now in
     let ls = map target_view a.targets.now in
     let k = destination_view a.destination.now in
-    let v : view a.tree.now ≡ try_catch n.position (view n.block.value) n.name (view n.handler.value) n.field-4 = ap view (n.is ∙ sym (rolls-TryCatch n.position n.block n.name n.handler n.field-4)) ∙ fold-roll-Tree Term Case view_step case_step (Tree-F.TryCatch n.position n.block n.name n.handler n.field-4) in
+    let v : view a.tree.now ≡ try_catch n.position (view n.block.value) n.name (view n.handler.value) n.tpe = ap view (n.is ∙ sym (rolls-TryCatch n.position n.block n.name n.handler n.tpe)) ∙ fold-roll-Tree Term Case view_step case_step (Tree-F.TryCatch n.position n.block n.name n.handler n.tpe) in
     let e_first : code_view c.in_ok-first-in-TryCatch.first ≡ into m s ls k a.next (view n.block.value) = subst (λ (x : Tree). code_view c.in_ok-first-in-TryCatch.first ≡ into m s ls k a.next (view x)) c.deref-in-TryCatch.ensures c.in_ok-first-in-TryCatch.ensures in
     let e_second : code_view c.in_ok-second-in-TryCatch.second ≡ into m s ls k c.in_ok-first-in-TryCatch.first.next (view n.handler.value) = subst (λ (x : Tree). code_view c.in_ok-second-in-TryCatch.second ≡ into m s ls k c.in_ok-first-in-TryCatch.first.next (view x)) c.deref-in-TryCatch-2.ensures c.in_ok-second-in-TryCatch.ensures in
-    subst (λ x. IfOk c.tried.result (λ w. code_view w ≡ x)) (sym (ap (into m s ls k a.next) v ∙ try-joins m s ls k a.next n.position (code_view c.in_ok-first-in-TryCatch.first) (code_view c.in_ok-second-in-TryCatch.second) (view n.block.value) n.name (view n.handler.value) n.field-4 e_first e_second)) c.tried.ensures
+    subst (λ x. IfOk c.tried.result (λ w. code_view w ≡ x)) (sym (ap (into m s ls k a.next) v ∙ try-joins m s ls k a.next n.position (code_view c.in_ok-first-in-TryCatch.first) (code_view c.in_ok-second-in-TryCatch.second) (view n.block.value) n.name (view n.handler.value) n.tpe e_first e_second)) c.tried.ensures
 
 pub statements_of-returns-in-TryFinally : goal.statements_of-returns-in-TryFinally
 statements_of-returns-in-TryFinally t c =
@@ -144,11 +144,11 @@ statements_of-returns-in-Match t c =
     let s = is_among a.locals.now.sure.now in
     let ls = map target_view a.targets.now in
     let k = destination_view a.destination.now in
-    let v : view a.tree.now ≡ match_on n.position (view n.selector.value) (cases_view n.cases.items) (view n.default.value) n.field-4 = ap view (n.is ∙ sym (rolls-Match n.position n.selector n.cases n.default n.field-4)) ∙ fold-roll-Tree Term Case view_step case_step (Tree-F.Match n.position n.selector n.cases n.default n.field-4) in
+    let v : view a.tree.now ≡ match_on n.position (view n.selector.value) (cases_view n.cases.items) (view n.default.value) n.tpe = ap view (n.is ∙ sym (rolls-Match n.position n.selector n.cases n.default n.tpe)) ∙ fold-roll-Tree Term Case view_step case_step (Tree-F.Match n.position n.selector n.cases n.default n.tpe) in
     let e_selected : placed_view c.in_ok-selected-in-Match.selected ≡ comes_to m s ls true a.next (view n.selector.value) = subst (λ (x : Tree). placed_view c.in_ok-selected-in-Match.selected ≡ comes_to m s ls true a.next (view x)) c.deref-in-Match.ensures c.in_ok-selected-in-Match.ensures in
     let e_branches : branches_view c.in_ok-branches-in-Match.branches ≡ cases m s ls k c.in_ok-selected-in-Match.selected.next (cases_view n.cases.items) = subst (λ xs. branches_view c.in_ok-branches-in-Match.branches ≡ cases m s ls k c.in_ok-selected-in-Match.selected.next (cases_view xs)) c.deref-in-Match-2.ensures.value c.in_ok-branches-in-Match.ensures in
     let e_last : code_view c.in_ok-last-in-Match.last ≡ into m s ls k c.in_ok-branches-in-Match.branches.next (view n.default.value) = subst (λ (x : Tree). code_view c.in_ok-last-in-Match.last ≡ into m s ls k c.in_ok-branches-in-Match.branches.next (view x)) c.deref-in-Match-3.ensures c.in_ok-last-in-Match.ensures in
-    subst (λ x. IfOk c.switched.result (λ w. code_view w ≡ x)) (sym (ap (into m s ls k a.next) v ∙ match-joins m s ls k a.next n.position (placed_view c.in_ok-selected-in-Match.selected) (branches_view c.in_ok-branches-in-Match.branches) (code_view c.in_ok-last-in-Match.last) (view n.selector.value) (cases_view n.cases.items) (view n.default.value) n.field-4 e_selected e_branches e_last)) c.switched.ensures
+    subst (λ x. IfOk c.switched.result (λ w. code_view w ≡ x)) (sym (ap (into m s ls k a.next) v ∙ match-joins m s ls k a.next n.position (placed_view c.in_ok-selected-in-Match.selected) (branches_view c.in_ok-branches-in-Match.branches) (code_view c.in_ok-last-in-Match.last) (view n.selector.value) (cases_view n.cases.items) (view n.default.value) n.tpe e_selected e_branches e_last)) c.switched.ensures
 
 pub statements_of-returns-in-DoWhile : goal.statements_of-returns-in-DoWhile
 statements_of-returns-in-DoWhile t c =
@@ -165,7 +165,7 @@ statements_of-returns-in-DoWhile t c =
 
 pub statements_of-cases_of-requires : goal.statements_of-cases_of-requires
 statements_of-cases_of-requires t c =
-    (rw c.deref-in-Match-2.ensures.value (omega (arith, ap the_size c.in-Match.is ∙ sized-Match c.in-Match.position c.in-Match.selector c.in-Match.cases c.in-Match.default c.in-Match.field-4)), tt)
+    (rw c.deref-in-Match-2.ensures.value (omega (arith, ap the_size c.in-Match.is ∙ sized-Match c.in-Match.position c.in-Match.selector c.in-Match.cases c.in-Match.default c.in-Match.tpe)), tt)
 
 pub statements_of-returns-in-While : goal.statements_of-returns-in-While
 statements_of-returns-in-While t c =
@@ -441,7 +441,7 @@ owner_of-returns-in-Select t c =
     let m = is_among a.locals.now.mutable.now in
     let s = is_among a.locals.now.sure.now in
     let ls = map target_view a.targets.now in
-    let there : view a.target.now ≡ select r.field-0 (view r.object.value) r.field-2 r.field-3 r.field-4 = ap view (r.is ∙ sym (rolls-Select r.field-0 r.object r.field-2 r.field-3 r.field-4)) ∙ fold-roll-Tree Term Case view_step case_step (Tree-F.Select r.field-0 r.object r.field-2 r.field-3 r.field-4) in
+    let there : view a.target.now ≡ select r.position (view r.object.value) r.class r.field r.tpe = ap view (r.is ∙ sym (rolls-Select r.position r.object r.class r.field r.tpe)) ∙ fold-roll-Tree Term Case view_step case_step (Tree-F.Select r.position r.object r.class r.field r.tpe) in
     subst (λ x. IfOk c.receiver_of.result (λ p. placed_view p ≡ x)) (ap (λ (x : Tree). comes_received m s ls a.rest_is_plain a.next (view x)) c.deref.ensures ∙ sym (ap (owner_place m s ls a.rest_is_plain a.next) there)) c.receiver_of.ensures
 
 pub owner_of-returns-in-ArraySelect : goal.owner_of-returns-in-ArraySelect
@@ -451,7 +451,7 @@ owner_of-returns-in-ArraySelect t c =
     let m = is_among a.locals.now.mutable.now in
     let s = is_among a.locals.now.sure.now in
     let ls = map target_view a.targets.now in
-    let there : view a.target.now ≡ array_select r.field-0 (view r.array.value) (view r.index.value) r.field-3 = ap view (r.is ∙ sym (rolls-ArraySelect r.field-0 r.array r.index r.field-3)) ∙ fold-roll-Tree Term Case view_step case_step (Tree-F.ArraySelect r.field-0 r.array r.index r.field-3) in
+    let there : view a.target.now ≡ array_select r.position (view r.array.value) (view r.index.value) r.tpe = ap view (r.is ∙ sym (rolls-ArraySelect r.position r.array r.index r.tpe)) ∙ fold-roll-Tree Term Case view_step case_step (Tree-F.ArraySelect r.position r.array r.index r.tpe) in
     let rest : c.are_both-rest.result ≡ (is_plain (view r.index.value) && a.rest_is_plain) = c.are_both-rest.ensures ∙ ap (λ b. b && a.rest_is_plain) (subst (λ (x : Tree). c.is_plain-index_plain.result ≡ is_plain (view x)) c.deref-in-ArraySelect.ensures c.is_plain-index_plain.ensures) in
     subst (λ x. IfOk c.receiver_of-in-ArraySelect.result (λ p. placed_view p ≡ x)) ((λ i. comes_received m s ls (rest i) a.next (view (c.deref-in-ArraySelect-2.ensures i))) ∙ sym (ap (owner_place m s ls a.rest_is_plain a.next) there)) c.receiver_of-in-ArraySelect.ensures
 
@@ -462,7 +462,7 @@ index_of-returns-in-ArraySelect t c =
     let m = is_among a.locals.now.mutable.now in
     let s = is_among a.locals.now.sure.now in
     let ls = map target_view a.targets.now in
-    let there : view a.target.now ≡ array_select r.field-0 (view r.field-1.value) (view r.index.value) r.field-3 = ap view (r.is ∙ sym (rolls-ArraySelect r.field-0 r.field-1 r.index r.field-3)) ∙ fold-roll-Tree Term Case view_step case_step (Tree-F.ArraySelect r.field-0 r.field-1 r.index r.field-3) in
+    let there : view a.target.now ≡ array_select r.position (view r.array.value) (view r.index.value) r.tpe = ap view (r.is ∙ sym (rolls-ArraySelect r.position r.array r.index r.tpe)) ∙ fold-roll-Tree Term Case view_step case_step (Tree-F.ArraySelect r.position r.array r.index r.tpe) in
     subst (λ x. IfOk c.operand_of.result (λ p. placed_view p ≡ x)) (ap (λ (x : Tree). comes_to m s ls a.rest_is_plain a.next (view x)) c.deref.ensures ∙ sym (ap (index_place m s ls a.rest_is_plain a.next) there)) c.operand_of.ensures
 
 pub assignment_of-returns-in_ok-new_value-in-VarRef : goal.assignment_of-returns-in_ok-new_value-in-VarRef
@@ -473,7 +473,7 @@ assignment_of-returns-in_ok-new_value-in-VarRef t c =
     let s = is_among a.locals.now.sure.now in
     let ls = map target_view a.targets.now in
     let e = view a.value.now in
-    let there : view a.target.now ≡ var_ref r.field-0 r.name r.tpe = ap view (r.is ∙ sym (rolls-VarRef r.field-0 r.name r.tpe)) ∙ fold-roll-Tree Term Case view_step case_step (Tree-F.VarRef r.field-0 r.name r.tpe) in
+    let there : view a.target.now ≡ var_ref r.position r.name r.tpe = ap view (r.is ∙ sym (rolls-VarRef r.position r.name r.tpe)) ∙ fold-roll-Tree Term Case view_step case_step (Tree-F.VarRef r.position r.name r.tpe) in
     subst (λ x. IfOk c.assigned.result (λ w. code_view w ≡ x)) ((λ i. behind (c.in_ok-new_value-in-VarRef.ensures i) (λ g. one (assign_to (Some a.position) (named r.name) (coerced r.tpe (type_of_term e) g)))) ∙ sym (ap (λ x. assigned_code m s ls a.next a.position x e (placed_view a.owner) (placed_view a.index)) there)) c.assigned.ensures
 
 pub assignment_of-returns-in_ok-new_value-in-Select : goal.assignment_of-returns-in_ok-new_value-in-Select
@@ -484,7 +484,7 @@ assignment_of-returns-in_ok-new_value-in-Select t c =
     let s = is_among a.locals.now.sure.now in
     let ls = map target_view a.targets.now in
     let e = view a.value.now in
-    let there : view a.target.now ≡ select r.field-0 (view r.field-1.value) r.class r.name r.tpe = ap view (r.is ∙ sym (rolls-Select r.field-0 r.field-1 r.class r.name r.tpe)) ∙ fold-roll-Tree Term Case view_step case_step (Tree-F.Select r.field-0 r.field-1 r.class r.name r.tpe) in
+    let there : view a.target.now ≡ select r.position (view r.object.value) r.class r.name r.tpe = ap view (r.is ∙ sym (rolls-Select r.position r.object r.class r.name r.tpe)) ∙ fold-roll-Tree Term Case view_step case_step (Tree-F.Select r.position r.object r.class r.name r.tpe) in
     subst (λ x. IfOk c.field_set.result (λ w. code_view w ≡ x)) ((λ i. behind (placed_view a.owner) (λ g x. behind (c.in_ok-new_value-in-Select.ensures i) (λ h. one (core.assign_field (Some a.position) g r.class r.name (coerced r.tpe (type_of_term e) h))))) ∙ sym (ap (λ x. assigned_code m s ls a.next a.position x e (placed_view a.owner) (placed_view a.index)) there)) c.field_set.ensures
 
 pub assignment_of-returns-in_ok-new_value-in-SelectStatic : goal.assignment_of-returns-in_ok-new_value-in-SelectStatic
@@ -495,7 +495,7 @@ assignment_of-returns-in_ok-new_value-in-SelectStatic t c =
     let s = is_among a.locals.now.sure.now in
     let ls = map target_view a.targets.now in
     let e = view a.value.now in
-    let there : view a.target.now ≡ select_static r.field-0 r.class r.name r.tpe = ap view (r.is ∙ sym (rolls-SelectStatic r.field-0 r.class r.name r.tpe)) ∙ fold-roll-Tree Term Case view_step case_step (Tree-F.SelectStatic r.field-0 r.class r.name r.tpe) in
+    let there : view a.target.now ≡ select_static r.position r.class r.name r.tpe = ap view (r.is ∙ sym (rolls-SelectStatic r.position r.class r.name r.tpe)) ∙ fold-roll-Tree Term Case view_step case_step (Tree-F.SelectStatic r.position r.class r.name r.tpe) in
     subst (λ x. IfOk c.static_set.result (λ w. code_view w ≡ x)) ((λ i. behind (c.in_ok-new_value-in-SelectStatic.ensures i) (λ g. one (core.assign_static (Some a.position) r.class r.name (coerced r.tpe (type_of_term e) g)))) ∙ sym (ap (λ x. assigned_code m s ls a.next a.position x e (placed_view a.owner) (placed_view a.index)) there)) c.static_set.ensures
 
 pub assignment_of-returns-in_ok-new_value-in-ArraySelect : goal.assignment_of-returns-in_ok-new_value-in-ArraySelect
@@ -506,5 +506,5 @@ assignment_of-returns-in_ok-new_value-in-ArraySelect t c =
     let s = is_among a.locals.now.sure.now in
     let ls = map target_view a.targets.now in
     let e = view a.value.now in
-    let there : view a.target.now ≡ array_select r.field-0 (view r.field-1.value) (view r.field-2.value) r.tpe = ap view (r.is ∙ sym (rolls-ArraySelect r.field-0 r.field-1 r.field-2 r.tpe)) ∙ fold-roll-Tree Term Case view_step case_step (Tree-F.ArraySelect r.field-0 r.field-1 r.field-2 r.tpe) in
+    let there : view a.target.now ≡ array_select r.position (view r.array.value) (view r.index.value) r.tpe = ap view (r.is ∙ sym (rolls-ArraySelect r.position r.array r.index r.tpe)) ∙ fold-roll-Tree Term Case view_step case_step (Tree-F.ArraySelect r.position r.array r.index r.tpe) in
     subst (λ x. IfOk c.element_set.result (λ w. code_view w ≡ x)) ((λ i. behind (placed_view a.owner) (λ g n. behind (placed_view a.index) (λ h x. behind (c.in_ok-new_value-in-ArraySelect.ensures i) (λ v. one (core.assign_element (Some a.position) r.tpe g h (coerced r.tpe (type_of_term e) v)))))) ∙ sym (ap (λ x. assigned_code m s ls a.next a.position x e (placed_view a.owner) (placed_view a.index)) there)) c.element_set.ensures

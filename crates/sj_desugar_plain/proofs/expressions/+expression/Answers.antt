@@ -18,7 +18,7 @@ pub expression_of-returns-in_ok-value-in-IsInstanceOf : goal.expression_of-retur
 expression_of-returns-in_ok-value-in-IsInstanceOf t c =
     let n = c.in-IsInstanceOf in
     let s = is_among c.args.sure.now in
-    let whole : view c.args.tree.now ≡ is_instance_of n.field-0 (view n.value.value) n.tpe = ap view (n.is ∙ sym (rolls-IsInstanceOf n.field-0 n.value n.tpe)) ∙ fold-roll-Tree Term Case view_step case_step (Tree-F.IsInstanceOf n.field-0 n.value n.tpe) in
+    let whole : view c.args.tree.now ≡ is_instance_of n.position (view n.value.value) n.tpe = ap view (n.is ∙ sym (rolls-IsInstanceOf n.position n.value n.tpe)) ∙ fold-roll-Tree Term Case view_step case_step (Tree-F.IsInstanceOf n.position n.value n.tpe) in
     let part : expression_view c.in_ok-value-in-IsInstanceOf.value.value ≡ coerced Any (type_of_term (view n.value.value)) (expression_of s (view n.value.value)) = subst (λ (x : Tree). expression_view c.in_ok-value-in-IsInstanceOf.value.value ≡ coerced Any (type_of_term (view x)) (expression_of s (view x))) c.deref-in-IsInstanceOf.ensures c.in_ok-value-in-IsInstanceOf.ensures in
     subst (λ e. IfOk c.tested.result (λ x. expression_view x ≡ e)) (ap (test_of n.tpe) part ∙ sym (ap (expression_of s) whole)) c.tested.ensures
 
@@ -26,6 +26,6 @@ pub expression_of-returns-in_ok-value-in-AsInstanceOf : goal.expression_of-retur
 expression_of-returns-in_ok-value-in-AsInstanceOf t c =
     let n = c.in-AsInstanceOf in
     let s = is_among c.args.sure.now in
-    let whole : view c.args.tree.now ≡ as_instance_of n.field-0 (view n.value.value) n.tpe = ap view (n.is ∙ sym (rolls-AsInstanceOf n.field-0 n.value n.tpe)) ∙ fold-roll-Tree Term Case view_step case_step (Tree-F.AsInstanceOf n.field-0 n.value n.tpe) in
+    let whole : view c.args.tree.now ≡ as_instance_of n.position (view n.value.value) n.tpe = ap view (n.is ∙ sym (rolls-AsInstanceOf n.position n.value n.tpe)) ∙ fold-roll-Tree Term Case view_step case_step (Tree-F.AsInstanceOf n.position n.value n.tpe) in
     let part : expression_view c.in_ok-value-in-AsInstanceOf.value.value ≡ coerced Any (type_of_term (view n.value.value)) (expression_of s (view n.value.value)) = subst (λ (x : Tree). expression_view c.in_ok-value-in-AsInstanceOf.value.value ≡ coerced Any (type_of_term (view x)) (expression_of s (view x))) c.deref-in-AsInstanceOf.ensures c.in_ok-value-in-AsInstanceOf.ensures in
     subst (λ e. IfOk c.cast.result (λ x. expression_view x ≡ e)) (ap (cast_of n.tpe) part ∙ sym (ap (expression_of s) whole)) c.cast.ensures

@@ -14,7 +14,7 @@ use Rattle.sj_emit_expr.specs.Known.{lookup_of}
 pub add_uses_of-returns-in_ok-add_uses_of_all-in-If : goal.add_uses_of-returns-in_ok-add_uses_of_all-in-If
 add_uses_of-returns-in_ok-add_uses_of_all-in-If t c =
     let n = c.in-If in
-    let v : statement_view c.args.statement.now ≡ if_of n.field-0 (expression_view n.test) (statements_view n.yes.items) (statements_view n.no.items) = ap statement_view (n.is ∙ sym (rolls-If n.field-0 n.test n.yes n.no)) ∙ fold-roll-CoreStatement Statement Case statement_step case_step (CoreStatement-F.If n.field-0 n.test n.yes n.no) in
+    let v : statement_view c.args.statement.now ≡ if_of n.position (expression_view n.test) (statements_view n.yes.items) (statements_view n.no.items) = ap statement_view (n.is ∙ sym (rolls-If n.position n.test n.yes n.no)) ∙ fold-roll-CoreStatement Statement Case statement_step case_step (CoreStatement-F.If n.position n.test n.yes n.no) in
     let first = uses_in (lookup_of c.args.known.now) (expression_view n.test) in
     let second = uses_of_all (lookup_of c.args.known.now) (statements_view c.deref.result.now) in
     let third = uses_of_all (lookup_of c.args.known.now) (statements_view c.deref-in-If.result.now) in
@@ -24,7 +24,7 @@ add_uses_of-returns-in_ok-add_uses_of_all-in-If t c =
 pub add_uses_of-returns-in_ok-add_uses_in-in-While : goal.add_uses_of-returns-in_ok-add_uses_in-in-While
 add_uses_of-returns-in_ok-add_uses_in-in-While t c =
     let n = c.in-While in
-    let v : statement_view c.args.statement.now ≡ while_of n.field-0 (expression_view n.test) (statements_view n.body.items) = ap statement_view (n.is ∙ sym (rolls-While n.field-0 n.test n.body)) ∙ fold-roll-CoreStatement Statement Case statement_step case_step (CoreStatement-F.While n.field-0 n.test n.body) in
+    let v : statement_view c.args.statement.now ≡ while_of n.position (expression_view n.test) (statements_view n.body.items) = ap statement_view (n.is ∙ sym (rolls-While n.position n.test n.body)) ∙ fold-roll-CoreStatement Statement Case statement_step case_step (CoreStatement-F.While n.position n.test n.body) in
     let first = uses_in (lookup_of c.args.known.now) (expression_view n.test) in
     let second = uses_of_all (lookup_of c.args.known.now) (statements_view c.deref-in-While.result.now) in
     let parts : first ++ second ≡ uses_of (lookup_of c.args.known.now) (statement_view c.args.statement.now) = rw (v, c.deref-in-While.ensures.value) refl in
@@ -33,7 +33,7 @@ add_uses_of-returns-in_ok-add_uses_in-in-While t c =
 pub add_uses_of-returns-in_ok-add_uses_of_cases-in-Switch : goal.add_uses_of-returns-in_ok-add_uses_of_cases-in-Switch
 add_uses_of-returns-in_ok-add_uses_of_cases-in-Switch t c =
     let n = c.in-Switch in
-    let v : statement_view c.args.statement.now ≡ switch_of n.field-0 (expression_view n.selector) (cases_view n.cases.items) (statements_view n.default.items) = ap statement_view (n.is ∙ sym (rolls-Switch n.field-0 n.selector n.cases n.default)) ∙ fold-roll-CoreStatement Statement Case statement_step case_step (CoreStatement-F.Switch n.field-0 n.selector n.cases n.default) in
+    let v : statement_view c.args.statement.now ≡ switch_of n.position (expression_view n.selector) (cases_view n.cases.items) (statements_view n.default.items) = ap statement_view (n.is ∙ sym (rolls-Switch n.position n.selector n.cases n.default)) ∙ fold-roll-CoreStatement Statement Case statement_step case_step (CoreStatement-F.Switch n.position n.selector n.cases n.default) in
     let first = uses_in (lookup_of c.args.known.now) (expression_view n.selector) in
     let second = uses_of_cases (lookup_of c.args.known.now) (cases_view c.deref-in-Switch.result.now) in
     let third = uses_of_all (lookup_of c.args.known.now) (statements_view c.deref-in-Switch-2.result.now) in
@@ -46,7 +46,7 @@ add_uses_of_cases-loop-each-preserved t c = case-step (lookup_of c.args.known.no
 pub add_uses_of-returns-in_ok-add_uses_in-in-AssignField : goal.add_uses_of-returns-in_ok-add_uses_in-in-AssignField
 add_uses_of-returns-in_ok-add_uses_in-in-AssignField t c =
     let n = c.in-AssignField in
-    let v : statement_view c.args.statement.now ≡ assign_field n.field-0 (expression_view n.object) n.field-2 n.field-3 (expression_view n.value) = ap statement_view (n.is ∙ sym (rolls-AssignField n.field-0 n.object n.field-2 n.field-3 n.value)) ∙ fold-roll-CoreStatement Statement Case statement_step case_step (CoreStatement-F.AssignField n.field-0 n.object n.field-2 n.field-3 n.value) in
+    let v : statement_view c.args.statement.now ≡ assign_field n.position (expression_view n.object) n.class n.field (expression_view n.value) = ap statement_view (n.is ∙ sym (rolls-AssignField n.position n.object n.class n.field n.value)) ∙ fold-roll-CoreStatement Statement Case statement_step case_step (CoreStatement-F.AssignField n.position n.object n.class n.field n.value) in
     let first = uses_in (lookup_of c.args.known.now) (expression_view n.object) in
     let second = uses_in (lookup_of c.args.known.now) (expression_view n.value) in
     let parts : first ++ second ≡ uses_of (lookup_of c.args.known.now) (statement_view c.args.statement.now) = rw (v) refl in
@@ -55,7 +55,7 @@ add_uses_of-returns-in_ok-add_uses_in-in-AssignField t c =
 pub add_uses_of-returns-in_ok-add_uses_of_all-in-Try : goal.add_uses_of-returns-in_ok-add_uses_of_all-in-Try
 add_uses_of-returns-in_ok-add_uses_of_all-in-Try t c =
     let n = c.in-Try in
-    let v : statement_view c.args.statement.now ≡ try_of n.field-0 (statements_view n.block.items) (variable_view n.field-2) (statements_view n.handler.items) = ap statement_view (n.is ∙ sym (rolls-Try n.field-0 n.block n.field-2 n.handler)) ∙ fold-roll-CoreStatement Statement Case statement_step case_step (CoreStatement-F.Try n.field-0 n.block n.field-2 n.handler) in
+    let v : statement_view c.args.statement.now ≡ try_of n.position (statements_view n.block.items) (variable_view n.variable) (statements_view n.handler.items) = ap statement_view (n.is ∙ sym (rolls-Try n.position n.block n.variable n.handler)) ∙ fold-roll-CoreStatement Statement Case statement_step case_step (CoreStatement-F.Try n.position n.block n.variable n.handler) in
     let first = uses_of_all (lookup_of c.args.known.now) (statements_view c.deref-in-Try.result.now) in
     let second = uses_of_all (lookup_of c.args.known.now) (statements_view c.deref-in-Try-2.result.now) in
     let parts : first ++ second ≡ uses_of (lookup_of c.args.known.now) (statement_view c.args.statement.now) = rw (v, c.deref-in-Try.ensures.value, c.deref-in-Try-2.ensures.value) refl in
@@ -64,7 +64,7 @@ add_uses_of-returns-in_ok-add_uses_of_all-in-Try t c =
 pub add_uses_of-returns-in_ok-add_uses_of_all-in-Finally : goal.add_uses_of-returns-in_ok-add_uses_of_all-in-Finally
 add_uses_of-returns-in_ok-add_uses_of_all-in-Finally t c =
     let n = c.in-Finally in
-    let v : statement_view c.args.statement.now ≡ finally_of n.field-0 (statements_view n.block.items) (statements_view n.finalizer.items) = ap statement_view (n.is ∙ sym (rolls-Finally n.field-0 n.block n.finalizer)) ∙ fold-roll-CoreStatement Statement Case statement_step case_step (CoreStatement-F.Finally n.field-0 n.block n.finalizer) in
+    let v : statement_view c.args.statement.now ≡ finally_of n.position (statements_view n.block.items) (statements_view n.finalizer.items) = ap statement_view (n.is ∙ sym (rolls-Finally n.position n.block n.finalizer)) ∙ fold-roll-CoreStatement Statement Case statement_step case_step (CoreStatement-F.Finally n.position n.block n.finalizer) in
     let first = uses_of_all (lookup_of c.args.known.now) (statements_view c.deref-in-Finally.result.now) in
     let second = uses_of_all (lookup_of c.args.known.now) (statements_view c.deref-in-Finally-2.result.now) in
     let parts : first ++ second ≡ uses_of (lookup_of c.args.known.now) (statement_view c.args.statement.now) = rw (v, c.deref-in-Finally.ensures.value, c.deref-in-Finally-2.ensures.value) refl in
