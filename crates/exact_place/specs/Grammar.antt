@@ -4,20 +4,7 @@ use Rattle.std.specs.Prelude.{◌≡◌, ℕ, Bool, true, false, List, [], ◌�
 abbrev pub Spelling : Type 0 → Type 1
 Spelling A = A → List ℕ → Type 0
 
--- the text is this one
-abbrev pub Is : List ℕ → List ℕ → Type 0
-Is want text = text ≡ want
-
--- a text of P, then a text of Q
-infixl 10 ◌●◌
-pub record ◌●◌ (P Q : List ℕ → Type 0) (text : List ℕ) : Type 0 where
-  pub front : List ℕ
-  pub back : List ℕ
-  pub first : P front
-  pub second : Q back
-  pub parts : text ≡ front ++ back
-
--- the same, where the second part and the value may depend on the first value
+-- a text of P, then a text of Q, which may depend on the first value
 infixl 10 ◌then◌
 pub record ◌then◌ {A B : Type 0} (P : Spelling A) (Q : A → Spelling B) (y : B) (text : List ℕ) : Type 0 where
   pub value : A

@@ -9,7 +9,8 @@ use Rattle.sj_text_files.proofs.ListedNames.{plain_base_meets, plain_reference_m
 use Rattle.sj_read_spec.specs.Classes.{IsMethod, IsMemberOf, IsMember, methods_in, IsClass}
 use Rattle.sj_read_spec.specs.Files.{IsTables, IsContents, FileIs}
 use Rattle.sj_read_spec.specs.References as refs
-use Rattle.sj_read_spec.specs.Spelling.{Spelling, ◌then◌, Gives_value, Never, chosen, Found, Tested, IsByte, IsNumber, IsEach, IsList}
+use Rattle.exact_place.specs.Grammar.{Spelling, ◌then◌, IsValue, chosen}
+use Rattle.sj_read_spec.specs.Spelling.{Never, Found, Tested, IsByte, IsNumber, IsEach, IsCounted}
 use Rattle.sj_read_spec.specs.Tables as tables
 use Rattle.sj_read_spec.specs.Tables.{Tables}
 use Rattle.sj_read_spec.specs.declared.codes.MemberTag.{MemberTag}
@@ -39,8 +40,8 @@ anything P = record { meets = λ x text s. tt }
 behind : {A B : Type 0} {Q : A → Type 0} {R : B → Type 0} {P : Spelling A} {next : A → Spelling B} → Always Q P → ((x : A) → Q x → Always R (next x)) → Always R (P then next)
 behind {A} {B} {Q} {R} {P} {next} first second = record { meets = λ y text s. (second s.value (first.meets s.value s.front s.first)).meets y s.back s.second }
 
-gives : {A : Type 0} {Q : A → Type 0} {v : A} → Q v → Always Q (Gives_value v)
-gives {A} {Q} {v} q = record { meets = λ x text s. subst Q (sym s.is) q }
+gives : {A : Type 0} {Q : A → Type 0} {v : A} → Q v → Always Q (IsValue v)
+gives {A} {Q} {v} q = record { meets = λ x text s. subst Q (sym s.same) q }
 
 never : {A : Type 0} {Q : A → Type 0} → Always {A = A} Q Never
 never = record { meets = λ x text s. absurd s.never }
@@ -62,7 +63,7 @@ unfolding IsEach
 each p zero = gives all_none
 each p (suc n) = behind p (λ x q. behind (each p n) (λ xs qs. gives (all_more q qs)))
 
-listed : {A : Type 0} {Q : A → Type 0} {P : Spelling A} → Always Q P → Always (AllOf Q) (IsList P)
+listed : {A : Type 0} {Q : A → Type 0} {P : Spelling A} → Always Q P → Always (AllOf Q) (IsCounted P)
 listed p = behind (anything (IsNumber 4)) (λ n k. each p n)
 
 entry : {A : Type 0} {Q : A → Type 0} (table : List A) → AllOf Q table → Always Q (IsNumber 4 then λ n. Found (slice_get table n))

@@ -4,7 +4,8 @@ use Rattle.std.specs.List.{AllByRecursion}
 use Rattle.std.specs.Int.{bytes_high_first, byte_at}
 use Rattle.std.specs.Str.{is_utf8}
 use Rattle.byteorder.specs.Endian.{big_bytes}
-use Rattle.sj_read_spec.specs.Spelling.{Spelling, ◌then◌, Gives_value, Found, Tested, IsByte, IsNumber, IsBytes, IsEach, IsList}
+use Rattle.exact_place.specs.Grammar.{Spelling, ◌then◌, IsValue}
+use Rattle.sj_read_spec.specs.Spelling.{Found, Tested, IsByte, IsNumber, IsBytes, IsEach, IsCounted}
 use Rattle.sj_read_spec.specs.Types.{IsCode, IsMark, mark_with, IsOption}
 use Rattle.sj_read_spec.specs.Tables.{IsEntry, IsName, IsText}
 use Rattle.sj_write_spec.proofs.Bytes.{number_spelled}
@@ -24,8 +25,8 @@ joined (x ∷ xs) ys a b = (a.0, joined xs ys a.1 b)
 pub seq : {A B : Type 0} {P : Spelling A} {Q : A → Spelling B} {y : B} (x : A) → Made P x → Made (Q x) y → Made (P then Q) y
 seq x m n = record { text = m.text ++ n.text; spelled = record { value = x; front = m.text; back = n.text; first = m.spelled; second = n.spelled; parts = refl }; bytes = joined m.text n.text m.bytes n.bytes }
 
-pub gives : {A : Type 0} (v : A) → Made (Gives_value v) v
-gives v = record { text = []; spelled = record { is = refl; nothing = refl }; bytes = tt }
+pub gives : {A : Type 0} (v : A) → Made (IsValue v) v
+gives v = record { text = []; spelled = record { same = refl; empty = refl }; bytes = tt }
 
 pub one_byte : (b : ℕ) → b < 256 → Made IsByte b
 one_byte b h = record { text = b ∷ []; spelled = record { byte = refl }; bytes = (h, tt) }
@@ -70,7 +71,7 @@ pub one_more : {A : Type 0} (P : Spelling A) (n : ℕ) (x : A) (xs : List A) →
 unfolding IsEach
 one_more P n x xs m ms = seq x m (seq xs ms (gives (x ∷ xs)))
 
-pub list_of : {A : Type 0} (P : Spelling A) (n : ℕ) (xs : List A) → n < 256 ^ 4 → Made (IsEach P n) xs → Made (IsList P) xs
+pub list_of : {A : Type 0} (P : Spelling A) (n : ℕ) (xs : List A) → n < 256 ^ 4 → Made (IsEach P n) xs → Made (IsCounted P) xs
 list_of P n xs h m = seq n (number 4 n h) m
 
 pub marked : (b : Bool) → Made IsMark b

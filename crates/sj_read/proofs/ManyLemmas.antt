@@ -1,7 +1,8 @@
 -- Reading things one after the other, as a loop does.
 use Rattle.std.proofs.Common.{◌≡◌, ℕ, suc, ◌-◌, ◌+◌, ◌≤◌, ◌<◌, List, [], ◌∷◌, ◌++◌, Ok, Err, refl, sym, ap, ◌∙◌, append_assoc, arith}
 use Rattle.std.proofs.lemmas.List.{append-nil}
-use Rattle.sj_read_spec.specs.Reading.{Reading, ◌>>=◌, many_at}
+use Rattle.exact_place.specs.Reading.{◌>>=◌}
+use Rattle.sj_read_spec.specs.Reading.{Reading, many_at}
 use Rattle.sj_read.specs.declared.stops.Stop.{Stop}
 use Rattle.sj_read.specs.declared.stops.Stop.TheVariants.{NoMemory, Bad}
 use Rattle.sj_read.specs.Stops.{StopsAs}

@@ -10,7 +10,8 @@ use Rattle.sj_trees.specs.declared.classes.MethodDef.{MethodDef}
 use Rattle.sj_trees.specs.declared.classes.ClassDef.{ClassDef}
 use Rattle.sj_read_spec.specs.Codes.{kinds, reserved_kinds}
 use Rattle.sj_trees.specs.Forms.{among}
-use Rattle.sj_read_spec.specs.Reading.{Reading, ◌>>=◌, bytes_at, list_at}
+use Rattle.exact_place.specs.Reading.{◌>>=◌}
+use Rattle.sj_read_spec.specs.Reading.{Reading, bytes_at, list_at}
 use Rattle.sj_read_spec.specs.Tables.{Tables, entry_at, name_at}
 use Rattle.sj_read_spec.specs.Types.{code_at, option_at, position_at, namespace_at, type_at}
 use Rattle.sj_read_spec.specs.Classes.{body_at, param_at, member_at, fields_in, methods_in, method_at, class_at}

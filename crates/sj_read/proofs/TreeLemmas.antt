@@ -4,7 +4,8 @@ use Rattle.sj_trees.specs.declared.positions.Position.{Position}
 use Rattle.sj_trees.specs.declared.forms.Form.{Form}
 use Rattle.sj_read_spec.specs.Codes.{reserved_trees}
 use Rattle.sj_trees.specs.Forms.{among, form_codes}
-use Rattle.sj_read_spec.specs.Reading.{Reading, ◌>>=◌}
+use Rattle.exact_place.specs.Reading.{◌>>=◌}
+use Rattle.sj_read_spec.specs.Reading.{Reading}
 use Rattle.sj_read_spec.specs.Tables.{Tables}
 use Rattle.sj_read_spec.specs.Types.{code_at, position_at}
 use Rattle.sj_read_spec.specs.Trees.{form_at, tree_at}

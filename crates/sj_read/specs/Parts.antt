@@ -10,7 +10,8 @@ use Rattle.sj_trees.specs.declared.classes.ClassDef.{ClassDef}
 use Rattle.sj_read_spec.specs.declared.members.MemberDef.{MemberDef}
 use Rattle.sj_read_spec.specs.Codes.{kinds, reserved_kinds}
 use Rattle.sj_trees.specs.Forms.{among}
-use Rattle.sj_read_spec.specs.Reading.{Reading, ◌>>=◌, bytes_at, list_at}
+use Rattle.exact_place.specs.Reading.{◌>>=◌}
+use Rattle.sj_read_spec.specs.Reading.{Reading, bytes_at, list_at}
 use Rattle.sj_read_spec.specs.Tables.{Tables, entry_at, name_at, text_at, string_at}
 use Rattle.sj_read_spec.specs.References.{method_name_at}
 use Rattle.sj_read_spec.specs.Types.{code_at, mark_at, option_at, position_at, namespace_at, type_at}

@@ -3,7 +3,7 @@ use Rattle.std.proofs.Common.{◌≡◌, ◌≤◌, ◌+◌, ℕ, Bool, true, fa
 use Rattle.std.proofs.lemmas.List.Elements.{Contains-append_cases, Contains-push_cases}
 use Rattle.sj_read_spec.specs.Classes.{IsBody, IsMethod, IsMemberOf, IsMember, methods_in, IsClass}
 use Rattle.sj_read_spec.specs.Files.{IsContents, FileIs}
-use Rattle.sj_read_spec.specs.Spelling.{Spelling}
+use Rattle.exact_place.specs.Grammar.{Spelling}
 use Rattle.sj_read_spec.specs.Tables.{Tables}
 use Rattle.sj_read_spec.specs.Types.{IsOption, IsOptionOf}
 use Rattle.sj_read_spec.specs.declared.codes.MemberTag.{MemberTag}

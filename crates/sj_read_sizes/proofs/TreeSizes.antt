@@ -1,6 +1,6 @@
 -- A tree is spelled by as many bytes as it has trees, at least.
 use Rattle.std.proofs.Common.{◌≡◌, ◌+◌, ℕ, zero, suc, List, [], ◌∷◌, refl, ap, arith}
-use Rattle.sj_read_spec.specs.Spelling.{Spelling}
+use Rattle.exact_place.specs.Grammar.{Spelling}
 use Rattle.sj_read_spec.specs.Tables.{Tables}
 use Rattle.sj_read_spec.specs.Trees.{IsCase, IsLeaf, IsStatement, IsBranch, IsCall, IsOperation, IsForm, IsTree}
 use Rattle.sj_trees.specs.Term.{Term}

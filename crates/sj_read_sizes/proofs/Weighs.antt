@@ -1,7 +1,8 @@
 -- What a spelling weighs is at most the bytes that it takes, and those that are given beside it.
 use Rattle.std.proofs.Common.{◌≡◌, ◌≤◌, ◌+◌, ℕ, zero, suc, List, [], ◌∷◌, length, Option, Some, None, ap, ◌∙◌, arith}
 use Rattle.std.proofs.lemmas.List.{length-append}
-use Rattle.sj_read_spec.specs.Spelling.{Spelling, ◌then◌, Gives_value, Never, Found, IsByte, IsNumber, IsEach, IsList}
+use Rattle.exact_place.specs.Grammar.{Spelling, ◌then◌, IsValue}
+use Rattle.sj_read_spec.specs.Spelling.{Never, Found, IsByte, IsNumber, IsEach, IsCounted}
 use Rattle.sj_read_spec.specs.Types.{IsCode}
 
 pub record Weighs {A : Type 0} (weight : A → ℕ) (beside : ℕ) (P : Spelling A) : Type 0 where
@@ -29,8 +30,8 @@ skipping {A} {B} {g} {n} P {next} second = record {
       omega (arith, there, whole);
 }
 
-pub gives : {A : Type 0} {f : A → ℕ} {n : ℕ} {v : A} → f v ≤ n → Weighs f n (Gives_value v)
-gives {A} {f} {n} {v} few = record { most = λ x text s. let same : f x ≡ f v = ap f s.is in omega (arith, same, few) }
+pub gives : {A : Type 0} {f : A → ℕ} {n : ℕ} {v : A} → f v ≤ n → Weighs f n (IsValue v)
+gives {A} {f} {n} {v} few = record { most = λ x text s. let same : f x ≡ f v = ap f s.same in omega (arith, same, few) }
 
 pub never : {A : Type 0} {f : A → ℕ} {n : ℕ} → Weighs {A = A} f n Never
 never = record { most = λ x text s. absurd s.never }
@@ -51,5 +52,5 @@ unfolding IsEach
 each p zero = gives (omega arith)
 each p (suc n) = behind p (λ x. behind (each p n) (λ xs. gives (omega arith)))
 
-pub listed : {A : Type 0} {f : A → ℕ} {P : Spelling A} → Weighs f 0 P → Weighs (sum_of f) 0 (IsList P)
+pub listed : {A : Type 0} {f : A → ℕ} {P : Spelling A} → Weighs f 0 P → Weighs (sum_of f) 0 (IsCounted P)
 listed p = skipping (IsNumber 4) (λ n. each p n)

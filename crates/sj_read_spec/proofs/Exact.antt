@@ -7,8 +7,10 @@ use Rattle.byteorder.specs.Numbers.{big_from-append, big_from-take}
 use Rattle.sj_read_spec.specs.declared.faults.Fault.{Fault}
 use Rattle.sj_trees.specs.declared.refusals.Code.{Code}
 use Rattle.sj_trees.specs.declared.refusals.Code.TheVariants.{Truncated}
-use Rattle.sj_read_spec.specs.Reading.{Reading, ◌>>=◌, fault, byte_at, number_at, bytes_at, found, tested, many_at, list_at}
-use Rattle.sj_read_spec.specs.Spelling.{Spelling, ◌then◌, Gives_value, Never, chosen, Found, Tested, IsByte, IsNumber, IsBytes, IsEach, IsList}
+use Rattle.exact_place.specs.Reading.{◌>>=◌}
+use Rattle.sj_read_spec.specs.Reading.{Reading, fault, byte_at, number_at, bytes_at, found, tested, many_at, list_at}
+use Rattle.exact_place.specs.Grammar.{Spelling, ◌then◌, IsValue, chosen}
+use Rattle.sj_read_spec.specs.Spelling.{Never, Found, Tested, IsByte, IsNumber, IsBytes, IsEach, IsCounted}
 
 -- what a reader took from the front spells the value
 pub record Takes {A : Type 0} (P : Spelling A) (bytes : List ℕ) (x : A) (rest : List ℕ) : Type 0 where
@@ -65,10 +67,10 @@ pub exact_then : {A B : Type 0} (read : List ℕ → Reading A) (P : Spelling A)
     → Exact read P → ((x : A) → Exact (next x) (Q x)) → Exact (λ bytes. read bytes >>= λ x. next x.0 x.1) (P then Q)
 exact_then read P next Q first second = exact_from read P (λ front x. next x) Q first (λ front x. second x)
 
-pub exact_value : {A : Type 0} (value : A) → Exact (λ bytes. Ok (value, bytes)) (Gives_value value)
+pub exact_value : {A : Type 0} (value : A) → Exact (λ bytes. Ok (value, bytes)) (IsValue value)
 exact_value {A = A} value = record {
-  takes = λ bytes x rest e. record { text = []; spelled = record { is = sym (pair_first value x bytes rest e); nothing = refl }; parts = pair_second value x bytes rest e };
-  again = λ x text rest p. ap (λ (t : List ℕ). taken value (t ++ rest)) p.nothing ∙ ap (λ (v : A). taken v rest) (sym p.is);
+  takes = λ bytes x rest e. record { text = []; spelled = record { same = sym (pair_first value x bytes rest e); empty = refl }; parts = pair_second value x bytes rest e };
+  again = λ x text rest p. ap (λ (t : List ℕ). taken value (t ++ rest)) p.empty ∙ ap (λ (v : A). taken v rest) (sym p.same);
 }
 
 pub exact_never : {A : Type 0} (why : List ℕ → Fault) → Exact {A = A} (λ bytes. Err (why bytes)) Never
@@ -150,5 +152,5 @@ unfolding many_at IsEach
 exact_many read P each zero = exact_value []
 exact_many read P each (suc n) = exact_then _ _ _ _ each (λ x. exact_then _ _ _ _ (exact_many read P each n) (λ xs. exact_value _))
 
-pub exact_list : {A : Type 0} (read : List ℕ → Reading A) (P : Spelling A) → Exact read P → Exact (list_at read) (IsList P)
+pub exact_list : {A : Type 0} (read : List ℕ → Reading A) (P : Spelling A) → Exact read P → Exact (list_at read) (IsCounted P)
 exact_list read P each = exact_then _ _ _ _ (exact_number 4) (λ n. exact_many read P each n)

@@ -7,7 +7,8 @@ use Rattle.sj_trees.specs.declared.classes.ClassDef.{ClassDef}
 use Rattle.sj_read_spec.specs.declared.faults.Fault.{Fault}
 use Rattle.sj_trees.specs.declared.refusals.Code.{Code}
 use Rattle.sj_trees.specs.declared.refusals.Code.TheVariants.{BadMagic, BadVersion}
-use Rattle.sj_read_spec.specs.Reading.{Reading, ◌>>=◌}
+use Rattle.exact_place.specs.Reading.{◌>>=◌}
+use Rattle.sj_read_spec.specs.Reading.{Reading}
 use Rattle.sj_read_spec.specs.Files.{magic_at, IsMagic, version_at, IsVersion, tables_at, IsTables, contents_at, IsContents, ended, file_of, FileIs, Fails, HasOneAnswer}
 use Rattle.sj_read_spec.proofs.Exact.{Exact, bind_ok, exact_from, exact_then, exact_value, exact_tested, exact_number, exact_bytes, exact_list}
 use Rattle.sj_read_spec.proofs.ExactTables.{exact_text, exact_string}

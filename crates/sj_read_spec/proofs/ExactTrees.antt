@@ -20,8 +20,10 @@ use Rattle.sj_trees.specs.declared.forms.OperationForm.{OperationForm}
 use Rattle.sj_trees.specs.declared.forms.OperationForm.TheVariants as operation
 use Rattle.sj_read_spec.specs.Codes.{reserved_trees, reserved_operators}
 use Rattle.sj_trees.specs.Forms.{among, form_codes}
-use Rattle.sj_read_spec.specs.Reading.{Reading, ◌>>=◌, fault, byte_at}
-use Rattle.sj_read_spec.specs.Spelling.{Spelling, Never}
+use Rattle.exact_place.specs.Reading.{◌>>=◌}
+use Rattle.sj_read_spec.specs.Reading.{Reading, fault, byte_at}
+use Rattle.exact_place.specs.Grammar.{Spelling}
+use Rattle.sj_read_spec.specs.Spelling.{Never}
 use Rattle.sj_read_spec.specs.Tables.{Tables}
 use Rattle.sj_read_spec.specs.Trees.{unary_at, IsUnary, binary_at, IsBinary, case_at, IsCase, leaf_at, IsLeaf, statement_at, IsStatement, branch_at, IsBranch, call_at, IsCall, operation_at, IsOperation, form_at, IsForm, tree_at, IsTree}
 use Rattle.sj_read_spec.proofs.Exact.{Exact, bind_ok, exact_then, exact_value, exact_list, exact_number}

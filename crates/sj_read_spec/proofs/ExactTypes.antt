@@ -8,7 +8,8 @@ use Rattle.sj_trees.specs.declared.refusals.Code.TheVariants.{BadTag, Unsupporte
 use Rattle.sj_read_spec.specs.Codes.{plain_types, reserved_types, namespaces, reserved_namespaces}
 use Rattle.sj_trees.specs.Forms.{among}
 use Rattle.sj_read_spec.specs.Reading.{Reading, fault}
-use Rattle.sj_read_spec.specs.Spelling.{Spelling, Found}
+use Rattle.exact_place.specs.Grammar.{Spelling}
+use Rattle.sj_read_spec.specs.Spelling.{Found}
 use Rattle.sj_trees.specs.Types.{class_type}
 use Rattle.sj_read_spec.specs.Types.{coded, code_at, IsCode, mark_with, mark_at, IsMark, option_of, option_at, IsOptionOf, IsOption, signed_at, IsSigned, position_at, IsPosition, namespace_at, IsNamespace, type_of, type_at, IsTypeOf, IsType}
 use Rattle.sj_read_spec.proofs.Exact.{Exact, exact_from, exact_then, exact_value, exact_never, exact_found, exact_chosen, exact_byte, exact_number}

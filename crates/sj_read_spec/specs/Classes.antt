@@ -12,8 +12,10 @@ use Rattle.sj_read_spec.specs.declared.codes.MemberTag.{MemberTag}
 use Rattle.sj_read_spec.specs.declared.codes.MemberTag.TheVariants as tags
 use Rattle.sj_read_spec.specs.Codes.{kinds, reserved_kinds, member_tags, reserved_members}
 use Rattle.sj_trees.specs.Forms.{among}
-use Rattle.sj_read_spec.specs.Reading.{Reading, ◌>>=◌, bytes_at, list_at}
-use Rattle.sj_read_spec.specs.Spelling.{Spelling, ◌then◌, Gives_value, IsBytes, IsList}
+use Rattle.exact_place.specs.Reading.{◌>>=◌}
+use Rattle.sj_read_spec.specs.Reading.{Reading, bytes_at, list_at}
+use Rattle.exact_place.specs.Grammar.{Spelling, ◌then◌, IsValue}
+use Rattle.sj_read_spec.specs.Spelling.{IsBytes, IsCounted}
 use Rattle.sj_read_spec.specs.Tables.{Tables, entry_at, IsEntry, name_at, IsName}
 use Rattle.sj_read_spec.specs.Types.{code_at, IsCode, mark_at, IsMark, option_at, IsOption, position_at, IsPosition, namespace_at, IsNamespace, type_at, IsType}
 use Rattle.sj_read_spec.specs.Trees.{tree_at, IsTree}
@@ -34,7 +36,7 @@ param_at tables bytes = do
   Ok (record { name = name.0; mutable = mutable.0; tpe = tpe.0 }, tpe.1)
 
 unfoldable pub IsParam : Tables → Spelling ParamDef
-IsParam tables = IsName is_plain_name tables.names then λ name. IsMark then λ mutable. IsType tables.names then λ tpe. Gives_value (record { name = name; mutable = mutable; tpe = tpe })
+IsParam tables = IsName is_plain_name tables.names then λ name. IsMark then λ mutable. IsType tables.names then λ tpe. IsValue (record { name = name; mutable = mutable; tpe = tpe })
 
 -- a field behind its tag
 unfoldable pub field_at : Tables → List ℕ → Reading FieldDef
@@ -47,7 +49,7 @@ field_at tables bytes = do
   Ok (record { pos = pos.0; is_static = is_static.0; mutable = mutable.0; name = name.0; tpe = tpe.0 }, tpe.1)
 
 unfoldable pub IsField : Tables → Spelling FieldDef
-IsField tables = IsPosition (length tables.files) then λ pos. IsMark then λ is_static. IsMark then λ mutable. IsName is_plain_name tables.names then λ name. IsType tables.names then λ tpe. Gives_value (record { pos = pos; is_static = is_static; mutable = mutable; name = name; tpe = tpe })
+IsField tables = IsPosition (length tables.files) then λ pos. IsMark then λ is_static. IsMark then λ mutable. IsName is_plain_name tables.names then λ name. IsType tables.names then λ tpe. IsValue (record { pos = pos; is_static = is_static; mutable = mutable; name = name; tpe = tpe })
 
 -- a method behind its tag; a hash has twenty bytes
 unfoldable pub method_at : Tables → List ℕ → Reading MethodDef
@@ -62,7 +64,7 @@ method_at tables bytes = do
   Ok (record { pos = pos.0; namespace = namespace.0; name = name.0; params = params.0; result = result.0; body = body.0; hash = hash.0 }, hash.1)
 
 unfoldable pub IsMethod : Tables → Spelling MethodDef
-IsMethod tables = IsPosition (length tables.files) then λ pos. IsNamespace then λ namespace. IsEntry tables.methods then λ name. IsList (IsParam tables) then λ params. IsType tables.names then λ result. IsOption (IsBody tables) then λ body. IsOption (IsBytes 20) then λ hash. Gives_value (record { pos = pos; namespace = namespace; name = name; params = params; result = result; body = body; hash = hash })
+IsMethod tables = IsPosition (length tables.files) then λ pos. IsNamespace then λ namespace. IsEntry tables.methods then λ name. IsCounted (IsParam tables) then λ params. IsType tables.names then λ result. IsOption (IsBody tables) then λ body. IsOption (IsBytes 20) then λ hash. IsValue (record { pos = pos; namespace = namespace; name = name; params = params; result = result; body = body; hash = hash })
 
 -- a member: its tag, and the field or the method
 abbrev pub member_of : Tables → MemberTag → List ℕ → Reading MemberDef
@@ -73,8 +75,8 @@ unfoldable pub member_at : Tables → List ℕ → Reading MemberDef
 member_at tables bytes = code_at (among member_tags) (among reserved_members) bytes >>= λ tag. member_of tables tag.0 tag.1
 
 abbrev pub IsMemberOf : Tables → MemberTag → Spelling MemberDef
-IsMemberOf tables tags.Field = IsField tables then λ f. Gives_value (Field f)
-IsMemberOf tables tags.Method = IsMethod tables then λ m. Gives_value (Method m)
+IsMemberOf tables tags.Field = IsField tables then λ f. IsValue (Field f)
+IsMemberOf tables tags.Method = IsMethod tables then λ m. IsValue (Method m)
 
 unfoldable pub IsMember : Tables → Spelling MemberDef
 IsMember tables = IsCode (among member_tags) then λ tag. IsMemberOf tables tag
@@ -103,4 +105,4 @@ class_at tables bytes = do
   Ok (record { pos = pos.0; files = tables.files; name = name.0; kind = kind.0; superclass = superclass.0; interfaces = interfaces.0; fields = fields_in members.0; methods = methods_in members.0 }, members.1)
 
 unfoldable pub IsClass : Tables → Spelling ClassDef
-IsClass tables = IsPosition (length tables.files) then λ pos. IsName is_class_name tables.names then λ name. IsCode (among kinds) then λ kind. IsOption (IsName is_class_name tables.names) then λ superclass. IsList (IsName is_class_name tables.names) then λ interfaces. IsList (IsMember tables) then λ members. Gives_value (record { pos = pos; files = tables.files; name = name; kind = kind; superclass = superclass; interfaces = interfaces; fields = fields_in members; methods = methods_in members })
+IsClass tables = IsPosition (length tables.files) then λ pos. IsName is_class_name tables.names then λ name. IsCode (among kinds) then λ kind. IsOption (IsName is_class_name tables.names) then λ superclass. IsCounted (IsName is_class_name tables.names) then λ interfaces. IsCounted (IsMember tables) then λ members. IsValue (record { pos = pos; files = tables.files; name = name; kind = kind; superclass = superclass; interfaces = interfaces; fields = fields_in members; methods = methods_in members })

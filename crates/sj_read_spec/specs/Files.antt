@@ -5,8 +5,10 @@ use Rattle.sj_trees.specs.declared.classes.ClassDef.{ClassDef}
 use Rattle.sj_read_spec.specs.declared.faults.Fault.{Fault}
 use Rattle.sj_trees.specs.declared.refusals.Code.{Code}
 use Rattle.sj_trees.specs.declared.refusals.Code.TheVariants.{BadMagic, BadVersion, Trailing}
-use Rattle.sj_read_spec.specs.Reading.{Reading, ◌>>=◌, fault, number_at, bytes_at, tested, list_at}
-use Rattle.sj_read_spec.specs.Spelling.{Spelling, ◌then◌, Gives_value, Tested, IsNumber, IsBytes, IsList}
+use Rattle.exact_place.specs.Reading.{◌>>=◌}
+use Rattle.sj_read_spec.specs.Reading.{Reading, fault, number_at, bytes_at, tested, list_at}
+use Rattle.exact_place.specs.Grammar.{Spelling, ◌then◌, IsValue}
+use Rattle.sj_read_spec.specs.Spelling.{Tested, IsNumber, IsBytes, IsCounted}
 use Rattle.sj_read_spec.specs.Tables.{Tables, text_at, IsText, string_at, IsString}
 use Rattle.sj_read_spec.specs.References.{method_name_at, IsMethodName}
 use Rattle.sj_read_spec.specs.Classes.{class_at, IsClass}
@@ -38,7 +40,7 @@ tables_at bytes = do
   Ok (record { files = files.0; names = names.0; methods = methods.0; strings = strings.0 }, strings.1)
 
 unfoldable pub IsTables : Spelling Tables
-IsTables = IsList IsText then λ files. IsList IsText then λ names. IsList (IsMethodName names) then λ methods. IsList IsString then λ strings. Gives_value (record { files = files; names = names; methods = methods; strings = strings })
+IsTables = IsCounted IsText then λ files. IsCounted IsText then λ names. IsCounted (IsMethodName names) then λ methods. IsCounted IsString then λ strings. IsValue (record { files = files; names = names; methods = methods; strings = strings })
 
 -- a class and what stands in front of it
 unfoldable pub contents_at : List ℕ → Reading ClassDef

@@ -2,17 +2,13 @@
 -- are left at its place, so that no reader is handed an offset.
 use Rattle.std.specs.Prelude.{ℕ, zero, suc, Bool, true, false, List, [], ◌∷◌, length, take, drop, nat_lt, Option, Some, None, Result, Ok, Err, if◌then◌else◌}
 use Rattle.byteorder.specs.Endian.{big_number}
+use Rattle.exact_place.specs.Reading.{◌>>=◌}
 use Rattle.sj_read_spec.specs.declared.faults.Fault.{Fault}
 use Rattle.sj_trees.specs.declared.refusals.Code.{Code}
 use Rattle.sj_trees.specs.declared.refusals.Code.TheVariants.{Truncated}
 
 abbrev pub Reading : Type 0 → Type 0
 Reading A = Result (A × List ℕ) Fault
-
-infixl 10 ◌>>=◌
-abbrev pub ◌>>=◌ : {A B : Type 0} → Result A Fault → (A → Result B Fault) → Result B Fault
-(Ok x) >>= f = f x
-(Err e) >>= f = Err e
 
 -- a fault at the place where these bytes are left
 abbrev pub fault : Code → List ℕ → Fault

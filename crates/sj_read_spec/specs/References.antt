@@ -8,8 +8,10 @@ use Rattle.sj_names.specs.declared.references.BaseRef.TheVariants as bases
 use Rattle.sj_names.specs.declared.references.ArrayRef.{ArrayRef}
 use Rattle.sj_names.specs.declared.method_names.MethodName.{MethodName}
 use Rattle.sj_trees.specs.declared.refusals.Code.TheVariants.{BadTag}
-use Rattle.sj_read_spec.specs.Reading.{Reading, ◌>>=◌, byte_at, found, tested, list_at}
-use Rattle.sj_read_spec.specs.Spelling.{Spelling, ◌then◌, Gives_value, chosen, Found, Tested, IsByte, IsList}
+use Rattle.exact_place.specs.Reading.{◌>>=◌}
+use Rattle.sj_read_spec.specs.Reading.{Reading, byte_at, found, tested, list_at}
+use Rattle.exact_place.specs.Grammar.{Spelling, ◌then◌, IsValue, chosen}
+use Rattle.sj_read_spec.specs.Spelling.{Found, Tested, IsByte, IsCounted}
 use Rattle.sj_read_spec.specs.Tables.{name_at, IsName}
 
 -- the base of an array that one code gives: 2 Z, 3 C, 4 B, 5 S, 6 I, 7 J
@@ -28,7 +30,7 @@ abbrev pub base_at : List (List ℕ) → List ℕ → Reading BaseRef
 base_at names bytes = byte_at bytes >>= λ code. base_of names code.0 bytes code.1
 
 abbrev pub IsBase : List (List ℕ) → Spelling BaseRef
-IsBase names = IsByte then λ code. chosen (code == 8) (IsName is_class_name names then λ c. Gives_value (bases.Class c)) (Found (plain_base code))
+IsBase names = IsByte then λ code. chosen (code == 8) (IsName is_class_name names then λ c. IsValue (bases.Class c)) (Found (plain_base code))
 
 -- an array behind its code: how many dimensions, at least one, and the base
 abbrev pub dimensions_at : List ℕ → Reading ℕ
@@ -38,7 +40,7 @@ unfoldable pub array_at : List (List ℕ) → List ℕ → Reading ArrayRef
 array_at names bytes = dimensions_at bytes >>= λ n. base_at names n.1 >>= λ base. Ok (record { dimensions = n.0; base = base.0 }, base.1)
 
 unfoldable pub IsArray : List (List ℕ) → Spelling ArrayRef
-IsArray names = (IsByte then λ n. Tested (nat_lt 0 n) n) then λ n. IsBase names then λ base. Gives_value (record { dimensions = n; base = base })
+IsArray names = (IsByte then λ n. Tested (nat_lt 0 n) n) then λ n. IsBase names then λ base. IsValue (record { dimensions = n; base = base })
 
 -- an array with its code, 9
 unfoldable pub array_reference_at : List (List ℕ) → List ℕ → Reading ArrayRef
@@ -52,7 +54,7 @@ unfoldable pub reference_of : List (List ℕ) → ℕ → List ℕ → List ℕ 
 reference_of names code front rest = if code == 8 then (name_at is_class_name names rest >>= λ c. Ok (Class c.0, c.1)) else if code == 9 then (array_at names rest >>= λ a. Ok (Array a.0, a.1)) else found BadTag (plain_reference code) front rest
 
 unfoldable pub IsReference : List (List ℕ) → ℕ → Spelling TypeRef
-IsReference names code = chosen (code == 8) (IsName is_class_name names then λ c. Gives_value (Class c)) (chosen (code == 9) (IsArray names then λ a. Gives_value (Array a)) (Found (plain_reference code)))
+IsReference names code = chosen (code == 8) (IsName is_class_name names then λ c. IsValue (Class c)) (chosen (code == 9) (IsArray names then λ a. IsValue (Array a)) (Found (plain_reference code)))
 
 -- the reference of a parameter
 abbrev pub parameter_at : List (List ℕ) → List ℕ → Reading TypeRef
@@ -69,7 +71,7 @@ abbrev pub result_at : List (List ℕ) → List ℕ → Reading (Option TypeRef)
 result_at names bytes = byte_at bytes >>= λ code. result_of names code.0 bytes code.1
 
 abbrev pub IsResult : List (List ℕ) → Spelling (Option TypeRef)
-IsResult names = IsByte then λ code. chosen (code == 0) (Gives_value None) (chosen (code == 1) (Gives_value (Some Void)) (IsReference names code then λ r. Gives_value (Some r)))
+IsResult names = IsByte then λ code. chosen (code == 0) (IsValue None) (chosen (code == 1) (IsValue (Some Void)) (IsReference names code then λ r. IsValue (Some r)))
 
 -- an entry of the table of method names: a simple name, the parameters and the result
 unfoldable pub method_name_at : List (List ℕ) → List ℕ → Reading MethodName
@@ -80,4 +82,4 @@ method_name_at names bytes = do
   Ok (record { simple = simple.0; params = params.0; result = result.0 }, result.1)
 
 unfoldable pub IsMethodName : List (List ℕ) → Spelling MethodName
-IsMethodName names = IsName is_simple_name names then λ simple. IsList (IsParameter names) then λ params. IsResult names then λ result. Gives_value (record { simple = simple; params = params; result = result })
+IsMethodName names = IsName is_simple_name names then λ simple. IsCounted (IsParameter names) then λ params. IsResult names then λ result. IsValue (record { simple = simple; params = params; result = result })

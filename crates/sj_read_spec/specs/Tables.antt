@@ -5,8 +5,10 @@ use Rattle.std.specs.Str.{is_utf8}
 use Rattle.sj_names.specs.declared.method_names.MethodName.{MethodName}
 use Rattle.sj_units.specs.Modified.{modified_units}
 use Rattle.sj_trees.specs.declared.refusals.Code.TheVariants.{BadIndex, BadName, BadText}
-use Rattle.sj_read_spec.specs.Reading.{Reading, ◌>>=◌, number_at, bytes_at, found, tested}
-use Rattle.sj_read_spec.specs.Spelling.{Spelling, ◌then◌, IsNumber, IsBytes, Found, Tested}
+use Rattle.exact_place.specs.Reading.{◌>>=◌}
+use Rattle.sj_read_spec.specs.Reading.{Reading, number_at, bytes_at, found, tested}
+use Rattle.exact_place.specs.Grammar.{Spelling, ◌then◌}
+use Rattle.sj_read_spec.specs.Spelling.{IsNumber, IsBytes, Found, Tested}
 
 -- what the class names by an index: the source files and the names as texts, the method names, and the strings as units
 pub record Tables : Type 0 where

@@ -23,8 +23,10 @@ use Rattle.sj_trees.specs.declared.forms.OperationForm.{OperationForm}
 use Rattle.sj_trees.specs.declared.forms.OperationForm.TheVariants as operation
 use Rattle.sj_read_spec.specs.Codes.{reserved_trees, reserved_operators}
 use Rattle.sj_trees.specs.Forms.{among, form_codes}
-use Rattle.sj_read_spec.specs.Reading.{Reading, ◌>>=◌, fault, byte_at, number_at, list_at}
-use Rattle.sj_read_spec.specs.Spelling.{Spelling, ◌then◌, Gives_value, Never, IsNumber, IsList}
+use Rattle.exact_place.specs.Reading.{◌>>=◌}
+use Rattle.sj_read_spec.specs.Reading.{Reading, fault, byte_at, number_at, list_at}
+use Rattle.exact_place.specs.Grammar.{Spelling, ◌then◌, IsValue}
+use Rattle.sj_read_spec.specs.Spelling.{Never, IsNumber, IsCounted}
 use Rattle.sj_read_spec.specs.Tables.{Tables, entry_at, IsEntry, name_at, IsName}
 use Rattle.sj_read_spec.specs.References.{array_reference_at, IsArrayReference}
 use Rattle.sj_read_spec.specs.Types.{code_at, IsCode, mark_at, IsMark, signed_at, IsSigned, position_at, IsPosition, namespace_at, IsNamespace, type_at, IsType}
@@ -47,7 +49,7 @@ unfoldable pub case_at : (List ℕ → Reading Term) → List ℕ → Reading Ca
 case_at tree bytes = list_at (signed_at w32 4) bytes >>= λ keys. tree keys.1 >>= λ body. Ok ((keys.0, body.0), body.1)
 
 unfoldable pub IsCase : Spelling Term → Spelling Case
-IsCase IsInner = IsList (IsSigned w32 4) then λ keys. IsInner then λ body. Gives_value (keys, body)
+IsCase IsInner = IsCounted (IsSigned w32 4) then λ keys. IsInner then λ body. IsValue (keys, body)
 
 -- the forms without trees in them
 unfoldable pub leaf_at : Tables → LeafForm → Position → List ℕ → Reading Term
@@ -67,20 +69,20 @@ leaf_at tables leaf.VarRef p bytes = name_at is_plain_name tables.names bytes >>
 leaf_at tables leaf.This p bytes = type_at tables.names bytes >>= λ tpe. Ok (this_ref p tpe.0, tpe.1)
 
 unfoldable pub IsLeaf : Tables → LeafForm → Position → Spelling Term
-IsLeaf tables leaf.Skip p = Gives_value (skip p)
-IsLeaf tables leaf.LoadModule p = IsName is_class_name tables.names then λ class. Gives_value (load_module p class)
-IsLeaf tables leaf.SelectStatic p = IsName is_class_name tables.names then λ class. IsName is_plain_name tables.names then λ field. IsType tables.names then λ tpe. Gives_value (select_static p class field tpe)
-IsLeaf tables leaf.Undefined p = Gives_value (undefined_literal p)
-IsLeaf tables leaf.Null p = Gives_value (null_literal p)
-IsLeaf tables leaf.BooleanLiteral p = IsMark then λ value. Gives_value (boolean_literal p value)
-IsLeaf tables leaf.CharLiteral p = IsNumber 2 then λ value. Gives_value (char_literal p value)
-IsLeaf tables leaf.ByteLiteral p = IsSigned w8 1 then λ value. Gives_value (byte_literal p value)
-IsLeaf tables leaf.ShortLiteral p = IsSigned w16 2 then λ value. Gives_value (short_literal p value)
-IsLeaf tables leaf.IntLiteral p = IsSigned w32 4 then λ value. Gives_value (int_literal p value)
-IsLeaf tables leaf.LongLiteral p = IsSigned w64 8 then λ value. Gives_value (long_literal p value)
-IsLeaf tables leaf.StringLiteral p = IsEntry tables.strings then λ value. Gives_value (string_literal p value)
-IsLeaf tables leaf.VarRef p = IsName is_plain_name tables.names then λ name. IsType tables.names then λ tpe. Gives_value (var_ref p name tpe)
-IsLeaf tables leaf.This p = IsType tables.names then λ tpe. Gives_value (this_ref p tpe)
+IsLeaf tables leaf.Skip p = IsValue (skip p)
+IsLeaf tables leaf.LoadModule p = IsName is_class_name tables.names then λ class. IsValue (load_module p class)
+IsLeaf tables leaf.SelectStatic p = IsName is_class_name tables.names then λ class. IsName is_plain_name tables.names then λ field. IsType tables.names then λ tpe. IsValue (select_static p class field tpe)
+IsLeaf tables leaf.Undefined p = IsValue (undefined_literal p)
+IsLeaf tables leaf.Null p = IsValue (null_literal p)
+IsLeaf tables leaf.BooleanLiteral p = IsMark then λ value. IsValue (boolean_literal p value)
+IsLeaf tables leaf.CharLiteral p = IsNumber 2 then λ value. IsValue (char_literal p value)
+IsLeaf tables leaf.ByteLiteral p = IsSigned w8 1 then λ value. IsValue (byte_literal p value)
+IsLeaf tables leaf.ShortLiteral p = IsSigned w16 2 then λ value. IsValue (short_literal p value)
+IsLeaf tables leaf.IntLiteral p = IsSigned w32 4 then λ value. IsValue (int_literal p value)
+IsLeaf tables leaf.LongLiteral p = IsSigned w64 8 then λ value. IsValue (long_literal p value)
+IsLeaf tables leaf.StringLiteral p = IsEntry tables.strings then λ value. IsValue (string_literal p value)
+IsLeaf tables leaf.VarRef p = IsName is_plain_name tables.names then λ name. IsType tables.names then λ tpe. IsValue (var_ref p name tpe)
+IsLeaf tables leaf.This p = IsType tables.names then λ tpe. IsValue (this_ref p tpe)
 
 -- the forms that set, leave, throw or write, or hold statements in a row
 unfoldable pub statement_at : (List ℕ → Reading Term) → Tables → StatementForm → Position → List ℕ → Reading Term
@@ -94,14 +96,14 @@ statement_at tree tables statement.StoreModule p bytes = name_at is_class_name t
 statement_at tree tables statement.Log p bytes = tree bytes >>= λ value. Ok (log_line p value.0, value.1)
 
 unfoldable pub IsStatement : Spelling Term → Tables → StatementForm → Position → Spelling Term
-IsStatement IsInner tables statement.VarDef p = IsName is_plain_name tables.names then λ name. IsType tables.names then λ tpe. IsMark then λ mutable. IsInner then λ value. Gives_value (var_def p name tpe mutable value)
-IsStatement IsInner tables statement.Block p = IsList IsInner then λ trees. Gives_value (block_of p (terms_of trees))
-IsStatement IsInner tables statement.Labeled p = IsName is_plain_name tables.names then λ label. IsType tables.names then λ tpe. IsInner then λ body. Gives_value (labeled p label tpe body)
-IsStatement IsInner tables statement.Assign p = IsInner then λ target. IsInner then λ value. Gives_value (assign p target value)
-IsStatement IsInner tables statement.Return p = IsInner then λ value. IsName is_plain_name tables.names then λ label. Gives_value (return_to p value label)
-IsStatement IsInner tables statement.Throw p = IsInner then λ value. Gives_value (throw p value)
-IsStatement IsInner tables statement.StoreModule p = IsName is_class_name tables.names then λ class. IsInner then λ value. Gives_value (store_module p class value)
-IsStatement IsInner tables statement.Log p = IsInner then λ value. Gives_value (log_line p value)
+IsStatement IsInner tables statement.VarDef p = IsName is_plain_name tables.names then λ name. IsType tables.names then λ tpe. IsMark then λ mutable. IsInner then λ value. IsValue (var_def p name tpe mutable value)
+IsStatement IsInner tables statement.Block p = IsCounted IsInner then λ trees. IsValue (block_of p (terms_of trees))
+IsStatement IsInner tables statement.Labeled p = IsName is_plain_name tables.names then λ label. IsType tables.names then λ tpe. IsInner then λ body. IsValue (labeled p label tpe body)
+IsStatement IsInner tables statement.Assign p = IsInner then λ target. IsInner then λ value. IsValue (assign p target value)
+IsStatement IsInner tables statement.Return p = IsInner then λ value. IsName is_plain_name tables.names then λ label. IsValue (return_to p value label)
+IsStatement IsInner tables statement.Throw p = IsInner then λ value. IsValue (throw p value)
+IsStatement IsInner tables statement.StoreModule p = IsName is_class_name tables.names then λ class. IsInner then λ value. IsValue (store_module p class value)
+IsStatement IsInner tables statement.Log p = IsInner then λ value. IsValue (log_line p value)
 
 -- the forms that choose, repeat or catch
 unfoldable pub branch_at : (List ℕ → Reading Term) → Tables → BranchForm → Position → List ℕ → Reading Term
@@ -113,12 +115,12 @@ branch_at tree tables branch.TryFinally p bytes = tree bytes >>= λ block. tree 
 branch_at tree tables branch.Match p bytes = tree bytes >>= λ selector. list_at (case_at tree) selector.1 >>= λ cases. tree cases.1 >>= λ default. type_at tables.names default.1 >>= λ tpe. Ok (match_on p selector.0 (cases_of cases.0) default.0 tpe.0, tpe.1)
 
 unfoldable pub IsBranch : Spelling Term → Tables → BranchForm → Position → Spelling Term
-IsBranch IsInner tables branch.If p = IsInner then λ condition. IsInner then λ consequent. IsInner then λ alternative. IsType tables.names then λ tpe. Gives_value (if_then p condition consequent alternative tpe)
-IsBranch IsInner tables branch.While p = IsInner then λ condition. IsInner then λ body. Gives_value (while_loop p condition body)
-IsBranch IsInner tables branch.DoWhile p = IsInner then λ body. IsInner then λ condition. Gives_value (do_while p body condition)
-IsBranch IsInner tables branch.TryCatch p = IsInner then λ block. IsName is_plain_name tables.names then λ name. IsInner then λ handler. IsType tables.names then λ tpe. Gives_value (try_catch p block name handler tpe)
-IsBranch IsInner tables branch.TryFinally p = IsInner then λ block. IsInner then λ finalizer. Gives_value (try_finally p block finalizer)
-IsBranch IsInner tables branch.Match p = IsInner then λ selector. IsList (IsCase IsInner) then λ cases. IsInner then λ default. IsType tables.names then λ tpe. Gives_value (match_on p selector (cases_of cases) default tpe)
+IsBranch IsInner tables branch.If p = IsInner then λ condition. IsInner then λ consequent. IsInner then λ alternative. IsType tables.names then λ tpe. IsValue (if_then p condition consequent alternative tpe)
+IsBranch IsInner tables branch.While p = IsInner then λ condition. IsInner then λ body. IsValue (while_loop p condition body)
+IsBranch IsInner tables branch.DoWhile p = IsInner then λ body. IsInner then λ condition. IsValue (do_while p body condition)
+IsBranch IsInner tables branch.TryCatch p = IsInner then λ block. IsName is_plain_name tables.names then λ name. IsInner then λ handler. IsType tables.names then λ tpe. IsValue (try_catch p block name handler tpe)
+IsBranch IsInner tables branch.TryFinally p = IsInner then λ block. IsInner then λ finalizer. IsValue (try_finally p block finalizer)
+IsBranch IsInner tables branch.Match p = IsInner then λ selector. IsCounted (IsCase IsInner) then λ cases. IsInner then λ default. IsType tables.names then λ tpe. IsValue (match_on p selector (cases_of cases) default tpe)
 
 -- the forms that call a method or read a field of an object
 unfoldable pub call_at : (List ℕ → Reading Term) → Tables → CallForm → Position → List ℕ → Reading Term
@@ -129,11 +131,11 @@ call_at tree tables call.ApplyStatically p bytes = tree bytes >>= λ receiver. n
 call_at tree tables call.ApplyStatic p bytes = name_at is_class_name tables.names bytes >>= λ class. namespace_at class.1 >>= λ namespace. entry_at tables.methods namespace.1 >>= λ method. list_at tree method.1 >>= λ arguments. type_at tables.names arguments.1 >>= λ tpe. Ok (apply_static p class.0 namespace.0 method.0 (terms_of arguments.0) tpe.0, tpe.1)
 
 unfoldable pub IsCall : Spelling Term → Tables → CallForm → Position → Spelling Term
-IsCall IsInner tables call.New p = IsName is_class_name tables.names then λ class. IsEntry tables.methods then λ method. IsList IsInner then λ arguments. Gives_value (new_object p class method (terms_of arguments))
-IsCall IsInner tables call.Select p = IsInner then λ qualifier. IsName is_class_name tables.names then λ class. IsName is_plain_name tables.names then λ field. IsType tables.names then λ tpe. Gives_value (select p qualifier class field tpe)
-IsCall IsInner tables call.Apply p = IsInner then λ receiver. IsEntry tables.methods then λ method. IsList IsInner then λ arguments. IsType tables.names then λ tpe. Gives_value (apply p receiver method (terms_of arguments) tpe)
-IsCall IsInner tables call.ApplyStatically p = IsInner then λ receiver. IsName is_class_name tables.names then λ class. IsNamespace then λ namespace. IsEntry tables.methods then λ method. IsList IsInner then λ arguments. IsType tables.names then λ tpe. Gives_value (apply_statically p receiver class namespace method (terms_of arguments) tpe)
-IsCall IsInner tables call.ApplyStatic p = IsName is_class_name tables.names then λ class. IsNamespace then λ namespace. IsEntry tables.methods then λ method. IsList IsInner then λ arguments. IsType tables.names then λ tpe. Gives_value (apply_static p class namespace method (terms_of arguments) tpe)
+IsCall IsInner tables call.New p = IsName is_class_name tables.names then λ class. IsEntry tables.methods then λ method. IsCounted IsInner then λ arguments. IsValue (new_object p class method (terms_of arguments))
+IsCall IsInner tables call.Select p = IsInner then λ qualifier. IsName is_class_name tables.names then λ class. IsName is_plain_name tables.names then λ field. IsType tables.names then λ tpe. IsValue (select p qualifier class field tpe)
+IsCall IsInner tables call.Apply p = IsInner then λ receiver. IsEntry tables.methods then λ method. IsCounted IsInner then λ arguments. IsType tables.names then λ tpe. IsValue (apply p receiver method (terms_of arguments) tpe)
+IsCall IsInner tables call.ApplyStatically p = IsInner then λ receiver. IsName is_class_name tables.names then λ class. IsNamespace then λ namespace. IsEntry tables.methods then λ method. IsCounted IsInner then λ arguments. IsType tables.names then λ tpe. IsValue (apply_statically p receiver class namespace method (terms_of arguments) tpe)
+IsCall IsInner tables call.ApplyStatic p = IsName is_class_name tables.names then λ class. IsNamespace then λ namespace. IsEntry tables.methods then λ method. IsCounted IsInner then λ arguments. IsType tables.names then λ tpe. IsValue (apply_static p class namespace method (terms_of arguments) tpe)
 
 -- the forms of an operator, an array or a type test
 unfoldable pub operation_at : (List ℕ → Reading Term) → Tables → OperationForm → Position → List ℕ → Reading Term
@@ -147,14 +149,14 @@ operation_at tree tables operation.IsInstanceOf p bytes = tree bytes >>= λ valu
 operation_at tree tables operation.AsInstanceOf p bytes = tree bytes >>= λ value. type_at tables.names value.1 >>= λ tpe. Ok (as_instance_of p value.0 tpe.0, tpe.1)
 
 unfoldable pub IsOperation : Spelling Term → Tables → OperationForm → Position → Spelling Term
-IsOperation IsInner tables operation.UnaryOp p = IsUnary then λ operator. IsInner then λ operand. Gives_value (unary_op p operator operand)
-IsOperation IsInner tables operation.BinaryOp p = IsBinary then λ operator. IsInner then λ left. IsInner then λ right. Gives_value (binary_op p operator left right)
-IsOperation IsInner tables operation.NewArray p = IsArrayReference tables.names then λ array. IsInner then λ length. Gives_value (new_array p array length)
-IsOperation IsInner tables operation.ArrayValue p = IsArrayReference tables.names then λ array. IsList IsInner then λ items. Gives_value (array_value p array (terms_of items))
-IsOperation IsInner tables operation.ArrayLength p = IsInner then λ array. Gives_value (array_length p array)
-IsOperation IsInner tables operation.ArraySelect p = IsInner then λ array. IsInner then λ index. IsType tables.names then λ tpe. Gives_value (array_select p array index tpe)
-IsOperation IsInner tables operation.IsInstanceOf p = IsInner then λ value. IsType tables.names then λ tpe. Gives_value (is_instance_of p value tpe)
-IsOperation IsInner tables operation.AsInstanceOf p = IsInner then λ value. IsType tables.names then λ tpe. Gives_value (as_instance_of p value tpe)
+IsOperation IsInner tables operation.UnaryOp p = IsUnary then λ operator. IsInner then λ operand. IsValue (unary_op p operator operand)
+IsOperation IsInner tables operation.BinaryOp p = IsBinary then λ operator. IsInner then λ left. IsInner then λ right. IsValue (binary_op p operator left right)
+IsOperation IsInner tables operation.NewArray p = IsArrayReference tables.names then λ array. IsInner then λ length. IsValue (new_array p array length)
+IsOperation IsInner tables operation.ArrayValue p = IsArrayReference tables.names then λ array. IsCounted IsInner then λ items. IsValue (array_value p array (terms_of items))
+IsOperation IsInner tables operation.ArrayLength p = IsInner then λ array. IsValue (array_length p array)
+IsOperation IsInner tables operation.ArraySelect p = IsInner then λ array. IsInner then λ index. IsType tables.names then λ tpe. IsValue (array_select p array index tpe)
+IsOperation IsInner tables operation.IsInstanceOf p = IsInner then λ value. IsType tables.names then λ tpe. IsValue (is_instance_of p value tpe)
+IsOperation IsInner tables operation.AsInstanceOf p = IsInner then λ value. IsType tables.names then λ tpe. IsValue (as_instance_of p value tpe)
 
 -- the parts of a form
 abbrev pub form_at : (List ℕ → Reading Term) → Tables → Form → Position → List ℕ → Reading Term

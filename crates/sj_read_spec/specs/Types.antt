@@ -11,8 +11,10 @@ use Rattle.sj_trees.specs.declared.refusals.Reserved.{Reserved}
 use Rattle.sj_trees.specs.declared.refusals.Code.TheVariants.{BadTag, Unsupported}
 use Rattle.sj_read_spec.specs.Codes.{plain_types, reserved_types, namespaces, reserved_namespaces}
 use Rattle.sj_trees.specs.Forms.{among}
-use Rattle.sj_read_spec.specs.Reading.{Reading, ◌>>=◌, fault, byte_at, number_at, found}
-use Rattle.sj_read_spec.specs.Spelling.{Spelling, ◌then◌, Gives_value, chosen, Found, IsByte, IsNumber}
+use Rattle.exact_place.specs.Reading.{◌>>=◌}
+use Rattle.sj_read_spec.specs.Reading.{Reading, fault, byte_at, number_at, found}
+use Rattle.exact_place.specs.Grammar.{Spelling, ◌then◌, IsValue, chosen}
+use Rattle.sj_read_spec.specs.Spelling.{Found, IsByte, IsNumber}
 use Rattle.sj_read_spec.specs.Tables.{below_at, IsBelow, name_at, IsName}
 use Rattle.sj_read_spec.specs.References.{array_reference_at, IsArrayReference}
 
@@ -47,8 +49,8 @@ abbrev pub option_at : {A : Type 0} → (List ℕ → Reading A) → List ℕ �
 option_at read bytes = mark_at bytes >>= λ there. option_of read there.0 there.1
 
 abbrev pub IsOptionOf : {A : Type 0} → Spelling A → Bool → Spelling (Option A)
-IsOptionOf P true = P then λ x. Gives_value (Some x)
-IsOptionOf P false = Gives_value None
+IsOptionOf P true = P then λ x. IsValue (Some x)
+IsOptionOf P false = IsValue None
 
 abbrev pub IsOption : {A : Type 0} → Spelling A → Spelling (Option A)
 IsOption P = IsMark then λ there. IsOptionOf P there
@@ -58,7 +60,7 @@ abbrev pub signed_at : Width → ℕ → List ℕ → Reading ℤ
 signed_at w n bytes = number_at n bytes >>= λ x. Ok (cast_signed w x.0, x.1)
 
 abbrev pub IsSigned : Width → ℕ → Spelling ℤ
-IsSigned w n = IsNumber n then λ x. Gives_value (cast_signed w x)
+IsSigned w n = IsNumber n then λ x. IsValue (cast_signed w x)
 
 -- a position: one of the source files, a line and a column
 unfoldable pub position_at : ℕ → List ℕ → Reading Position
@@ -69,7 +71,7 @@ position_at files bytes = do
   Ok (record { file = file.0; line = line.0; column = column.0 }, column.1)
 
 unfoldable pub IsPosition : ℕ → Spelling Position
-IsPosition files = IsBelow files then λ file. IsNumber 4 then λ line. IsNumber 4 then λ column. Gives_value (record { file = file; line = line; column = column })
+IsPosition files = IsBelow files then λ file. IsNumber 4 then λ line. IsNumber 4 then λ column. IsValue (record { file = file; line = line; column = column })
 
 -- a namespace
 abbrev pub namespace_at : List ℕ → Reading Namespace
@@ -86,7 +88,7 @@ abbrev pub type_at : List (List ℕ) → List ℕ → Reading IrType
 type_at names bytes = byte_at bytes >>= λ code. type_of names code.0 bytes code.1
 
 unfoldable pub IsTypeOf : List (List ℕ) → ℕ → Spelling IrType
-IsTypeOf names code = chosen (code == 12) (IsName is_class_name names then λ c. Gives_value (class_type c)) (chosen (code == 13) (IsArrayReference names then λ a. Gives_value (Array a)) (Found (among plain_types code)))
+IsTypeOf names code = chosen (code == 12) (IsName is_class_name names then λ c. IsValue (class_type c)) (chosen (code == 13) (IsArrayReference names then λ a. IsValue (Array a)) (Found (among plain_types code)))
 
 abbrev pub IsType : List (List ℕ) → Spelling IrType
 IsType names = IsByte then λ code. IsTypeOf names code

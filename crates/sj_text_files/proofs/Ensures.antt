@@ -4,7 +4,8 @@ use Rattle.std.proofs.Math.Nat.{mul-le-mul_right}
 use Rattle.std.specs.Prelude.{All, MatchOption}
 use Rattle.std.specs.List.{slice_get}
 use Rattle.byteorder.specs.Endian.{big_from}
-use Rattle.sj_read_spec.specs.Spelling.{Spelling, ◌then◌, Gives_value, Never, chosen, Found, Tested, IsByte, IsNumber, IsEach, IsList}
+use Rattle.exact_place.specs.Grammar.{Spelling, ◌then◌, IsValue, chosen}
+use Rattle.sj_read_spec.specs.Spelling.{Never, Found, Tested, IsByte, IsNumber, IsEach, IsCounted}
 
 -- each of a list, as a record so that what holds of each is found
 pub record AllOf {A : Type 0} (Q : A → Type 0) (xs : List A) : Type 0 where
@@ -50,8 +51,8 @@ behind {A} {B} {Q} {R} {P} {next} first second = record {
       (second s.value (first.meets s.value s.front parts.0 s.first)).meets y s.back parts.1 s.second;
 }
 
-pub gives : {A : Type 0} {Q : A → Type 0} {v : A} → Q v → Ensures Q (Gives_value v)
-gives {A} {Q} {v} q = record { meets = λ x text bytes s. subst Q (sym s.is) q }
+pub gives : {A : Type 0} {Q : A → Type 0} {v : A} → Q v → Ensures Q (IsValue v)
+gives {A} {Q} {v} q = record { meets = λ x text bytes s. subst Q (sym s.same) q }
 
 pub never : {A : Type 0} {Q : A → Type 0} → Ensures {A = A} Q Never
 never = record { meets = λ x text bytes s. absurd s.never }
@@ -73,7 +74,7 @@ unfolding IsEach
 each p zero = gives all_none
 each p (suc n) = behind p (λ x q. behind (each p n) (λ xs qs. gives (all_more q qs)))
 
-pub listed : {A : Type 0} {Q : A → Type 0} {P : Spelling A} → Ensures Q P → Ensures (AllOf Q) (IsList P)
+pub listed : {A : Type 0} {Q : A → Type 0} {P : Spelling A} → Ensures Q P → Ensures (AllOf Q) (IsCounted P)
 listed p = behind (anything (IsNumber 4)) (λ n k. each p n)
 
 pub a_byte : Ensures (λ b. b < 256) IsByte

@@ -6,7 +6,7 @@ use Rattle.sj_read_spec.specs.declared.members.MemberDef.{MemberDef}
 use Rattle.sj_read_spec.specs.declared.members.MemberDef.TheVariants.{Field, Method}
 use Rattle.sj_read_spec.specs.declared.codes.MemberTag.{MemberTag}
 use Rattle.sj_read_spec.specs.declared.codes.MemberTag.TheVariants as tags
-use Rattle.sj_read_spec.specs.Spelling.{Spelling}
+use Rattle.exact_place.specs.Grammar.{Spelling}
 use Rattle.sj_read_spec.specs.Tables.{Tables}
 use Rattle.sj_read_spec.specs.Types.{IsOption, IsOptionOf}
 use Rattle.sj_read_spec.specs.Classes.{IsBody, IsParam, IsField, IsMethod, IsMemberOf, IsMember, fields_in, methods_in, IsClass}

@@ -20,7 +20,7 @@ use Rattle.sj_trees.specs.declared.forms.CallForm.{CallForm}
 use Rattle.sj_trees.specs.declared.forms.CallForm.TheVariants as call
 use Rattle.sj_trees.specs.declared.forms.OperationForm.{OperationForm}
 use Rattle.sj_trees.specs.declared.forms.OperationForm.TheVariants as operation
-use Rattle.sj_read_spec.specs.Spelling.{Spelling}
+use Rattle.exact_place.specs.Grammar.{Spelling}
 use Rattle.sj_read_spec.specs.Tables.{Tables}
 use Rattle.sj_read_spec.specs.Types.{IsSigned}
 use Rattle.sj_read_spec.specs.Trees.{IsCase, IsLeaf, IsStatement, IsBranch, IsCall, IsOperation, IsForm, IsTree}

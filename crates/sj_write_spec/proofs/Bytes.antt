@@ -3,7 +3,8 @@ use Rattle.std.proofs.Common.{ℕ, zero, suc, ◌<◌, ◌^◌, List, [], ◌∷
 use Rattle.std.specs.List.{AllByRecursion}
 use Rattle.byteorder.specs.Endian.{big_number, big_bytes}
 use Rattle.byteorder.specs.Numbers.{big_number-reads_back, length-bytes_high_first, big_from-lt}
-use Rattle.sj_read_spec.specs.Spelling.{Spelling, ◌then◌, IsNumber}
+use Rattle.exact_place.specs.Grammar.{Spelling, ◌then◌}
+use Rattle.sj_read_spec.specs.Spelling.{IsNumber}
 
 -- each is a byte
 abbrev pub AreBytes : List ℕ → Type 0

@@ -2,7 +2,8 @@
 use Rattle.std.proofs.Common.{◌≡◌, ℕ, ◌<◌, ◌^◌, Bool, true, false, List, [], ◌∷◌, length, slice_get, Option, Some, None, refl, sym, ap, ◌∙◌, subst, append-nil, lt_trans, arith}
 use Rattle.byteorder.specs.Endian.{big_bytes}
 use Rattle.sj_names.specs.declared.method_names.MethodName.{MethodName}
-use Rattle.sj_read_spec.specs.Spelling.{Spelling, ◌then◌, Gives_value, Found, Tested, IsByte, IsNumber}
+use Rattle.exact_place.specs.Grammar.{Spelling, ◌then◌, IsValue}
+use Rattle.sj_read_spec.specs.Spelling.{Found, Tested, IsByte, IsNumber}
 use Rattle.sj_read_spec.specs.Tables.{Tables, IsEntry, IsName}
 use Rattle.sj_read_spec.specs.Types.{IsCode}
 use Rattle.sj_write_spec.specs.Fields.{Fields, nothing, number_field, plain_field, name_field, method_field, string_field, file_field, both, ◌▸◌, byte}
@@ -57,11 +58,11 @@ join {fs = fs} {gs = gs} x one two = record {
 -- the last part of a value
 pub last : {A B : Type 0} {old : Tables} {P : Tables → Spelling A} {v : Tables → A → B} {fs' : Tables → Fields} {fs : Fields} (x : Tables → A)
     → Carried old (λ new text. P new (x new) text) fs' fs
-    → Carried old (λ new text. (P new then (λ z. Gives_value (v new z))) (v new (x new)) text) fs' fs
+    → Carried old (λ new text. (P new then (λ z. IsValue (v new z))) (v new (x new)) text) fs' fs
 last {fs = fs} x one = record {
   inside = one.inside;
   same = one.same;
-  again = λ new fit cover. record { value = x new; front = spelled new fs; back = []; first = one.again new fit cover; second = record { is = refl; nothing = refl }; parts = sym (append-nil (spelled new fs)) };
+  again = λ new fit cover. record { value = x new; front = spelled new fs; back = []; first = one.again new fit cover; second = record { same = refl; empty = refl }; parts = sym (append-nil (spelled new fs)) };
 }
 
 -- a part behind which no bytes are left
@@ -75,8 +76,8 @@ last_of {fs = fs} x one rest = record {
 }
 
 -- a value by no bytes
-pub value : {B : Type 0} {old : Tables} {y : Tables → B} → Carried old (λ new text. Gives_value (y new) (y new) text) (λ new. nothing) nothing
-value = record { inside = tt; same = λ new cover. refl; again = λ new fit cover. record { is = refl; nothing = refl } }
+pub value : {B : Type 0} {old : Tables} {y : Tables → B} → Carried old (λ new text. IsValue (y new) (y new) text) (λ new. nothing) nothing
+value = record { inside = tt; same = λ new cover. refl; again = λ new fit cover. record { same = refl; empty = refl } }
 
 pub carried_number : {old : Tables} (n x : ℕ) → x < 256 ^ n → Carried old (λ new text. IsNumber n x text) (λ new. number_field n x) (number_field n x)
 carried_number n x h = record { inside = h; same = λ new cover. refl; again = λ new fit cover. number_spelled n x h }
@@ -99,19 +100,19 @@ pub carried_code : {A : Type 0} {old : Tables} (meaning : ℕ → Option A) (cod
 carried_code meaning code x h e = record {
   inside = omega arith;
   same = λ new cover. refl;
-  again = λ new fit cover. record { value = code; front = big_bytes 1 code; back = []; first = record { byte = one_byte code h }; second = subst (λ o. Found o x []) (sym e) (record { is = refl; nothing = refl }); parts = sym (append-nil (big_bytes 1 code)) };
+  again = λ new fit cover. record { value = code; front = big_bytes 1 code; back = []; first = record { byte = one_byte code h }; second = subst (λ o. Found o x []) (sym e) (record { same = refl; empty = refl }); parts = sym (append-nil (big_bytes 1 code)) };
 }
 
 pub found_is : {A : Type 0} (o : Option A) (x : A) (text : List ℕ) → Found o x text → o ≡ Some x
-found_is (Some v) x text h = ap Some (sym h.is)
+found_is (Some v) x text h = ap Some (sym h.same)
 found_is None x text h = absurd h.never
 
 pub tested_is : {A : Type 0} (b : Bool) (v x : A) (text : List ℕ) → Tested b v x text → (b ≡ true) × (x ≡ v)
-tested_is true v x text h = (refl, h.is)
+tested_is true v x text h = (refl, h.same)
 tested_is false v x text h = absurd h.never
 
 pub entry_spelled : {A : Type 0} (table : List A) (n : ℕ) (x : A) → slice_get table n ≡ Some x → n < 256 ^ 4 → IsEntry table x (big_bytes 4 n)
-entry_spelled table n x e h = record { value = n; front = big_bytes 4 n; back = []; first = number_spelled 4 n h; second = subst (λ o. Found o x []) (sym e) (record { is = refl; nothing = refl }); parts = sym (append-nil (big_bytes 4 n)) }
+entry_spelled table n x e h = record { value = n; front = big_bytes 4 n; back = []; first = number_spelled 4 n h; second = subst (λ o. Found o x []) (sym e) (record { same = refl; empty = refl }); parts = sym (append-nil (big_bytes 4 n)) }
 
 text_entry : (table : List (List ℕ)) (x : List ℕ) → HasText table x → length table < 256 ^ 4 → IsEntry table x (big_bytes 4 (index_of same_text table x))
 text_entry table x h few = entry_spelled table (index_of same_text table x) x (found same_text text_decides table x h) (lt_trans (below same_text text_decides table x h) few)
@@ -127,7 +128,7 @@ carried_name grammar old x text h =
     record {
       inside = has_at same_text text_decides old.names entry.value x here;
       same = λ new cover. refl;
-      again = λ new fit cover. record { value = x; front = big_bytes 4 (index_of same_text new.names x); back = []; first = text_entry new.names x cover fit.names; second = subst (λ b. Tested b x x []) (sym good) (record { is = refl; nothing = refl }); parts = sym (append-nil (big_bytes 4 (index_of same_text new.names x))) };
+      again = λ new fit cover. record { value = x; front = big_bytes 4 (index_of same_text new.names x); back = []; first = text_entry new.names x cover fit.names; second = subst (λ b. Tested b x x []) (sym good) (record { same = refl; empty = refl }); parts = sym (append-nil (big_bytes 4 (index_of same_text new.names x))) };
     }
 
 -- a string of the old table

@@ -15,7 +15,8 @@ use Rattle.sj_read_spec.specs.declared.codes.MemberTag.{MemberTag}
 use Rattle.sj_read_spec.specs.declared.codes.MemberTag.TheVariants as tags
 use Rattle.sj_read_spec.specs.Codes.{kinds, member_tags}
 use Rattle.sj_trees.specs.Forms.{among}
-use Rattle.sj_read_spec.specs.Spelling.{Spelling, ◌then◌, Gives_value, IsBytes, IsEach, IsList}
+use Rattle.exact_place.specs.Grammar.{Spelling, ◌then◌, IsValue}
+use Rattle.sj_read_spec.specs.Spelling.{IsBytes, IsEach, IsCounted}
 use Rattle.sj_read_spec.specs.Tables.{Tables, IsName}
 use Rattle.sj_read_spec.specs.Types.{IsCode, IsOption}
 use Rattle.sj_read_spec.specs.Classes.{IsBody, IsParam, IsField, IsMethod, IsMemberOf, IsMember, IsClass, fields_in, methods_in}
@@ -34,18 +35,18 @@ carried_param : (old : Tables) (p : ParamDef) (text : List ℕ) → IsParam old 
 unfolding IsParam
 carried_param old p text h b =
     step h b (λ name f1 k1 h1 b1 h b. step h b (λ mutable f2 k2 h2 b2 h b. step h b (λ tpe f3 k3 h3 b3 h b.
-    subst (λ (p : ParamDef). Carried old (λ new text. IsParam new p text) (λ new. param_fields p) (param_fields p)) (sym h.is)
+    subst (λ (p : ParamDef). Carried old (λ new text. IsParam new p text) (λ new. param_fields p) (param_fields p)) (sym h.same)
     (join _ (carried_name is_plain_name old name _ h1) (join _ (carried_mark mutable) (last _ (carried_type old tpe _ h3 b3)))))))
 
-carried_params : (old : Tables) (ps : List ParamDef) (text : List ℕ) → IsList (IsParam old) ps text → AreBytes text → Carried old (λ new text. IsList (IsParam new) ps text) (λ new. list_fields param_fields ps) (list_fields param_fields ps)
+carried_params : (old : Tables) (ps : List ParamDef) (text : List ℕ) → IsCounted (IsParam old) ps text → AreBytes text → Carried old (λ new text. IsCounted (IsParam new) ps text) (λ new. list_fields param_fields ps) (list_fields param_fields ps)
 carried_params old ps text h b =
     let one = carried_list old (IsParam old) (λ new. IsParam new) (λ new p. p) (λ new. param_fields) param_fields (carried_param old) ps text h b in
-    subst (λ (qs : List ParamDef). Carried old (λ new text. IsList (IsParam new) qs text) (λ new. count (length ps) ▸ each param_fields qs) (list_fields param_fields ps)) (map-id ps) one
+    subst (λ (qs : List ParamDef). Carried old (λ new text. IsCounted (IsParam new) qs text) (λ new. count (length ps) ▸ each param_fields qs) (list_fields param_fields ps)) (map-id ps) one
 
-carried_names : (old : Tables) (names : List (List ℕ)) (text : List ℕ) → IsList (IsName is_class_name old.names) names text → AreBytes text → Carried old (λ new text. IsList (IsName is_class_name new.names) names text) (λ new. list_fields name_field names) (list_fields name_field names)
+carried_names : (old : Tables) (names : List (List ℕ)) (text : List ℕ) → IsCounted (IsName is_class_name old.names) names text → AreBytes text → Carried old (λ new text. IsCounted (IsName is_class_name new.names) names text) (λ new. list_fields name_field names) (list_fields name_field names)
 carried_names old names text h b =
     let one = carried_list old (IsName is_class_name old.names) (λ new. IsName is_class_name new.names) (λ new x. x) (λ new. name_field) name_field (λ x text h b. carried_name is_class_name old x text h) names text h b in
-    subst (λ (xs : List (List ℕ)). Carried old (λ new text. IsList (IsName is_class_name new.names) xs text) (λ new. count (length names) ▸ each name_field xs) (list_fields name_field names)) (map-id names) one
+    subst (λ (xs : List (List ℕ)). Carried old (λ new text. IsCounted (IsName is_class_name new.names) xs text) (λ new. count (length names) ▸ each name_field xs) (list_fields name_field names)) (map-id names) one
 
 option_map_id : {A : Type 0} (o : Option A) → option_map (λ x. x) o ≡ o
 option_map_id None = refl
@@ -85,7 +86,7 @@ carried_field : (old : Tables) (d : FieldDef) (text : List ℕ) → IsField old 
 unfolding IsField
 carried_field old d text h b =
     step h b (λ pos f1 k1 h1 b1 h b. step h b (λ is_static f2 k2 h2 b2 h b. step h b (λ mutable f3 k3 h3 b3 h b. step h b (λ name f4 k4 h4 b4 h b. step h b (λ tpe f5 k5 h5 b5 h b.
-    subst (FieldCarried old) (sym h.is)
+    subst (FieldCarried old) (sym h.same)
     (tagged_field old (record { pos = pos; is_static = is_static; mutable = mutable; name = name; tpe = tpe }) _ _
     (join _ (carried_position old pos _ h1 b1) (join _ (carried_mark is_static) (join _ (carried_mark mutable) (join _ (carried_name is_plain_name old name _ h4) (last _ (carried_type old tpe _ h5 b5))))))))))))
 
@@ -93,7 +94,7 @@ carried_method_def : (old : Tables) → Known old → (d : MethodDef) (text : Li
 unfolding IsMethod
 carried_method_def old known d text h b =
     step h b (λ pos f1 k1 h1 b1 h b. step h b (λ namespace f2 k2 h2 b2 h b. step h b (λ name f3 k3 h3 b3 h b. step h b (λ params f4 k4 h4 b4 h b. step h b (λ result f5 k5 h5 b5 h b. step h b (λ body f6 k6 h6 b6 h b. step h b (λ hash f7 k7 h7 b7 h b.
-    subst (MethodCarried old) (sym h.is)
+    subst (MethodCarried old) (sym h.same)
     (tagged_method old (record { pos = pos; namespace = namespace; name = name; params = params; result = result; body = body; hash = hash }) _ _
     (join _ (carried_position old pos _ h1 b1) (join _ (carried_namespace namespace) (join _ (carried_method old name _ known h3) (join _ (carried_params old params _ h4 b4) (join _ (carried_type old result _ h5 b5)
     (join _ (carried_option old (IsBody old) (λ new. IsBody new) (λ new. renumbered (number old new)) (λ new. term_fields new.files) (term_fields old.files) (carried_body old known) body _ h6 b6) (last _ (carried_hash old hash _ h7 b7))))))))))))))))
@@ -117,8 +118,8 @@ unfolding IsEach
 no_member old = record { count_is = omega arith; fields = value; methods = value }
 
 one_member_of : (old : Tables) → Known old → (tag : MemberTag) (m : MemberDef) (ms : List MemberDef) (text : List ℕ) → IsMemberOf old tag m text → AreBytes text → MembersCarried old ms → MembersCarried old (m ∷ ms)
-one_member_of old known tags.Field m ms text h b rest = step h b (λ d f1 k1 h1 b1 h b. subst (λ (m : MemberDef). MembersCarried old (m ∷ ms)) (sym h.is) (one_field old d ms (carried_field old d _ h1 b1) rest))
-one_member_of old known tags.Method m ms text h b rest = step h b (λ d f1 k1 h1 b1 h b. subst (λ (m : MemberDef). MembersCarried old (m ∷ ms)) (sym h.is) (one_method old d ms (carried_method_def old known d _ h1 b1) rest))
+one_member_of old known tags.Field m ms text h b rest = step h b (λ d f1 k1 h1 b1 h b. subst (λ (m : MemberDef). MembersCarried old (m ∷ ms)) (sym h.same) (one_field old d ms (carried_field old d _ h1 b1) rest))
+one_member_of old known tags.Method m ms text h b rest = step h b (λ d f1 k1 h1 b1 h b. subst (λ (m : MemberDef). MembersCarried old (m ∷ ms)) (sym h.same) (one_method old d ms (carried_method_def old known d _ h1 b1) rest))
 
 one_member : (old : Tables) → Known old → (m : MemberDef) (ms : List MemberDef) (text : List ℕ) → IsMember old m text → AreBytes text → MembersCarried old ms → MembersCarried old (m ∷ ms)
 unfolding IsMember
@@ -126,31 +127,31 @@ one_member old known m ms text h b rest = step h b (λ tag f1 k1 h1 b1 h b. one_
 
 carried_members : (old : Tables) → Known old → (n : ℕ) (ms : List MemberDef) (text : List ℕ) → IsEach (IsMember old) n ms text → AreBytes text → (length ms ≡ n) × MembersCarried old ms
 unfolding IsEach
-carried_members old known zero ms text h b = subst (λ (ns : List MemberDef). (length ns ≡ 0) × MembersCarried old ns) (sym h.is) (refl, no_member old)
+carried_members old known zero ms text h b = subst (λ (ns : List MemberDef). (length ns ≡ 0) × MembersCarried old ns) (sym h.same) (refl, no_member old)
 carried_members old known (suc n) ms text h b =
     step h b (λ m f1 k1 h1 b1 h b. step h b (λ rest f2 k2 h2 b2 h b.
     let others = carried_members old known n rest _ h2 b2 in
-    subst (λ (ns : List MemberDef). (length ns ≡ suc n) × MembersCarried old ns) (sym h.is) (ap suc others.0, one_member old known m rest _ h1 b1 others.1)))
+    subst (λ (ns : List MemberDef). (length ns ≡ suc n) × MembersCarried old ns) (sym h.same) (ap suc others.0, one_member old known m rest _ h1 b1 others.1)))
 
 each_joined : {A : Type 0} (P : Spelling A) (n m : ℕ) (xs ys : List A) (front back : List ℕ) → IsEach P n xs front → IsEach P m ys back → IsEach P (n + m) (xs ++ ys) (front ++ back)
 unfolding IsEach
 each_joined P zero m xs ys front back p q =
     let sum : m ≡ zero + m = omega arith in
     subst (λ (k : ℕ). IsEach P k (xs ++ ys) (front ++ back)) sum
-    (subst (λ (zs : List _). IsEach P m (zs ++ ys) (front ++ back)) (sym p.is) (subst (λ (t : List ℕ). IsEach P m ys (t ++ back)) (sym p.nothing) q))
+    (subst (λ (zs : List _). IsEach P m (zs ++ ys) (front ++ back)) (sym p.same) (subst (λ (t : List ℕ). IsEach P m ys (t ++ back)) (sym p.empty) q))
 each_joined P (suc n) m xs ys front back p q =
     let rest = p.second in
     let joined = each_joined P n m rest.value ys rest.front back rest.first q in
     let sum : suc (n + m) ≡ suc n + m = omega arith in
     subst (λ (k : ℕ). IsEach P k (xs ++ ys) (front ++ back)) sum
-    (subst (λ (zs : List _). IsEach P (suc (n + m)) (zs ++ ys) (front ++ back)) (sym rest.second.is)
+    (subst (λ (zs : List _). IsEach P (suc (n + m)) (zs ++ ys) (front ++ back)) (sym rest.second.same)
     (record {
       value = p.value;
       front = p.front;
       back = rest.front ++ back;
       first = p.first;
-      second = record { value = rest.value ++ ys; front = rest.front ++ back; back = []; first = joined; second = record { is = refl; nothing = refl }; parts = sym (append-nil (rest.front ++ back)) };
-      parts = ap (λ (t : List ℕ). t ++ back) (p.parts ∙ ap (λ (t : List ℕ). p.front ++ t) (rest.parts ∙ ap (λ (t : List ℕ). rest.front ++ t) rest.second.nothing ∙ append-nil rest.front)) ∙ append_assoc p.front rest.front back;
+      second = record { value = rest.value ++ ys; front = rest.front ++ back; back = []; first = joined; second = record { same = refl; empty = refl }; parts = sym (append-nil (rest.front ++ back)) };
+      parts = ap (λ (t : List ℕ). t ++ back) (p.parts ∙ ap (λ (t : List ℕ). p.front ++ t) (rest.parts ∙ ap (λ (t : List ℕ). rest.front ++ t) rest.second.empty ∙ append-nil rest.front)) ∙ append_assoc p.front rest.front back;
     }))
 
 fields_of : (f : FieldDef → FieldDef) (g : MethodDef → MethodDef) (fs : List FieldDef) (ms : List MethodDef) → fields_in (map (λ d. Field (f d)) fs ++ map (λ d. Method (g d)) ms) ≡ map f fs
@@ -164,7 +165,7 @@ methods_of f g [] (m ∷ ms) = ap (λ (l : List MethodDef). g m ∷ l) (methods_
 methods_of f g (d ∷ fs) ms = methods_of f g fs ms
 
 carried_rest : (old : Tables) (pos : Position) (name : List ℕ) (kind : ClassKind) (superclass : Option (List ℕ)) (interfaces : List (List ℕ)) (ms : List MemberDef) → length ms < 256 ^ 4 → MembersCarried old ms
-    → Carried old (λ new text. (◌then◌ {B = ClassDef} (IsList (IsMember new)) (λ members. Gives_value (record { pos = renumbered_position (number old new) pos; files = new.files; name = name; kind = kind; superclass = superclass; interfaces = interfaces; fields = fields_in members; methods = methods_in members })))
+    → Carried old (λ new text. (◌then◌ {B = ClassDef} (IsCounted (IsMember new)) (λ members. IsValue (record { pos = renumbered_position (number old new) pos; files = new.files; name = name; kind = kind; superclass = superclass; interfaces = interfaces; fields = fields_in members; methods = methods_in members })))
     (record { pos = renumbered_position (number old new) pos; files = new.files; name = name; kind = kind; superclass = superclass; interfaces = interfaces; fields = map (renumbered_field (number old new)) (fields_in ms); methods = map (renumbered_method (number old new)) (methods_in ms) }) text)
     (λ new. members_fields new.files (map (renumbered_field (number old new)) (fields_in ms)) (map (renumbered_method (number old new)) (methods_in ms)))
     (members_fields old.files (fields_in ms) (methods_in ms))
@@ -185,7 +186,7 @@ carried_rest old pos name kind superclass interfaces ms few all =
             front = spelled new (count (length fs + length gs)) ++ bytes;
             back = [];
             first = record { value = length fs + length gs; front = spelled new (count (length fs + length gs)); back = bytes; first = number_spelled 4 (length fs + length gs) small; second = each_joined (IsMember new) (length fs) (length gs) (map (λ d. Field (f d)) fs) (map (λ d. Method (g d)) gs) _ _ (all.fields.again new fit cover.1.0) (all.methods.again new fit cover.1.1); parts = refl };
-            second = record { is = λ i. record { pos = renumbered_position (number old new) pos; files = new.files; name = name; kind = kind; superclass = superclass; interfaces = interfaces; fields = sym (fields_of f g fs gs) i; methods = sym (methods_of f g fs gs) i }; nothing = refl };
+            second = record { same = λ i. record { pos = renumbered_position (number old new) pos; files = new.files; name = name; kind = kind; superclass = superclass; interfaces = interfaces; fields = sym (fields_of f g fs gs) i; methods = sym (methods_of f g fs gs) i }; empty = refl };
             parts = sym (append-nil (spelled new (count (length fs + length gs)) ++ bytes));
           };
     }
@@ -207,5 +208,5 @@ carried_class old known c text h b =
     step h6 b6 (λ n f7 k7 h7 b7 h8 b8.
     let all = carried_members old known n ms _ h8 b8 in
     let few : length ms < 256 ^ 4 = subst (λ (m : ℕ). m < 256 ^ 4) (sym all.0) (number_fits 4 n _ h7 b7) in
-    subst (λ (c : ClassDef). (c.files ≡ old.files) × ClassCarried old c) (sym h.is)
+    subst (λ (c : ClassDef). (c.files ≡ old.files) × ClassCarried old c) (sym h.same)
     (refl, join _ (carried_position old pos _ h1 b1) (join _ (carried_name is_class_name old name _ h2) (join _ (carried_kind kind) (join _ (carried_superclass old superclass _ h4 b4) (join _ (carried_names old interfaces _ h5 b5) (carried_rest old pos name kind superclass interfaces ms few all.1)))))))))))))

@@ -1,7 +1,8 @@
 -- Lists and things that may be missing.
 use Rattle.std.proofs.Common.{◌≡◌, ℕ, zero, suc, ◌<◌, ◌^◌, Bool, true, false, List, length, map, Option, Some, None, refl, sym, ap, ◌∙◌, subst, arith}
 use Rattle.std.specs.Prelude.{option_map}
-use Rattle.sj_read_spec.specs.Spelling.{Spelling, IsBytes, IsEach, IsList}
+use Rattle.exact_place.specs.Grammar.{Spelling}
+use Rattle.sj_read_spec.specs.Spelling.{IsBytes, IsEach, IsCounted}
 use Rattle.sj_read_spec.specs.Tables.{Tables}
 use Rattle.sj_read_spec.specs.Types.{IsMark, IsOptionOf, IsOption, mark_with}
 use Rattle.sj_write_spec.specs.Fields.{Fields, plain_field, ◌▸◌, mark, count, each, list_fields, option_fields}
@@ -23,17 +24,17 @@ module _ {A : Type 0} (old : Tables) (P : Spelling A) (P' : Tables → Spelling 
       → (length xs ≡ n) × Carried old (λ new text. IsEach (P' new) n (map (move new) xs) text) (λ new. each (fields' new) (map (move new) xs)) (each fields xs)
   unfolding IsEach
   carried_each zero xs text h b =
-      subst (λ (ys : List A). (length ys ≡ 0) × Carried old (λ new text. IsEach (P' new) zero (map (move new) ys) text) (λ new. each (fields' new) (map (move new) ys)) (each fields ys)) (sym h.is)
+      subst (λ (ys : List A). (length ys ≡ 0) × Carried old (λ new text. IsEach (P' new) zero (map (move new) ys) text) (λ new. each (fields' new) (map (move new) ys)) (each fields ys)) (sym h.same)
       (refl, value)
   carried_each (suc n) xs text h b =
       step h b (λ y front back p bp h b. step h b (λ ys front back q bq h b.
       let rest = carried_each n ys front q bq in
-      subst (λ (zs : List A). (length zs ≡ suc n) × Carried old (λ new text. IsEach (P' new) (suc n) (map (move new) zs) text) (λ new. each (fields' new) (map (move new) zs)) (each fields zs)) (sym h.is)
+      subst (λ (zs : List A). (length zs ≡ suc n) × Carried old (λ new text. IsEach (P' new) (suc n) (map (move new) zs) text) (λ new. each (fields' new) (map (move new) zs)) (each fields zs)) (sym h.same)
       (ap suc rest.0, join _ (inner y _ p bp) (last _ rest.1))))
 
   -- how many there are, and each
-  pub carried_list : (xs : List A) (text : List ℕ) → IsList P xs text → AreBytes text
-      → Carried old (λ new text. IsList (P' new) (map (move new) xs) text) (λ new. count (length xs) ▸ each (fields' new) (map (move new) xs)) (list_fields fields xs)
+  pub carried_list : (xs : List A) (text : List ℕ) → IsCounted P xs text → AreBytes text
+      → Carried old (λ new text. IsCounted (P' new) (map (move new) xs) text) (λ new. count (length xs) ▸ each (fields' new) (map (move new) xs)) (list_fields fields xs)
   carried_list xs text h b =
       step h b (λ n front back p bp h b.
       let all = carried_each n xs back h b in
@@ -43,11 +44,11 @@ module _ {A : Type 0} (old : Tables) (P : Spelling A) (P' : Tables → Spelling 
   carried_option_of : (there : Bool) (o : Option A) (text : List ℕ) → IsOptionOf P there o text → AreBytes text
       → Carried old (λ new text. IsOption (P' new) (option_map (move new) o) text) (λ new. option_fields (fields' new) (option_map (move new) o)) (option_fields fields o)
   carried_option_of true o text h b =
-      step h b (λ x front back p bp h b. as_value (λ o new text. IsOption (P' new) (option_map (move new) o) text) (λ o new. option_fields (fields' new) (option_map (move new) o)) (option_fields fields) (Some x) o h.is
+      step h b (λ x front back p bp h b. as_value (λ o new text. IsOption (P' new) (option_map (move new) o) text) (λ o new. option_fields (fields' new) (option_map (move new) o)) (option_fields fields) (Some x) o h.same
       (join (λ new. true) (carried_mark true) (last _ (inner x _ p bp))))
   carried_option_of false o text h b =
-      as_value (λ o new text. IsOption (P' new) (option_map (move new) o) text) (λ o new. option_fields (fields' new) (option_map (move new) o)) (option_fields fields) None o h.is
-      (last_of (λ new. false) (carried_mark false) (λ new. record { is = refl; nothing = refl }))
+      as_value (λ o new text. IsOption (P' new) (option_map (move new) o) text) (λ o new. option_fields (fields' new) (option_map (move new) o)) (option_fields fields) None o h.same
+      (last_of (λ new. false) (carried_mark false) (λ new. record { same = refl; empty = refl }))
 
   -- a thing that may be missing
   pub carried_option : (o : Option A) (text : List ℕ) → IsOption P o text → AreBytes text

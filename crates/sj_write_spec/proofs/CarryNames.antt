@@ -12,7 +12,8 @@ use Rattle.sj_trees.specs.declared.types.IrType.{IrType}
 use Rattle.sj_trees.specs.Types.{class_type}
 use Rattle.sj_read_spec.specs.Codes.{plain_types}
 use Rattle.sj_trees.specs.Forms.{among}
-use Rattle.sj_read_spec.specs.Spelling.{Spelling, ◌then◌, Gives_value, Found, Tested, chosen, IsByte, IsList}
+use Rattle.exact_place.specs.Grammar.{Spelling, ◌then◌, IsValue, chosen}
+use Rattle.sj_read_spec.specs.Spelling.{Found, Tested, IsByte, IsCounted}
 use Rattle.sj_read_spec.specs.Tables.{Tables, IsName}
 use Rattle.sj_read_spec.specs.References.{plain_base, IsBase, IsArray, IsArrayReference, plain_reference, IsReference, IsParameter, IsResult, IsMethodName}
 use Rattle.sj_read_spec.specs.Types.{IsTypeOf, IsType}
@@ -77,12 +78,12 @@ plain_base_carried old base p =
     (record {
       inside = omega (arith, p.small);
       same = λ new cover. refl;
-      again = λ new fit cover. record { value = p.code; front = spelled new (byte p.code); back = []; first = carried_byte p.code p.small; second = subst (λ (b : Bool). chosen b (IsName is_class_name new.names then λ c. Gives_value (BaseRef.Class c)) (Found (plain_base p.code)) base []) (sym p.no_class) (subst (λ (o : Option BaseRef). Found o base []) (sym p.is_base) (record { is = refl; nothing = refl })); parts = sym (append-nil (spelled new (byte p.code))) };
+      again = λ new fit cover. record { value = p.code; front = spelled new (byte p.code); back = []; first = carried_byte p.code p.small; second = subst (λ (b : Bool). chosen b (IsName is_class_name new.names then λ c. IsValue (BaseRef.Class c)) (Found (plain_base p.code)) base []) (sym p.no_class) (subst (λ (o : Option BaseRef). Found o base []) (sym p.is_base) (record { same = refl; empty = refl })); parts = sym (append-nil (spelled new (byte p.code))) };
     })
 
-base_by : (old : Tables) (base : BaseRef) (code : ℕ) (b : Bool) (text : List ℕ) → chosen b (IsName is_class_name old.names then λ c. Gives_value (BaseRef.Class c)) (Found (plain_base code)) base text → AreBytes text → CarriedBase old base
+base_by : (old : Tables) (base : BaseRef) (code : ℕ) (b : Bool) (text : List ℕ) → chosen b (IsName is_class_name old.names then λ c. IsValue (BaseRef.Class c)) (Found (plain_base code)) base text → AreBytes text → CarriedBase old base
 base_by old base code true text h b =
-    step h b (λ c front back p bp h b. as_value (λ base new text. IsBase new.names base text) (λ base new. base_fields base) base_fields (BaseRef.Class c) base h.is
+    step h b (λ c front back p bp h b. as_value (λ base new text. IsBase new.names base text) (λ base new. base_fields base) base_fields (BaseRef.Class c) base h.same
     (join (λ new. 8) (byte_carried 8 (omega arith)) (last _ (carried_name is_class_name old c _ p))))
 base_by old base code false text h b = plain_base_carried old base (plain_base_found code base (found_is (plain_base code) base text h))
 
@@ -92,7 +93,7 @@ carried_base old base text h b = step h b (λ code front back p bp h b. base_by 
 -- ---- arrays
 
 dimensions_carried : {old : Tables} (n : ℕ) → n < 256 → ltb 0 n ≡ true → Carried old (λ new text. (IsByte then λ n. Tested (ltb 0 n) n) n text) (λ new. byte n) (byte n)
-dimensions_carried n small some = last_of (λ new. n) (byte_carried n small) (λ new. subst (λ (b : Bool). Tested b n n []) (sym some) (record { is = refl; nothing = refl }))
+dimensions_carried n small some = last_of (λ new. n) (byte_carried n small) (λ new. subst (λ (b : Bool). Tested b n n []) (sym some) (record { same = refl; empty = refl }))
 
 carried_dimensions : (old : Tables) (n : ℕ) (text : List ℕ) → (IsByte then λ n. Tested (ltb 0 n) n) n text → AreBytes text → Carried old (λ new text. (IsByte then λ n. Tested (ltb 0 n) n) n text) (λ new. byte n) (byte n)
 carried_dimensions old n text h b =
@@ -105,7 +106,7 @@ pub carried_array : (old : Tables) (a : ArrayRef) (text : List ℕ) → IsArray 
 unfolding IsArray
 carried_array old a text h b =
     step h b (λ n front back p bp h b. step h b (λ base front back q bq h b.
-    as_value (λ a new text. IsArray new.names a text) (λ a new. byte a.dimensions ▸ base_fields a.base) (λ a. byte a.dimensions ▸ base_fields a.base) (record { dimensions = n; base = base }) a h.is
+    as_value (λ a new text. IsArray new.names a text) (λ a new. byte a.dimensions ▸ base_fields a.base) (λ a. byte a.dimensions ▸ base_fields a.base) (record { dimensions = n; base = base }) a h.same
     (join (λ new. n) (carried_dimensions old n _ p bp) (last (λ new. base) (carried_base old base _ q bq)))))
 
 pub carried_array_reference : (old : Tables) (a : ArrayRef) (text : List ℕ) → IsArrayReference old.names a text → AreBytes text → Carried old (λ new text. IsArrayReference new.names a text) (λ new. array_fields a) (array_fields a)
@@ -119,7 +120,7 @@ carried_array_reference old a text h b =
     nine_then old a one = record {
       inside = one.inside;
       same = one.same;
-      again = λ new fit cover. record { value = 9; front = []; back = spelled new (byte a.dimensions ▸ base_fields a.base); first = record { is = refl; nothing = refl }; second = one.again new fit cover; parts = refl };
+      again = λ new fit cover. record { value = 9; front = []; back = spelled new (byte a.dimensions ▸ base_fields a.base); first = record { same = refl; empty = refl }; second = one.again new fit cover; parts = refl };
     }
 
 -- ---- references
@@ -182,16 +183,16 @@ reference_plain old r p = record {
     inside = tt;
     same = λ new cover. refl;
     again = λ new fit cover.
-        subst (λ (b : Bool). chosen b (IsName is_class_name new.names then λ c. Gives_value (TypeRef.Class c)) (chosen (eqb p.code 9) (IsArray new.names then λ a. Gives_value (TypeRef.Array a)) (Found (plain_reference p.code))) r []) (sym p.no_class)
-        (subst (λ (b : Bool). chosen b (IsArray new.names then λ a. Gives_value (TypeRef.Array a)) (Found (plain_reference p.code)) r []) (sym p.no_array)
-        (subst (λ (o : Option TypeRef). Found o r []) (sym p.is_reference) (record { is = refl; nothing = refl })));
+        subst (λ (b : Bool). chosen b (IsName is_class_name new.names then λ c. IsValue (TypeRef.Class c)) (chosen (eqb p.code 9) (IsArray new.names then λ a. IsValue (TypeRef.Array a)) (Found (plain_reference p.code))) r []) (sym p.no_class)
+        (subst (λ (b : Bool). chosen b (IsArray new.names then λ a. IsValue (TypeRef.Array a)) (Found (plain_reference p.code)) r []) (sym p.no_array)
+        (subst (λ (o : Option TypeRef). Found o r []) (sym p.is_reference) (record { same = refl; empty = refl })));
   };
 }
 
-reference_by : (old : Tables) (r : TypeRef) (code : ℕ) (b c : Bool) (text : List ℕ) → chosen b (IsName is_class_name old.names then λ c. Gives_value (TypeRef.Class c)) (chosen c (IsArray old.names then λ a. Gives_value (TypeRef.Array a)) (Found (plain_reference code))) r text → AreBytes text → CarriedReference old r
+reference_by : (old : Tables) (r : TypeRef) (code : ℕ) (b c : Bool) (text : List ℕ) → chosen b (IsName is_class_name old.names then λ c. IsValue (TypeRef.Class c)) (chosen c (IsArray old.names then λ a. IsValue (TypeRef.Array a)) (Found (plain_reference code))) r text → AreBytes text → CarriedReference old r
 unfolding IsReference
 reference_by old r code true c text h b =
-    step h b (λ name front back p bp h b. subst (CarriedReference old) (sym h.is) (record {
+    step h b (λ name front back p bp h b. subst (CarriedReference old) (sym h.same) (record {
       code = 8;
       none = refl;
       void = refl;
@@ -201,7 +202,7 @@ reference_by old r code true c text h b =
       carried = last (λ new. name) (carried_name is_class_name old name _ p);
     }))
 reference_by old r code false true text h b =
-    step h b (λ a front back p bp h b. subst (CarriedReference old) (sym h.is) (record {
+    step h b (λ a front back p bp h b. subst (CarriedReference old) (sym h.same) (record {
       code = 9;
       none = refl;
       void = refl;
@@ -238,22 +239,22 @@ carried_parameter old r text h b =
 
 result_of_reference : (old : Tables) (r : TypeRef) → CarriedReference old r → Carried old (λ new text. IsResult new.names (Some r) text) (λ new. reference_fields r) (reference_fields r)
 result_of_reference old r one =
-    code_and {Q = λ new code. chosen (eqb code 0) (Gives_value None) (chosen (eqb code 1) (Gives_value (Some TypeRef.Void)) (IsReference new.names code then λ r. Gives_value (Some r)))} (Some r) one.code one.behind (reference_fields r) one.small one.fields (record {
+    code_and {Q = λ new code. chosen (eqb code 0) (IsValue None) (chosen (eqb code 1) (IsValue (Some TypeRef.Void)) (IsReference new.names code then λ r. IsValue (Some r)))} (Some r) one.code one.behind (reference_fields r) one.small one.fields (record {
       inside = one.carried.inside;
       same = λ new cover. refl;
       again = λ new fit cover.
-          subst (λ (b : Bool). chosen b (Gives_value None) (chosen (eqb one.code 1) (Gives_value (Some TypeRef.Void)) (IsReference new.names one.code then λ r. Gives_value (Some r))) (Some r) (spelled new one.behind)) (sym one.none)
-          (subst (λ (b : Bool). chosen b (Gives_value (Some TypeRef.Void)) (IsReference new.names one.code then λ r. Gives_value (Some r)) (Some r) (spelled new one.behind)) (sym one.void)
-          (record { value = r; front = spelled new one.behind; back = []; first = one.carried.again new fit cover; second = record { is = refl; nothing = refl }; parts = sym (append-nil (spelled new one.behind)) }));
+          subst (λ (b : Bool). chosen b (IsValue None) (chosen (eqb one.code 1) (IsValue (Some TypeRef.Void)) (IsReference new.names one.code then λ r. IsValue (Some r))) (Some r) (spelled new one.behind)) (sym one.none)
+          (subst (λ (b : Bool). chosen b (IsValue (Some TypeRef.Void)) (IsReference new.names one.code then λ r. IsValue (Some r)) (Some r) (spelled new one.behind)) (sym one.void)
+          (record { value = r; front = spelled new one.behind; back = []; first = one.carried.again new fit cover; second = record { same = refl; empty = refl }; parts = sym (append-nil (spelled new one.behind)) }));
     })
 
 abbrev CarriedResult : Tables → Option TypeRef → Type 0
 CarriedResult old o = Carried old (λ new text. IsResult new.names o text) (λ new. result_fields o) (result_fields o)
 
-result_by : (old : Tables) (o : Option TypeRef) (code : ℕ) (b c : Bool) (text : List ℕ) → chosen b (Gives_value None) (chosen c (Gives_value (Some TypeRef.Void)) (IsReference old.names code then λ r. Gives_value (Some r))) o text → AreBytes text → CarriedResult old o
-result_by old o code true c text h b = subst (CarriedResult old) (sym h.is) (last_of (λ new. 0) (byte_carried 0 (omega arith)) (λ new. record { is = refl; nothing = refl }))
-result_by old o code false true text h b = subst (CarriedResult old) (sym h.is) (last_of (λ new. 1) (byte_carried 1 (omega arith)) (λ new. record { is = refl; nothing = refl }))
-result_by old o code false false text h b = step h b (λ r front back p bp h b. subst (CarriedResult old) (sym h.is) (result_of_reference old r (carried_reference old r code _ p bp)))
+result_by : (old : Tables) (o : Option TypeRef) (code : ℕ) (b c : Bool) (text : List ℕ) → chosen b (IsValue None) (chosen c (IsValue (Some TypeRef.Void)) (IsReference old.names code then λ r. IsValue (Some r))) o text → AreBytes text → CarriedResult old o
+result_by old o code true c text h b = subst (CarriedResult old) (sym h.same) (last_of (λ new. 0) (byte_carried 0 (omega arith)) (λ new. record { same = refl; empty = refl }))
+result_by old o code false true text h b = subst (CarriedResult old) (sym h.same) (last_of (λ new. 1) (byte_carried 1 (omega arith)) (λ new. record { same = refl; empty = refl }))
+result_by old o code false false text h b = step h b (λ r front back p bp h b. subst (CarriedResult old) (sym h.same) (result_of_reference old r (carried_reference old r code _ p bp)))
 
 pub carried_result : (old : Tables) (o : Option TypeRef) (text : List ℕ) → IsResult old.names o text → AreBytes text → CarriedResult old o
 carried_result old o text h b = step h b (λ code front back p bp h b. result_by old o code (eqb code 0) (eqb code 1) back h b)
@@ -264,13 +265,13 @@ pub carried_method_name : (old : Tables) (m : MethodName) (text : List ℕ) → 
 unfolding IsMethodName
 carried_method_name old m text h b =
     step h b (λ simple front back p bp h b. step h b (λ params front back q bq h b. step h b (λ outcome front back r br h b.
-    as_value (λ m new text. IsMethodName new.names m text) (λ m new. method_name_fields m) method_name_fields (record { simple = simple; params = params; result = outcome }) m h.is
+    as_value (λ m new text. IsMethodName new.names m text) (λ m new. method_name_fields m) method_name_fields (record { simple = simple; params = params; result = outcome }) m h.same
     (join (λ new. simple) (carried_name is_simple_name old simple _ p) (join (λ new. params) (carried_params old params _ q bq) (last (λ new. outcome) (carried_result old outcome _ r br)))))))
   where
-    carried_params : (old : Tables) (params : List TypeRef) (text : List ℕ) → IsList (IsParameter old.names) params text → AreBytes text → Carried old (λ new text. IsList (IsParameter new.names) params text) (λ new. list_fields reference_fields params) (list_fields reference_fields params)
+    carried_params : (old : Tables) (params : List TypeRef) (text : List ℕ) → IsCounted (IsParameter old.names) params text → AreBytes text → Carried old (λ new text. IsCounted (IsParameter new.names) params text) (λ new. list_fields reference_fields params) (list_fields reference_fields params)
     carried_params old params text h b =
         let one = carried_list old (IsParameter old.names) (λ new. IsParameter new.names) (λ new r. r) (λ new. reference_fields) reference_fields (λ r text h b. carried_parameter old r text h b) params text h b in
-        subst (λ (ps : List TypeRef). Carried old (λ new text. IsList (IsParameter new.names) ps text) (λ new. count (length params) ▸ each reference_fields ps) (list_fields reference_fields params)) (map-id params) one
+        subst (λ (ps : List TypeRef). Carried old (λ new text. IsCounted (IsParameter new.names) ps text) (λ new. count (length params) ▸ each reference_fields ps) (list_fields reference_fields params)) (map-id params) one
 
 -- ---- types
 
@@ -325,9 +326,9 @@ unfolding IsTypeOf
 plain_type_carried old t p =
     subst (λ (fs : Fields). Carried old (λ new text. IsType new.names t text) (λ new. fs) fs) (sym p.fields)
     (last_of (λ new. p.code) (byte_carried p.code p.small) (λ new.
-    subst (λ (b : Bool). chosen b (IsName is_class_name new.names then λ c. Gives_value (class_type c)) (chosen (eqb p.code 13) (IsArrayReference new.names then λ a. Gives_value (IrType.Array a)) (Found (among plain_types p.code))) t []) (sym p.no_class)
-    (subst (λ (b : Bool). chosen b (IsArrayReference new.names then λ a. Gives_value (IrType.Array a)) (Found (among plain_types p.code)) t []) (sym p.no_array)
-    (subst (λ (o : Option IrType). Found o t []) (sym p.is_type) (record { is = refl; nothing = refl })))))
+    subst (λ (b : Bool). chosen b (IsName is_class_name new.names then λ c. IsValue (class_type c)) (chosen (eqb p.code 13) (IsArrayReference new.names then λ a. IsValue (IrType.Array a)) (Found (among plain_types p.code))) t []) (sym p.no_class)
+    (subst (λ (b : Bool). chosen b (IsArrayReference new.names then λ a. IsValue (IrType.Array a)) (Found (among plain_types p.code)) t []) (sym p.no_array)
+    (subst (λ (o : Option IrType). Found o t []) (sym p.is_type) (record { same = refl; empty = refl })))))
 
 class_by : (old : Tables) (c : List ℕ) (b : Bool) (text : List ℕ) → pointwise nat_eq c (codes "java.lang.Object") ≡ b → IsName is_class_name old.names c text → CarriedType old (class_type c)
 unfolding IsTypeOf
@@ -337,13 +338,13 @@ class_by old c false text e h =
     (join (λ new. 12) (byte_carried 12 (omega arith)) (class_again old c e (carried_name is_class_name old c text h)))
   where
     class_again : (old : Tables) (c : List ℕ) → pointwise nat_eq c (codes "java.lang.Object") ≡ false → Carried old (λ new text. IsName is_class_name new.names c text) (λ new. name_field c) (name_field c)
-        → Carried old (λ new text. (IsName is_class_name new.names then λ c. Gives_value (class_type c)) (IrType.Class c) text) (λ new. name_field c) (name_field c)
-    class_again old c e one = last_of (λ new. c) one (λ new. record { is = sym (ap (λ (b : Bool). cond b IrType.Any (IrType.Class c)) e); nothing = refl })
+        → Carried old (λ new text. (IsName is_class_name new.names then λ c. IsValue (class_type c)) (IrType.Class c) text) (λ new. name_field c) (name_field c)
+    class_again old c e one = last_of (λ new. c) one (λ new. record { same = sym (ap (λ (b : Bool). cond b IrType.Any (IrType.Class c)) e); empty = refl })
 
-type_by : (old : Tables) (t : IrType) (code : ℕ) (b c : Bool) (text : List ℕ) → chosen b (IsName is_class_name old.names then λ c. Gives_value (class_type c)) (chosen c (IsArrayReference old.names then λ a. Gives_value (IrType.Array a)) (Found (among plain_types code))) t text → AreBytes text → CarriedType old t
+type_by : (old : Tables) (t : IrType) (code : ℕ) (b c : Bool) (text : List ℕ) → chosen b (IsName is_class_name old.names then λ c. IsValue (class_type c)) (chosen c (IsArrayReference old.names then λ a. IsValue (IrType.Array a)) (Found (among plain_types code))) t text → AreBytes text → CarriedType old t
 unfolding IsTypeOf
-type_by old t code true c text h b = step h b (λ name front back p bp h b. subst (CarriedType old) (sym h.is) (class_by old name (pointwise nat_eq name (codes "java.lang.Object")) _ refl p))
-type_by old t code false true text h b = step h b (λ a front back p bp h b. subst (CarriedType old) (sym h.is) (join (λ new. 13) (byte_carried 13 (omega arith)) (last (λ new. a) (carried_array_reference old a _ p bp))))
+type_by old t code true c text h b = step h b (λ name front back p bp h b. subst (CarriedType old) (sym h.same) (class_by old name (pointwise nat_eq name (codes "java.lang.Object")) _ refl p))
+type_by old t code false true text h b = step h b (λ a front back p bp h b. subst (CarriedType old) (sym h.same) (join (λ new. 13) (byte_carried 13 (omega arith)) (last (λ new. a) (carried_array_reference old a _ p bp))))
 type_by old t code false false text h b = plain_type_carried old t (among_all IsPlainType plain_types all_plain code t (found_is (among plain_types code) t text h))
 
 pub carried_type : (old : Tables) (t : IrType) (text : List ℕ) → IsType old.names t text → AreBytes text → CarriedType old t

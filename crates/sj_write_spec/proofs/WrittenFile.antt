@@ -12,7 +12,8 @@ use Rattle.sj_names.specs.declared.references.TypeRef.{TypeRef}
 use Rattle.sj_names.specs.declared.method_names.MethodName.{MethodName}
 use Rattle.sj_units.specs.Modified.{modified_units, modified_bytes, ReadsWhatIsWritten}
 use Rattle.sj_trees.specs.declared.classes.ClassDef.{ClassDef}
-use Rattle.sj_read_spec.specs.Spelling.{Spelling, ◌then◌, Found, Tested, IsNumber, IsBytes, IsEach, IsList}
+use Rattle.exact_place.specs.Grammar.{Spelling, ◌then◌}
+use Rattle.sj_read_spec.specs.Spelling.{Found, Tested, IsNumber, IsBytes, IsEach, IsCounted}
 use Rattle.sj_read_spec.specs.Tables.{Tables, IsText, IsString}
 use Rattle.sj_read_spec.specs.References.{IsMethodName}
 use Rattle.sj_read_spec.specs.Classes.{IsClass}
@@ -45,11 +46,11 @@ module _ {A : Type 0} (same : A → A → Bool) (decides : (x y : A) → Decides
   each_tells : (P : Spelling A) (Fact : A → Type 0) → ((x : A) (text : List ℕ) → P x text → AreBytes text → Fact x) → (n : ℕ) (xs : List A) (text : List ℕ) → IsEach P n xs text → AreBytes text
       → (length xs ≡ n) × ((x : A) → Has same decides xs x → Fact x)
   unfolding IsEach
-  each_tells P Fact tells zero xs text h b = subst (λ (ys : List A). (length ys ≡ 0) × ((x : A) → Has same decides ys x → Fact x)) (sym h.is) (refl, λ x has. absurd (true≢false (sym has)))
+  each_tells P Fact tells zero xs text h b = subst (λ (ys : List A). (length ys ≡ 0) × ((x : A) → Has same decides ys x → Fact x)) (sym h.same) (refl, λ x has. absurd (true≢false (sym has)))
   each_tells P Fact tells (suc n) xs text h b =
       step h b (λ y f1 k1 h1 b1 h b. step h b (λ ys f2 k2 h2 b2 h b.
       let rest = each_tells P Fact tells n ys f2 h2 b2 in
-      subst (λ (zs : List A). (length zs ≡ suc n) × ((x : A) → Has same decides zs x → Fact x)) (sym h.is) (
+      subst (λ (zs : List A). (length zs ≡ suc n) × ((x : A) → Has same decides zs x → Fact x)) (sym h.same) (
         ap suc rest.0,
         λ x has. elim (has_either same decides (y ∷ []) ys x has) [
           | inl one ↦ subst Fact (sym (is_one x y one)) (tells y f1 h1 b1)
@@ -67,17 +68,17 @@ module _ {A : Type 0} (same : A → A → Bool) (decides : (x y : A) → Decides
   -- and a table each of whose entries has a spelling is spelled
   each_written : (P : Spelling A) (bytes : A → List ℕ) (xs : List A) → ((x : A) → Has same decides xs x → P x (bytes x)) → IsEach P (length xs) xs (flat_map bytes xs)
   unfolding IsEach
-  each_written P bytes [] all = record { is = refl; nothing = refl }
+  each_written P bytes [] all = record { same = refl; empty = refl }
   each_written P bytes (x ∷ xs) all = record {
     value = x;
     front = bytes x;
     back = flat_map bytes xs;
     first = all x (has_head x xs);
-    second = record { value = xs; front = flat_map bytes xs; back = []; first = each_written P bytes xs (λ y h. all y (has_tail x y xs h)); second = record { is = refl; nothing = refl }; parts = sym (append-nil (flat_map bytes xs)) };
+    second = record { value = xs; front = flat_map bytes xs; back = []; first = each_written P bytes xs (λ y h. all y (has_tail x y xs h)); second = record { same = refl; empty = refl }; parts = sym (append-nil (flat_map bytes xs)) };
     parts = refl;
   }
 
-  list_written : (P : Spelling A) (bytes : A → List ℕ) (xs : List A) → length xs < 256 ^ 4 → ((x : A) → Has same decides xs x → P x (bytes x)) → IsList P xs (table_bytes bytes xs)
+  list_written : (P : Spelling A) (bytes : A → List ℕ) (xs : List A) → length xs < 256 ^ 4 → ((x : A) → Has same decides xs x → P x (bytes x)) → IsCounted P xs (table_bytes bytes xs)
   list_written P bytes xs few all = record { value = length xs; front = big_bytes 4 (length xs); back = flat_map bytes xs; first = number_spelled 4 (length xs) few; second = each_written P bytes xs all; parts = refl }
 
   equivalence : IsEquivalence same
@@ -269,7 +270,7 @@ text_again x text h b =
       front = big_bytes 4 (length x);
       back = x;
       first = number_spelled 4 (length x) few;
-      second = record { value = x; front = x; back = []; first = record { count = refl; same = refl }; second = subst (λ (c : Bool). Tested c x x []) (sym (ap is_utf8 test.1 ∙ test.0)) (record { is = refl; nothing = refl }); parts = sym (append-nil x) };
+      second = record { value = x; front = x; back = []; first = record { count = refl; same = refl }; second = subst (λ (c : Bool). Tested c x x []) (sym (ap is_utf8 test.1 ∙ test.0)) (record { same = refl; empty = refl }); parts = sym (append-nil x) };
       parts = refl;
     }))
 
@@ -286,7 +287,7 @@ string_again law u text h b =
       front = big_bytes 4 (length (modified_bytes u));
       back = modified_bytes u;
       first = number_spelled 4 (length (modified_bytes u)) few;
-      second = record { value = modified_bytes u; front = modified_bytes u; back = []; first = record { count = refl; same = refl }; second = subst (λ (o : Option (List ℕ)). Found o u []) (sym again) (record { is = refl; nothing = refl }); parts = sym (append-nil (modified_bytes u)) };
+      second = record { value = modified_bytes u; front = modified_bytes u; back = []; first = record { count = refl; same = refl }; second = subst (λ (o : Option (List ℕ)). Found o u []) (sym again) (record { same = refl; empty = refl }); parts = sym (append-nil (modified_bytes u)) };
       parts = refl;
     }))
 
@@ -300,7 +301,7 @@ record AreOld (old : Tables) : Type 0 where
   methods : (m : MethodName) → HasMethod old.methods m → MethodNameCarried old m
   strings : (u : List ℕ) → HasText old.strings u → IsString u (counted_bytes (modified_bytes u))
 
-list_tells : {A : Type 0} (same : A → A → Bool) (decides : (x y : A) → Decides (same x y) (x ≡ y)) (P : Spelling A) (Fact : A → Type 0) → ((x : A) (text : List ℕ) → P x text → AreBytes text → Fact x) → (xs : List A) (text : List ℕ) → IsList P xs text → AreBytes text
+list_tells : {A : Type 0} (same : A → A → Bool) (decides : (x y : A) → Decides (same x y) (x ≡ y)) (P : Spelling A) (Fact : A → Type 0) → ((x : A) (text : List ℕ) → P x text → AreBytes text → Fact x) → (xs : List A) (text : List ℕ) → IsCounted P xs text → AreBytes text
     → (length xs < 256 ^ 4) × ((x : A) → Has same decides xs x → Fact x)
 list_tells same decides P Fact tells xs text h b =
     step h b (λ n f1 k1 h1 b1 h b.
@@ -316,7 +317,7 @@ are_old law old text h b =
     let ns = list_tells same_text text_decides IsText (λ x. IsText x (counted_bytes x)) text_again names f2 h2 b2 in
     let ms = list_tells same_method method_decides (IsMethodName names) (MethodNameCarried t) (λ m text h b. carried_method_name t m text h b) methods f3 h3 b3 in
     let ss = list_tells same_text text_decides IsString (λ u. IsString u (counted_bytes (modified_bytes u))) (string_again law) strings f4 h4 b4 in
-    subst AreOld (sym h.is) (record { fit = record { files = fs.0; names = ns.0; methods = ms.0; strings = ss.0 }; files = fs.1; names = ns.1; methods = ms.1; strings = ss.1 })))))
+    subst AreOld (sym h.same) (record { fit = record { files = fs.0; names = ns.0; methods = ms.0; strings = ss.0 }; files = fs.1; names = ns.1; methods = ms.1; strings = ss.1 })))))
 
 known : (old : Tables) → AreOld old → Known old
 known old are m h x g = (uses_inside old (method_name_fields m) (are.methods m h).inside).1 x (subst (λ (l : List (List ℕ)). HasText l x) (sym (method_names m)) g)
@@ -358,8 +359,8 @@ own_names (both fs gs) m h x g = elim (has_either same_method method_decides (me
   | inr e ↦ has_back same_text text_decides (names_used fs) (names_used gs) x (own_names gs m e x g)
 ]
 
-tables_spelled : (new : Tables) → IsList IsText new.files (table_bytes counted_bytes new.files) → IsList IsText new.names (table_bytes counted_bytes new.names)
-    → IsList (IsMethodName new.names) new.methods (table_bytes (λ m. spelled new (method_name_fields m)) new.methods) → IsList IsString new.strings (table_bytes (λ u. counted_bytes (modified_bytes u)) new.strings) → IsTables new (tables_bytes new)
+tables_spelled : (new : Tables) → IsCounted IsText new.files (table_bytes counted_bytes new.files) → IsCounted IsText new.names (table_bytes counted_bytes new.names)
+    → IsCounted (IsMethodName new.names) new.methods (table_bytes (λ m. spelled new (method_name_fields m)) new.methods) → IsCounted IsString new.strings (table_bytes (λ u. counted_bytes (modified_bytes u)) new.strings) → IsTables new (tables_bytes new)
 unfolding IsTables
 tables_spelled new files names methods strings =
     let files_text = table_bytes counted_bytes new.files in
@@ -384,7 +385,7 @@ tables_spelled new files names methods strings =
           back = strings_text;
           first = methods;
           parts = refl;
-          second = record { value = new.strings; front = strings_text; back = []; first = strings; second = record { is = refl; nothing = refl }; parts = sym (append-nil strings_text) };
+          second = record { value = new.strings; front = strings_text; back = []; first = strings; second = record { same = refl; empty = refl }; parts = sym (append-nil strings_text) };
         };
       };
     }
@@ -404,7 +405,7 @@ new_tables old fs are u =
 -- ---- the file
 
 is_magic : IsMagic 0xCAFE4A53 (big_bytes 4 0xCAFE4A53)
-is_magic = record { value = 0xCAFE4A53; front = big_bytes 4 0xCAFE4A53; back = []; first = number_spelled 4 0xCAFE4A53 (omega arith); second = record { is = refl; nothing = refl }; parts = sym (append-nil (big_bytes 4 0xCAFE4A53)) }
+is_magic = record { value = 0xCAFE4A53; front = big_bytes 4 0xCAFE4A53; back = []; first = number_spelled 4 0xCAFE4A53 (omega arith); second = record { same = refl; empty = refl }; parts = sym (append-nil (big_bytes 4 0xCAFE4A53)) }
 
 is_version : IsVersion (codes "1.0-i1") (big_bytes 2 6 ++ codes "1.0-i1")
 is_version = record {
@@ -412,7 +413,7 @@ is_version = record {
   front = big_bytes 2 6 ++ codes "1.0-i1";
   back = [];
   first = record { value = 6; front = big_bytes 2 6; back = codes "1.0-i1"; first = number_spelled 2 6 (omega arith); second = record { count = refl; same = refl }; parts = refl };
-  second = record { is = refl; nothing = refl };
+  second = record { same = refl; empty = refl };
   parts = sym (append-nil (big_bytes 2 6 ++ codes "1.0-i1"));
 }
 
