@@ -17,9 +17,9 @@ ghost use Rattle.sure_receivers.specs.Sure as receivers;
 use crate::arrays::{array_of, element_of, length_of, new_array};
 use crate::callees::{callee_on, member_called};
 use crate::coercions::{coerced, coerced_argument};
-use crate::sure::is_sure;
 use crate::texts::operand_of;
 use sj_core::{Callee, CoreExpression, CoreVariable};
+use sj_desugar_facts::is_sure;
 use sj_names::{
     ArrayRef, ClassName, FieldName, LocalName, Member, MethodName, Namespace, NoMemory, TypeRef,
 };

@@ -1,5 +1,3 @@
-pub mod Asked
 pub mod Choices
 pub mod Collected
 pub mod Lists
-pub mod SameMembers

@@ -4,18 +4,15 @@ ghost use Rattle.js_tree.specs.Views as js;
 ghost use Rattle.sj_core.specs.Views as core;
 ghost use Rattle.sj_emit_expr_spec.specs.Names.{variable_name, label_name};
 ghost use Rattle.sj_emit_expr_spec.specs.Templates as templates;
-ghost use Rattle.sj_emit_expr.specs.Known.{lookup_of};
+ghost use Rattle.sj_emit_expr_parts.specs.Known.{lookup_of};
 
-use crate::arrays::{array_of, element_of, length_of, new_array};
-use crate::calls::{call_of_callee, call_of_one, call_on, new_object};
-use crate::lookup::CallLookup;
-use crate::names::variable_name;
-use crate::operators::{
-    as_text, binary_template, boxed_char, host_call, is_nonzero_literal, unary_template,
-};
-use crate::tests::{cast_template, test_template};
 use js_tree::{HostFunction, JsExpr};
 use sj_core::CoreExpression;
+use sj_emit_expr_parts::{
+    CallLookup, array_of, as_text, binary_template, boxed_char, call_of_callee, call_of_one,
+    call_on, cast_template, element_of, host_call, is_nonzero_literal, length_of, new_array,
+    new_object, test_template, unary_template, variable_name,
+};
 use sj_mangling::{ClassBinding, FieldBinding, class_binding, field_binding, function_name};
 use sj_names::{NoMemory, Text};
 use std::alloc::Global;

@@ -4,16 +4,9 @@
 //! receivers. What it asks for is defined in `sj_emit_expr_questions`.
 #![tactic(auto)]
 
-mod arrays;
-mod calls;
 mod expressions;
-mod lookup;
 mod members;
-mod names;
-mod operators;
-mod receivers;
 mod statements;
-mod tests;
 mod uses;
 
 pub use members::emit_member;

@@ -8,17 +8,15 @@ ghost use Rattle.sj_ask.specs.Answers.{IsAnswer};
 ghost use Rattle.sj_core.specs.Views.{method_view, statements_view};
 ghost use Rattle.sj_emit_expr_spec.specs.Names as names;
 ghost use Rattle.sj_emit_expr_spec.specs.Templates as templates;
-ghost use Rattle.sj_emit_expr.specs.Known.{lookup_of, AreAsked};
+ghost use Rattle.sj_emit_expr_parts.specs.Known.{lookup_of, AreAsked};
 ghost use Rattle.sj_names.specs.Counting.{raised};
 
-use crate::lookup::{CallLookup, ask_all};
-use crate::names::function_parameters;
-use crate::receivers::calls_of;
 use crate::statements::emit_statements;
 use crate::uses::uses_of;
 use js_tree::{JsBody, JsMember};
 use sj_ask::Oracle;
 use sj_core::{CoreMethod, CoreStatement};
+use sj_emit_expr_parts::{CallLookup, ask_all, calls_of, function_parameters};
 use sj_names::{Meter, NoMemory};
 use std::alloc::Global;
 

@@ -6,16 +6,14 @@ ghost use Rattle.sj_core.specs.Views as core;
 ghost use Rattle.sj_emit_expr_spec.specs.Names as names;
 ghost use Rattle.sj_emit_expr_spec.specs.Templates as templates;
 ghost use Rattle.sj_emit_expr.specs.Cases.{case_template};
-ghost use Rattle.sj_emit_expr.specs.Known.{lookup_of};
+ghost use Rattle.sj_emit_expr_parts.specs.Known.{lookup_of};
 
-use crate::arrays::element_set;
-use crate::calls::call_of_one;
 use crate::expressions::emit_expression;
-use crate::lookup::CallLookup;
-use crate::names::{label_name, variable_name};
-use crate::operators::host_call;
 use js_tree::{HostFunction, JsExpr, JsStmt, SwitchCase};
 use sj_core::{CoreCase, CoreExpression, CoreStatement, CoreVariable};
+use sj_emit_expr_parts::{
+    CallLookup, call_of_one, element_set, host_call, label_name, variable_name,
+};
 use sj_mangling::{ClassBinding, FieldBinding, class_binding, field_binding};
 use sj_names::{Items, NoMemory, Text};
 use std::alloc::Global;

@@ -4,15 +4,12 @@ ghost use Rattle.std.specs.List.{list_any};
 ghost use Rattle.sj_core.specs.Views as core;
 ghost use Rattle.sj_emit_expr_spec.specs.Uses as uses;
 ghost use Rattle.sj_emit_expr.specs.Collecting.{with_use, with_uses};
-ghost use Rattle.sj_emit_expr.specs.Known.{lookup_of};
+ghost use Rattle.sj_emit_expr_parts.specs.Known.{lookup_of};
 ghost use Rattle.sj_mangling.specs.Bindings as bindings_of;
 
-use crate::arrays::element_setter;
-use crate::lookup::CallLookup;
-use crate::operators::is_nonzero_literal;
-use crate::tests::{cast_name, test_name};
 use js_tree::Binding;
 use sj_core::{Callee, CoreCase, CoreExpression, CoreStatement};
+use sj_emit_expr_parts::{CallLookup, cast_name, element_setter, is_nonzero_literal, test_name};
 use sj_mangling::{
     ClassBinding, FieldBinding, MethodBinding, class_binding, field_binding, function_name,
     method_binding,

@@ -1,4 +1,2 @@
-pub mod ManyLemmas
 pub mod PartsLemmas
 pub mod SortedLemmas
-pub mod TreeLemmas

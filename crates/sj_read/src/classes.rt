@@ -8,18 +8,15 @@ ghost use Rattle.sj_read_spec.specs.Tables.{name_at};
 ghost use Rattle.sj_read_spec.specs.Types.{option_at};
 ghost use Rattle.sj_read_spec.specs.Classes.{param_at, field_at, method_at, member_at, fields_in, methods_in};
 ghost use Rattle.sj_read.specs.Parts.{method_head_at, seen_implementation, seen_tail, body_and_hash_at, implementation_at, method_tail_at, method_of_parts, members_in, members_at, class_head_at, class_tail_at, class_parts_at, class_of_parts};
-ghost use Rattle.sj_read.specs.Stops.{Gives};
+ghost use Rattle.sj_read_trees.specs.Stops.{Gives};
 
-use crate::fields::mark_of;
-use crate::file_tables::FileTables;
-use crate::items::{Item, list_of};
-use crate::names::NameEntry;
-use crate::stops::{Stop, bad};
-use crate::tables::{class_name_of, field_name_of, local_name_of, method_name_of, position_of};
-use crate::trees::tree_of;
-use crate::types::{kind_of, member_tag_of, namespace_of, type_of};
 use sj_names::{ClassName, MethodName, Namespace, NoMemory, Shared};
 use sj_read_spec::{MemberDef, MemberTag};
+use sj_read_trees::{
+    FileTables, Item, NameEntry, Stop, bad, class_name_of, field_name_of, kind_of, list_of,
+    local_name_of, mark_of, member_tag_of, method_name_of, namespace_of, position_of, tree_of,
+    type_of,
+};
 use sj_trees::{Body, ClassDef, ClassKind, Code, FieldDef, IrType, MethodDef, ParamDef, Position};
 use std::alloc::Global;
 

@@ -6,18 +6,15 @@ ghost use Rattle.sj_trees.specs.declared.refusals.Code.{Code};
 ghost use Rattle.sj_read_spec.specs.Files.{magic_at, version_text_at, version_at, tables_at, contents_at, file_of, FileIs, Fails};
 ghost use Rattle.sj_read_spec.specs.Classes.{class_at};
 ghost use Rattle.sj_read.specs.Parts.{text_tables_at, more_tables_at};
-ghost use Rattle.sj_read.specs.Stops.{Gives};
+ghost use Rattle.sj_read_trees.specs.Stops.{Gives};
 ghost use Rattle.sj_read_spec.specs.Answers.{Reads};
 
 use crate::classes::{class_of_parts, class_parts_of};
-use crate::fields::{bytes_of, number_of, short_of};
-use crate::file_tables::FileTables;
-use crate::items::list_of;
-use crate::names::NameEntry;
-use crate::references::MethodNameItem;
-use crate::stops::{Stop, bad};
-use crate::tables::{NameItem, StringItem, TextItem};
 use sj_names::{Meter, MethodName, Shared, Text};
+use sj_read_trees::{
+    FileTables, MethodNameItem, NameEntry, NameItem, Stop, StringItem, TextItem, bad, bytes_of,
+    list_of, number_of, short_of,
+};
 use sj_trees::{ClassDef, Code, ReadRefusal};
 use sj_units::Units;
 use std::alloc::Global;

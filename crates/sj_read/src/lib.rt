@@ -1,17 +1,7 @@
-//! Reads class files.
+//! Reads class files: members, classes and whole files. What stands in them is read by `sj_read_trees`.
 #![tactic(auto)]
 
 mod classes;
-mod fields;
-mod file_tables;
 mod files;
-mod items;
-mod leaves;
-mod names;
-mod references;
-mod stops;
-mod tables;
-mod trees;
-mod types;
 
 pub use files::read_class;

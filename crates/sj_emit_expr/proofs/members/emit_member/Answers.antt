@@ -1,6 +1,6 @@
 use Rattle.sj_ask.specs.Answers.{IsAnswer}
 use Rattle.sj_core.specs.Views.{method_view}
-use Rattle.sj_emit_expr.proofs.Asked.{as-emitted}
+use Rattle.sj_emit_expr_parts.proofs.Asked.{as-emitted}
 use Rattle.sj_emit_expr.proofs.members.emit_member.Goals as goal
 
 pub returns-clause-told : goal.returns-clause-told

@@ -3,7 +3,7 @@ use Rattle.js_tree.specs.Views as js
 use Rattle.sj_core.specs.Views as core
 use Rattle.sj_emit_expr_spec.specs.Names.{variable_name, label_name}
 use Rattle.sj_emit_expr_spec.specs.Templates.{statement_templates, case_templates}
-use Rattle.sj_emit_expr.specs.Known.{lookup_of}
+use Rattle.sj_emit_expr_parts.specs.Known.{lookup_of}
 use Rattle.sj_emit_expr.proofs.statements.+statement.Given as goal
 
 abbrev pub invariant-emit_statements-loop-each : goal.invariant-emit_statements-loop-each

@@ -8,7 +8,7 @@ use Rattle.sj_emit_expr_spec.specs.Uses.{object_binding, uses_in, uses_in_all, c
 use Rattle.sj_emit_expr.proofs.Collected.{more-uses}
 use Rattle.sj_emit_expr.proofs.uses.+expression_uses.Goals as goal
 use Rattle.sj_emit_expr.specs.Collecting.{with_use}
-use Rattle.sj_emit_expr.specs.Known.{lookup_of}
+use Rattle.sj_emit_expr_parts.specs.Known.{lookup_of}
 
 pub add_uses_in-returns-in_ok-add_uses_in-in-Choice-2 : goal.add_uses_in-returns-in_ok-add_uses_in-in-Choice-2
 add_uses_in-returns-in_ok-add_uses_in-in-Choice-2 t c =

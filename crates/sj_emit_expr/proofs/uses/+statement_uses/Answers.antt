@@ -9,7 +9,7 @@ use Rattle.sj_emit_expr_spec.specs.Uses.{object_binding, uses_in, uses_of, uses_
 use Rattle.sj_emit_expr.proofs.Collected.{more-uses, case-step}
 use Rattle.sj_emit_expr.proofs.uses.+statement_uses.Goals as goal
 use Rattle.sj_emit_expr.specs.Collecting.{with_use, with_uses}
-use Rattle.sj_emit_expr.specs.Known.{lookup_of}
+use Rattle.sj_emit_expr_parts.specs.Known.{lookup_of}
 
 pub add_uses_of-returns-in_ok-add_uses_of_all-in-If : goal.add_uses_of-returns-in_ok-add_uses_of_all-in-If
 add_uses_of-returns-in_ok-add_uses_of_all-in-If t c =

@@ -2,7 +2,7 @@ use Rattle.std.proofs.Common.{◌≡◌, drop}
 use Rattle.sj_core.specs.Views.{statements_view, cases_view}
 use Rattle.sj_emit_expr_spec.specs.Uses.{uses_of_all, uses_of_cases}
 use Rattle.sj_emit_expr.specs.Collecting.{with_uses}
-use Rattle.sj_emit_expr.specs.Known.{lookup_of}
+use Rattle.sj_emit_expr_parts.specs.Known.{lookup_of}
 use Rattle.sj_emit_expr.proofs.uses.+statement_uses.Given as goal
 
 abbrev pub invariant-add_uses_of_all-loop-each : goal.invariant-add_uses_of_all-loop-each
