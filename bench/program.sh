@@ -4,13 +4,28 @@ root=$(cd "$(dirname "$0")/../.." && pwd)
 work=$(mktemp -d)
 trap 'rm -rf "$work"' EXIT
 
-# begin NAME USES CRATE..: copies these crates, and makes the folder of a program NAME that uses the libraries USES.
+# below CRATE..: these crates and those below them, in the order of crates.txt.
+below() {
+    python3 - "$root/crates.txt" "$@" <<'BELOW'
+import sys
+lines = [line.split("#")[0].partition(":") for line in open(sys.argv[1])]
+lists = {name.split()[0]: rest.split() for name, colon, rest in lines if colon}
+found, open_names = set(), sys.argv[2:]
+while open_names:
+    name = open_names.pop()
+    if name in lists and name not in found:
+        found.add(name)
+        open_names += lists[name]
+print(*(name for name in lists if name in found))
+BELOW
+}
+
+# begin NAME USES: makes the folder of a program NAME that uses the libraries USES, and copies those that are crates here, with the crates below.
 begin() {
     program=$1
     mkdir -p "$work/crates/$program/src"
     echo "$program: $2" > "$work/crates.txt"
-    shift 2
-    for crate; do
+    for crate in $(below $2); do
         mkdir -p "$work/crates/$crate"
         for part in src specs proofs; do
             [ ! -d "$root/crates/$crate/$part" ] || cp -R "$root/crates/$crate/$part" "$work/crates/$crate/"

@@ -4,7 +4,7 @@ set -eu
 
 . "$(dirname "$0")/../program.sh"
 
-begin gen_program 'sj_gen sj_outside' sj_names sj_units sj_trees sj_read_spec sj_write_spec sj_write sj_gen sj_outside
+begin gen_program 'sj_gen sj_names sj_outside'
 
 cp "$root/crates/gen_program/src/main.rt" "$main"
 

@@ -4,10 +4,7 @@ set -eu
 
 . "$(dirname "$0")/../program.sh"
 
-begin judge_bench 'anyhow byteorder class_lists sj_baselink_spec folder_judging folder_sizes folder_judging_spec indexmap js_tree proxy_targets sj_reach_spec sj_ask sj_baselink sj_core sj_desugar_spec sj_emit_expr_spec sj_emit_expr sj_read_spec sj_gen sj_infos sj_local sj_mangling sj_names sj_reach sj_read sj_recorder sj_trees sj_typing sj_units sj_typing_verdicts sj_workers sj_workshop sj_world sj_write sj_write_spec thiserror tree_parts tree_sameness worklist' \
-    sj_names sj_units sj_trees tree_parts tree_sameness worklist class_lists sj_read_spec sj_read sj_write_spec sj_write sj_gen sj_local sj_world sj_ask sj_infos sj_recorder \
-    sj_typing sj_reach_spec proxy_targets sj_reach sj_baselink_spec sj_baselink folder_sizes sj_typing_verdicts folder_judging_spec js_tree sj_core sj_desugar_spec sj_mangling sj_emit_expr_spec sj_emit_expr \
-    sj_workers sj_workshop folder_judging
+begin judge_bench 'anyhow byteorder class_lists sj_baselink_spec folder_judging folder_sizes folder_judging_spec indexmap js_tree proxy_targets sj_reach_spec sj_ask sj_baselink sj_core sj_desugar_spec sj_emit_expr_spec sj_emit_expr sj_read_spec sj_gen sj_infos sj_local sj_mangling sj_names sj_reach sj_read sj_recorder sj_trees sj_typing sj_units sj_typing_verdicts sj_workers sj_workshop sj_world sj_write sj_write_spec thiserror tree_parts tree_sameness worklist'
 
 cat > "$main" <<'PROGRAM'
 //! The time of judge over generated folders, in which each class has a static method that calls that of the class before it.

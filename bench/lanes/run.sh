@@ -4,7 +4,7 @@ set -eu
 
 . "$(dirname "$0")/../program.sh"
 
-begin lanes_bench 'sj_lanes' sj_lanes
+begin lanes_bench 'sj_lanes'
 
 cat > "$main" <<'PROGRAM'
 //! The speed of each kernel of sj_lanes, beside a plain loop and beside a copy of the same bytes.

@@ -4,7 +4,7 @@ set -eu
 
 . "$(dirname "$0")/../program.sh"
 
-begin modules_bench 'anyhow js_tree js_read js_print' sj_names sj_units exact_place js_tree js_read_spec text_print js_print text_scan js_read_scan js_read_expressions js_read_statements js_read
+begin modules_bench 'anyhow js_tree js_read js_print'
 
 cat > "$main" <<'PROGRAM'
 //! The speed of read_module and of print_module, beside a copy of the same bytes.

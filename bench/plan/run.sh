@@ -4,7 +4,7 @@ set -eu
 
 . "$(dirname "$0")/../program.sh"
 
-begin plan_bench 'anyhow sj_graph sj_names sj_split' sj_names sj_units js_tree worklist module_names number_graphs sj_graph class_numbers class_groups sj_split
+begin plan_bench 'anyhow sj_graph sj_names sj_split'
 
 cat > "$main" <<'PROGRAM'
 //! The time of plans of three graphs, in both styles.

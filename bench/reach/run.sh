@@ -4,7 +4,7 @@ set -eu
 
 . "$(dirname "$0")/../program.sh"
 
-begin reach_bench 'anyhow class_lists indexmap sj_reach_spec sj_infos sj_names sj_reach sj_trees sj_world' sj_names sj_units sj_trees tree_parts tree_sameness worklist sj_world sj_ask sj_infos sj_reach_spec class_lists proxy_targets sj_reach
+begin reach_bench 'anyhow class_lists indexmap sj_reach_spec sj_infos sj_names sj_reach sj_trees sj_world'
 
 cat > "$main" <<'PROGRAM'
 //! The time of reach over two folders: a chain of calls, and classes below one interface on which methods are called.
@@ -104,14 +104,14 @@ fn object(alloc: Global, body: Tree) -> Result<ClassDef> {
 
 // A call of the static method of the class of this number.
 fn call(alloc: Global, number: u32) -> Result<Tree> {
-    Ok(Tree::ApplyStatic(
-        NOWHERE,
-        name(alloc, number)?,
-        Namespace::PublicStatic,
-        MethodName::parse(alloc, "go;V")?,
-        Vec::new(alloc),
-        IrType::NoType,
-    ))
+    Ok(Tree::ApplyStatic {
+        position: NOWHERE,
+        class: name(alloc, number)?,
+        namespace: Namespace::PublicStatic,
+        method: MethodName::parse(alloc, "go;V")?,
+        arguments: Vec::new(alloc),
+        tpe: IrType::NoType,
+    })
 }
 
 // Each class has a method that calls the one of the next class.
@@ -129,7 +129,7 @@ fn link(alloc: Global, number: u32) -> Result<ClassDef> {
     let body = if next < CHAIN {
         call(alloc, next)?
     } else {
-        Tree::Skip(NOWHERE)
+        Tree::Skip { position: NOWHERE }
     };
     let go = method(alloc, Namespace::PublicStatic, "go;V", Some(body))?;
     let above = Some(named(alloc, OBJECT)?);
@@ -152,7 +152,7 @@ fn called(alloc: Global, with_bodies: bool, methods: &mut Vec<MethodDef>) -> Res
     for number in 0..METHODS {
         let text = called_name(alloc, number)?;
         let body = if with_bodies {
-            Some(Tree::Skip(NOWHERE))
+            Some(Tree::Skip { position: NOWHERE })
         } else {
             None
         };
@@ -164,7 +164,7 @@ fn called(alloc: Global, with_bodies: bool, methods: &mut Vec<MethodDef>) -> Res
 // A class below the interface, with a body for each of the methods.
 fn implementation(alloc: Global, number: u32) -> Result<ClassDef> {
     let mut methods = Vec::new(alloc);
-    let skip = Some(Tree::Skip(NOWHERE));
+    let skip = Some(Tree::Skip { position: NOWHERE });
     methods.push(method(alloc, Namespace::Constructor, "<init>;V", skip)?)?;
     called(alloc, true, &mut methods)?;
     let above = Some(named(alloc, OBJECT)?);
@@ -193,7 +193,7 @@ fn interface(alloc: Global) -> Result<ClassDef> {
 }
 
 fn null_pointer(alloc: Global) -> Result<ClassDef> {
-    let skip = Some(Tree::Skip(NOWHERE));
+    let skip = Some(Tree::Skip { position: NOWHERE });
     let init = method(
         alloc,
         Namespace::Constructor,
@@ -216,30 +216,37 @@ fn makes_and_calls(alloc: Global) -> Result<Tree> {
     let mut trees = Vec::new(alloc);
     for number in 0..BELOW {
         let init = MethodName::parse(alloc, "<init>;V")?;
-        trees.push(Tree::New(
-            NOWHERE,
-            name(alloc, number)?,
-            init,
-            Vec::new(alloc),
-        ))?;
+        trees.push(Tree::New {
+            position: NOWHERE,
+            class: name(alloc, number)?,
+            constructor: init,
+            arguments: Vec::new(alloc),
+        })?;
     }
     for number in 0..METHODS {
         trees.push(call_on_interface(alloc, number)?)?;
     }
-    Ok(Tree::Block(NOWHERE, trees))
+    Ok(Tree::Block {
+        position: NOWHERE,
+        trees,
+    })
 }
 
 fn call_on_interface(alloc: Global, number: u32) -> Result<Tree> {
     let interface = IrType::Class(named(alloc, "library.Called")?);
-    let receiver = Tree::VarRef(NOWHERE, LocalName::parse(alloc, "x")?, interface);
+    let receiver = Tree::VarRef {
+        position: NOWHERE,
+        name: LocalName::parse(alloc, "x")?,
+        tpe: interface,
+    };
     let text = called_name(alloc, number)?;
-    Ok(Tree::Apply(
-        NOWHERE,
-        Box::new(alloc, receiver)?,
-        MethodName::parse(alloc, text.as_str())?,
-        Vec::new(alloc),
-        IrType::NoType,
-    ))
+    Ok(Tree::Apply {
+        position: NOWHERE,
+        receiver: Box::new(alloc, receiver)?,
+        method: MethodName::parse(alloc, text.as_str())?,
+        arguments: Vec::new(alloc),
+        tpe: IrType::NoType,
+    })
 }
 
 fn below(alloc: Global) -> Result<Vec<ClassDef>> {

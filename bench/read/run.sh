@@ -4,7 +4,7 @@ set -eu
 
 . "$(dirname "$0")/../program.sh"
 
-begin read_bench 'sj_names sj_read_spec sj_read sj_trees' sj_names sj_units sj_trees sj_read_spec sj_read
+begin read_bench 'sj_names sj_read_spec sj_read sj_trees'
 
 cat > "$main" <<'PROGRAM'
 //! The speed of read_class, beside a copy of the same bytes.

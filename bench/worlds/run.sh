@@ -4,7 +4,7 @@ set -eu
 
 . "$(dirname "$0")/../program.sh"
 
-begin worlds_bench 'anyhow sj_names sj_trees sj_world' sj_names sj_units sj_trees worklist class_lists sj_world
+begin worlds_bench 'anyhow sj_names sj_trees sj_world'
 
 cat > "$main" <<'PROGRAM'
 //! The time of World::new, and of subtype tests and resolutions in the world.
