@@ -3,13 +3,12 @@
 //! The folders and the answers are of an independent reference. The functions here are laws.
 #![tactic(auto)]
 
-ghost use Rattle.std.specs.Prelude.{◌≡◌, true, false, List, [], ◌∷◌, pos, negsuc, codes};
-ghost use Rattle.outcomes.specs.Outcome.{Going, Wrong, Done};
-ghost use Rattle.outcomes.specs.Shown.{Shown, normal, uncaught};
+ghost use Rattle.std.specs.Prelude.{◌≡◌, true, false, [], ◌∷◌, codes};
+ghost use Rattle.outcomes.specs.Outcome.{Going, Done};
+ghost use Rattle.outcomes.specs.Shown.{normal, uncaught};
 ghost use Rattle.outcomes.specs.Shown as shown;
 ghost use Rattle.ir_mean.specs.Shows.{ir_shows};
 ghost use Rattle.js_mean.specs.Shows.{js_shows};
-ghost use Rattle.agree_recorded_folders.specs.Words.{no_units};
 ghost use Rattle.agree_recorded_folders.specs.StaticsRow01Classes as statics_row_01_classes;
 ghost use Rattle.agree_recorded_folders.specs.StaticsRow01Files as statics_row_01_files;
 ghost use Rattle.agree_recorded_folders.specs.StaticsRow06UnusedClasses as statics_row_06_unused_classes;

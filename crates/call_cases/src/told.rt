@@ -4,7 +4,7 @@ ghost use Rattle.sj_world.specs.declared.facts.Fact.TheVariants.{Body};
 ghost use Rattle.sj_emit_class_printing.specs.Fits.{FitTold};
 ghost use Rattle.js_tree.specs.Rules.{IsPiece};
 ghost use Rattle.js_tree.specs.Views.{piece_view};
-ghost use Rattle.sj_emit_help_spec.specs.Words.{kind_class, told_kinds};
+ghost use Rattle.sj_emit_help_spec.specs.Words.{kind_class};
 ghost use Rattle.sj_emit_help_spec.specs.declared.kinds.Kind.{Kind as AnyKind};
 ghost use Rattle.sj_emit_class_spec.specs.Dispatch.{AreTold, IsReachedTarget, IsDispatchPiece};
 ghost use Rattle.sj_reach_spec.specs.Rules as rules;

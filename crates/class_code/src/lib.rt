@@ -4,7 +4,7 @@
 //! are theorems. No file has such pieces yet.
 #![tactic(auto)]
 
-ghost use Rattle.std.specs.Prelude.{◌≡◌, [], ◌∷◌, codes};
+ghost use Rattle.std.specs.Prelude.{◌≡◌, [], codes};
 ghost use Rattle.class_code.specs.Bridges.{BridgesHandOn, LookupSearches};
 ghost use Rattle.class_code.specs.Made.{ChainsMake, ShortBoundsGo};
 ghost use Rattle.class_code.specs.Markers.{MarkersTellClasses};

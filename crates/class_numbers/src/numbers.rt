@@ -1,5 +1,5 @@
 // Numbered classes.
-ghost use Rattle.std.specs.Prelude.{◌≡◌, ◌++◌, ◌∷◌, ◌<◌, [], ℕ, IfOk, OnOk, Contains, map, length};
+ghost use Rattle.std.specs.Prelude.{◌≡◌, ◌++◌, ◌∷◌, ◌<◌, [], IfOk, OnOk, Contains, map, length};
 ghost use Rattle.sj_graph.specs.declared.graphs.Reference.{Reference};
 ghost use Rattle.std.specs.Prelude.{List};
 ghost use Rattle.number_graphs.specs.Graphs.{At};

@@ -5,7 +5,7 @@
 //! way of putting readers together. The functions here only state what follows.
 #![tactic(auto)]
 
-ghost use Rattle.std.specs.Prelude.{◌≡◌, ℕ, List, Bool, false, suc, [], ◌+◌, ◌<◌, ◌≤◌, ◌^◌, length, not, Ok, Err, Result};
+ghost use Rattle.std.specs.Prelude.{◌≡◌, ℕ, List, Bool, false, [], ◌+◌, ◌<◌, ◌≤◌, length, not, Ok, Err};
 ghost use Rattle.exact_place.specs.Reading.{Reading, literal_at, run_at};
 ghost use Rattle.exact_place.specs.Grammar.{IsLiteral, IsRun};
 ghost use Rattle.exact_place.specs.Place.{Law, Place};

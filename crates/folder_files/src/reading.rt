@@ -1,5 +1,5 @@
 // The class files of a folder are read.
-ghost use Rattle.std.specs.Prelude.{◌≡◌, ◌≤◌, ◌+◌, ℕ, Some, IfOk, IsTrue, is_some, length};
+ghost use Rattle.std.specs.Prelude.{◌≡◌, ◌≤◌, ◌+◌, Some, IfOk, IsTrue, is_some, length};
 ghost use Rattle.sj_names.specs.declared.folders.SourceFile.{SourceFile};
 ghost use Rattle.sj_outside.specs.Contents.{Parts, folder_at};
 ghost use Rattle.sj_outside.specs.Faults.{HasCause};

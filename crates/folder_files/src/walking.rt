@@ -1,5 +1,5 @@
 // The walk over a folder and the folders below it.
-ghost use Rattle.std.specs.Prelude.{◌≡◌, ◌≤◌, ◌++◌, ℕ, true, Some, IfOk, OnOk, IsTrue, codes, is_some, string_bytes};
+ghost use Rattle.std.specs.Prelude.{◌≡◌, ◌++◌, true, Some, IfOk, OnOk, IsTrue, is_some, string_bytes};
 ghost use Rattle.sj_outside.specs.Contents.{Parts, folder_at};
 ghost use Rattle.sj_outside.specs.Faults.{HasCause};
 ghost use Rattle.folder_files.specs.Files.{is_class_file};

@@ -1,5 +1,5 @@
 // The functions of the bodies that are needed.
-ghost use Rattle.std.specs.Prelude.{◌≡◌, All, IfOk, length, map, true};
+ghost use Rattle.std.specs.Prelude.{◌≡◌, All, IfOk, length, map};
 ghost use Rattle.std.specs.List.{Contains};
 ghost use Rattle.dispatch_laws.specs.Targets.{lookup_in};
 ghost use Rattle.sj_emit_expr_questions.specs.Task.{emitted, emitted_view};

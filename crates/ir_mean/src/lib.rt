@@ -4,12 +4,12 @@
 //! tree is wrong; no tree of a program that is accepted comes to such a place. The functions here are laws.
 #![tactic(auto)]
 
-ghost use Rattle.std.specs.Prelude.{◌≡◌, true, false, List, [], ◌∷◌, ℤ, pos, negsuc, codes, Some};
+ghost use Rattle.std.specs.Prelude.{◌≡◌, true, false, [], ◌∷◌, pos, negsuc, codes, Some};
 ghost use Rattle.outcomes.specs.Outcome.{Out, Going, Wrong, Done, done, going};
-ghost use Rattle.outcomes.specs.Shown.{Shown, normal, uncaught, object_of};
+ghost use Rattle.outcomes.specs.Shown.{normal, uncaught, object_of};
 ghost use Rattle.ir_mean.specs.Shows.{ir_shows};
 ghost use Rattle.ir_mean.specs.Shows.{outside};
-ghost use Rattle.ir_mean.specs.States.{Ended, ends, gives, number, reference};
+ghost use Rattle.ir_mean.specs.States.{ends, gives, number, reference};
 ghost use Rattle.ir_mean.specs.World.{opening};
 ghost use Rattle.ir_mean.specs.Values.{values, expected};
 ghost use Rattle.ir_mean.specs.ObjectRows as objects;

@@ -5,9 +5,9 @@
 //! the subset's: a Number that isn't whole, a function of the standard, a BigInt of more than 128 bits. The functions here are laws.
 #![tactic(auto)]
 
-ghost use Rattle.std.specs.Prelude.{◌≡◌, ℕ, List, [], ◌∷◌, ℤ, pos, negsuc, codes, Some};
+ghost use Rattle.std.specs.Prelude.{◌≡◌, [], ◌∷◌, pos, negsuc, codes, Some};
 ghost use Rattle.outcomes.specs.Outcome.{Going, Wrong, Done, done, going, wrong};
-ghost use Rattle.outcomes.specs.Shown.{Shown, normal, uncaught};
+ghost use Rattle.outcomes.specs.Shown.{normal, uncaught};
 ghost use Rattle.outcomes.specs.Shown as shown;
 ghost use Rattle.js_tree.specs.Terms.{number_literal, big_literal, undefined_literal, list_of, no_expressions};
 ghost use Rattle.js_mean.specs.Shows.{js_shows};

@@ -1,6 +1,6 @@
 //! Items and members.
-ghost use Rattle.std.specs.Prelude.{◌≡◌, ◌∷◌, ◌<◌, ◌==◌, codes, map};
-ghost use Rattle.exact_place.specs.Reading.{after_at, either_at, lead_at, list_at, literal_at, map_at, value_at};
+ghost use Rattle.std.specs.Prelude.{◌≡◌, ◌<◌, ◌==◌, codes, map};
+ghost use Rattle.exact_place.specs.Reading.{after_at, either_at, lead_at, map_at, value_at};
 ghost use Rattle.js_tree.specs.Terms as terms;
 ghost use Rattle.js_tree.specs.Views as views;
 ghost use Rattle.text_scan.specs.Gives.{Gives};

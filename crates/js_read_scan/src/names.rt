@@ -1,7 +1,7 @@
 //! Names: which words are names, and where a run of their characters ends.
-ghost use Rattle.std.specs.Prelude.{◌≡◌, ◌<◌, ◌≤◌, ◌++◌, length, take, drop, IfOk, ◌==◌, codes, not, true, nat_lt};
+ghost use Rattle.std.specs.Prelude.{◌≡◌, ◌<◌, ◌++◌, length, IfOk, ◌==◌, codes, not, true, nat_lt};
 ghost use Rattle.std.specs.List.{list_all, list_any};
-ghost use Rattle.js_tree.specs.Names.{is_name_character, is_digit, is_mark, is_empty, is_name, is_dunder, is_property, is_file_character};
+ghost use Rattle.js_tree.specs.Names.{is_name_character, is_mark, is_empty, is_name, is_dunder, is_property, is_file_character};
 ghost use Rattle.js_read_spec.specs.Words.{begins_name, begins_property};
 ghost use Rattle.js_read_spec.specs.Modules.{begins_file};
 ghost use Rattle.text_scan.specs.Runs.{IsSplit};

@@ -1,7 +1,6 @@
 //! Statements and blocks.
 ghost use Rattle.std.specs.Prelude.{◌≡◌, ◌∷◌, ◌+◌, ◌<◌, ◌^◌, ◌==◌, codes, map};
 ghost use Rattle.exact_place.specs.Reading.{after_at, lead_at, literal_at, map_at, value_at};
-ghost use Rattle.js_read_spec.specs.Expressions.{expression_at};
 ghost use Rattle.js_read_spec.specs.Tokens.{name_at};
 ghost use Rattle.js_read_spec.specs.declared.words.StatementHead.TheVariants as heads;
 ghost use Rattle.js_tree.specs.Terms as terms;

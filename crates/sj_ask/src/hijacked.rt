@@ -1,7 +1,6 @@
 // Classes above hijacked ones.
-ghost use Rattle.std.specs.Prelude.{◌≡◌, ◌↔◌, ◌⊎◌, IsTrue, true, false, option_map, codes};
+ghost use Rattle.std.specs.Prelude.{◌≡◌, ◌↔◌, IsTrue, true, false, option_map};
 ghost use Rattle.sj_world.specs.Known as known;
-ghost use Rattle.sj_world.specs.Ancestors.{IsAncestor};
 ghost use Rattle.sj_world.specs.Refusals.{IsInOrder};
 ghost use Rattle.sj_ask.specs.Answers.{IsAboveHijacked};
 ghost use Rattle.sj_ask.specs.Hijacked.{IsAboveOne, IsAboveName, IsAboveObject};

@@ -1,5 +1,5 @@
 // What appends references, names of methods and types.
-ghost use Rattle.std.specs.Prelude.{◌≡◌, ◌++◌, ◌∷◌, [], OnOk, option_map};
+ghost use Rattle.std.specs.Prelude.{◌≡◌, ◌++◌, OnOk, option_map};
 ghost use Rattle.sj_canon.specs.Numbers.{list_bytes, each_bytes, option_bytes};
 ghost use Rattle.sj_canon.specs.Names as names;
 ghost use Rattle.sj_canon.specs.Names.{base_bytes, array_bytes, made_bytes, reference_bytes, type_bytes, method_name_bytes};

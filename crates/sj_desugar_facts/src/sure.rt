@@ -1,5 +1,5 @@
 // Locals and receivers that are never null.
-ghost use Rattle.std.specs.Prelude.{◌≡◌, ◌&&◌, [], not, IfOk, OnOk};
+ghost use Rattle.std.specs.Prelude.{◌≡◌, ◌&&◌, not, IfOk, OnOk};
 ghost use Rattle.sj_desugar_spec.specs.Plain as plain;
 ghost use Rattle.sj_trees.specs.TypeOf.{type_of_term};
 ghost use Rattle.sj_trees.specs.View.{view, terms_view, cases_view};

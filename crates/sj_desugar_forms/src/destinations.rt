@@ -1,6 +1,5 @@
 // Where the value of a tree goes.
 ghost use Rattle.std.specs.Prelude.{◌≡◌, ◌∷◌, IfOk, map};
-ghost use Rattle.sj_core.specs.Views.{variable_view};
 ghost use Rattle.sj_desugar_spec.specs.Desugar as desugar;
 ghost use Rattle.sj_desugar_forms.specs.Views.{destination_view, target_view};
 

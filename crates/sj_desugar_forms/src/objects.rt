@@ -1,5 +1,5 @@
 // What is written for objects, tests and casts behind their operands.
-ghost use Rattle.std.specs.Prelude.{◌≡◌, true, false, Some, IfOk};
+ghost use Rattle.std.specs.Prelude.{◌≡◌, false, Some, IfOk};
 ghost use Rattle.sj_core.specs.Terms as terms;
 ghost use Rattle.sj_core.specs.Views.{expression_view, expressions_of};
 ghost use Rattle.sj_core.specs.declared.callees.Callee.TheVariants as callees;

@@ -3,7 +3,6 @@ ghost use Rattle.std.specs.Prelude.{◌≡◌, IfOk};
 ghost use Rattle.sj_core.specs.Views.{expression_view};
 ghost use Rattle.sj_desugar_spec.specs.Coercions as coercions;
 ghost use Rattle.sj_desugar_plain.specs.Arguments.{coerced_argument};
-ghost use Rattle.sj_trees.specs.Types.{reference_type};
 
 use sj_core::CoreExpression;
 use sj_names::{NoMemory, TypeRef};

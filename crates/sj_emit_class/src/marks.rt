@@ -1,5 +1,5 @@
 // What there is of a class.
-ghost use Rattle.std.specs.Prelude.{◌↔◌, IfOk, IsTrue};
+ghost use Rattle.std.specs.Prelude.{IfOk};
 ghost use Rattle.sj_emit_class_needs.specs.Needs.{AreNeeds};
 ghost use Rattle.sj_emit_class.specs.Marks.{AreMarks};
 

@@ -1,6 +1,5 @@
 // The emitted text of statements.
 ghost use Rattle.std.specs.Prelude.{◌≡◌, IfOk};
-ghost use Rattle.js_tree.specs.Terms as terms;
 ghost use Rattle.js_tree.specs.Views as js;
 ghost use Rattle.sj_core.specs.Views as core;
 ghost use Rattle.sj_emit_expr_spec.specs.Names as names;

@@ -1,5 +1,5 @@
 // The bindings that a function uses.
-ghost use Rattle.std.specs.Prelude.{◌≡◌, ◌∷◌, IfOk, OnOk, codes};
+ghost use Rattle.std.specs.Prelude.{◌≡◌, ◌∷◌, IfOk, OnOk};
 ghost use Rattle.std.specs.List.{list_any};
 ghost use Rattle.sj_core.specs.Views as core;
 ghost use Rattle.sj_emit_expr_spec.specs.Uses as uses;

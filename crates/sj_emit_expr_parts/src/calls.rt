@@ -1,5 +1,5 @@
 // Calls on a receiver, which a function has in front of its arguments.
-ghost use Rattle.std.specs.Prelude.{◌≡◌, ◌∷◌, IfOk, codes};
+ghost use Rattle.std.specs.Prelude.{◌≡◌, ◌∷◌, IfOk};
 ghost use Rattle.js_tree.specs.Terms as js;
 ghost use Rattle.js_tree.specs.Views.{expression_view, expressions_view};
 ghost use Rattle.sj_emit_expr_spec.specs.Templates as templates;

@@ -5,7 +5,6 @@
 
 ghost use Rattle.std.specs.Prelude.{◌≡◌, codes, [], ◌∷◌};
 ghost use Rattle.js_tree.specs.Texts.{piece_text};
-ghost use Rattle.js_tree.specs.declared.items.Binding.{Binding};
 ghost use Rattle.sj_emit_expr_spec.specs.ObjectRows.{constructor_piece, field_piece, same_piece, sum_piece, sets_piece, gets_piece, others_piece, called_piece, looks_up_piece, loads_piece, catches_piece, arrays_piece};
 ghost use Rattle.sj_emit_expr_spec.specs.Rows.{piece_of, triple_method, triples, two_method, one_and_two};
 

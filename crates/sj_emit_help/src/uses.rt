@@ -1,5 +1,5 @@
 // The bindings that helpers use.
-ghost use Rattle.std.specs.Prelude.{◌≡◌, ◌++◌, map, IfOk, IsTrue};
+ghost use Rattle.std.specs.Prelude.{◌≡◌, IfOk, IsTrue};
 ghost use Rattle.sj_names.specs.Grammar.{is_class_name};
 ghost use Rattle.sj_emit_help_spec.specs.Helpers as rules;
 ghost use Rattle.sj_emit_help_spec.specs.Words as words;

@@ -1,5 +1,5 @@
 // The calls of initializers.
-ghost use Rattle.std.specs.Prelude.{◌≡◌, ◌++◌, ◌∷◌, [], IfOk, OnOk, map};
+ghost use Rattle.std.specs.Prelude.{◌≡◌, ◌++◌, IfOk, OnOk, map};
 ghost use Rattle.js_tree.specs.Views.{item_view};
 ghost use Rattle.sj_emit_module_spec.specs.Calls as calls;
 ghost use Rattle.sj_emit_module_spec.specs.Calls.{call_item_of};

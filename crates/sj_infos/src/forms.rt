@@ -1,6 +1,5 @@
 // The forms of a body for which a class needs code of its own.
 ghost use Rattle.std.specs.Prelude.{◌≡◌, ◌++◌, map, IfOk, OnOk};
-ghost use Rattle.std.specs.List.{flat_map};
 ghost use Rattle.sj_trees.specs.View.{view};
 ghost use Rattle.sj_infos.specs.Forms as specs;
 

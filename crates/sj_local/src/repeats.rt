@@ -49,8 +49,6 @@ impl Key for ClassName {
 impl Keyed for ClassName {
     type Key = ClassName;
 
-    ghost use Rattle.std.specs.Prelude.{ℕ, List};
-
     ghost key = { λ n. n };
 
     fn key(&self) -> Result<ClassName, NoMemory> {

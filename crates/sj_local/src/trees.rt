@@ -2,7 +2,6 @@
 ghost use Rattle.std.specs.Prelude.{◌≡◌, ◌++◌, [], false, Ok, IfOk, option_map};
 ghost use Rattle.std.specs.List.{list_any};
 ghost use Rattle.sj_trees.specs.View.{view, terms_view, cases_view};
-ghost use Rattle.sj_trees.specs.Types.{class_type};
 ghost use Rattle.sj_local.specs.Names.{is_same_text};
 ghost use Rattle.sj_local.specs.TreeRules as rules;
 

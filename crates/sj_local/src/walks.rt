@@ -1,9 +1,7 @@
 // A walk over the trees of a body, with what is known where each stands.
 ghost use Rattle.std.specs.Prelude.{◌≡◌, ◌++◌, ◌∷◌, [], map, true, false, IfOk, OnOk};
 ghost use Rattle.sj_trees.specs.View.{view, terms_view, cases_view};
-ghost use Rattle.sj_trees.specs.Term.{Term};
 ghost use Rattle.sj_trees.specs.declared.classes.ParamDef.{ParamDef};
-ghost use Rattle.sj_local.specs.Firsts.{in_32_bits};
 ghost use Rattle.sj_local.specs.Nodes as nodes;
 ghost use Rattle.sj_local.specs.TreeRules as rules;
 ghost use Rattle.sj_local.specs.WalkParts as walks;

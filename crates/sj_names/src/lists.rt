@@ -1,5 +1,5 @@
 // A list that contracts see as the list of its items.
-ghost use Rattle.std.specs.Prelude.{◌≡◌, List, length, slice_get, option_copied};
+ghost use Rattle.std.specs.Prelude.{◌≡◌, List};
 ghost use Rattle.std.specs.Hash as fed;
 ghost use Rattle.std.specs.Hash.{items_Alike};
 ghost use Rattle.std.specs.Cmp.Lexicographic.{pointwise, slice_cmp, slice_partial_cmp, lists_per, lists_equiv, lists_po, lists_total, lists_agrees, lists_ties};

@@ -1,5 +1,5 @@
 // References to types, as method names and array types hold them.
-ghost use Rattle.std.specs.Prelude.{◌≡◌, ◌↔◌, ◌≤◌, ◌+◌, ◌++◌, ◌∷◌, IfOk, OnOk, IsTrue, Some, None, is_some, string_bytes};
+ghost use Rattle.std.specs.Prelude.{◌≡◌, ◌↔◌, ◌+◌, ◌++◌, ◌∷◌, IfOk, OnOk, IsTrue, Some, None, is_some, string_bytes};
 ghost use Rattle.sj_names.specs.Bases as bases;
 ghost use Rattle.sj_names.specs.References as references;
 

@@ -1,5 +1,5 @@
 // The lines that are printed.
-ghost use Rattle.std.specs.Prelude.{◌≡◌, ℕ, List, [], ◌∷◌, Option, OnOk, OnErr};
+ghost use Rattle.std.specs.Prelude.{◌≡◌, ℕ, List, [], Option, OnOk, OnErr};
 ghost use Rattle.sj_outside.specs.Faults.{HasCause};
 ghost use Rattle.sj_outside.specs.Writing.{Appends};
 

@@ -1,7 +1,7 @@
 // What folders in memory hold: a tree of names.
 ghost use Rattle.std.specs.Prelude.{◌≡◌, IfOk, map, option_map};
 ghost use Rattle.std.specs.List.{list_any};
-ghost use Rattle.sj_outside.specs.Contents.{entries_of, entry_name, entry_of, is_new, is_same_text, folder_held, held_at, held_under, part_named};
+ghost use Rattle.sj_outside.specs.Contents.{entries_of, entry_name, entry_of, is_new, is_same_text, held_at, held_under, part_named};
 ghost use Rattle.sj_outside.specs.View.{found_view, part_view, parts_view};
 
 use crate::Entry;

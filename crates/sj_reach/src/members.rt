@@ -1,5 +1,5 @@
 // Members of classes, and members by their names.
-ghost use Rattle.std.specs.Prelude.{◌≡◌, ◌↔◌, IfOk, IsTrue, MatchOption, Some};
+ghost use Rattle.std.specs.Prelude.{◌≡◌, IfOk, Some};
 ghost use Rattle.sj_names.specs.WellKnown.{init};
 ghost use Rattle.sj_names.specs.declared.references.TypeRef.TheVariants as reference;
 ghost use Rattle.sj_reach_spec.specs.Rules as rules;

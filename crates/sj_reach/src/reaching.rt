@@ -1,7 +1,6 @@
 // What is reachable.
-ghost use Rattle.std.specs.Prelude.{◌≡◌, ◌++◌, ◌∷◌, [], OnOk, IfOk, IsTrue, MatchResult, MatchOption, option_map};
+ghost use Rattle.std.specs.Prelude.{◌≡◌, [], OnOk, IfOk, MatchResult, MatchOption, option_map};
 ghost use Rattle.sj_names.specs.WellKnown.{hijacked as the_hijacked};
-ghost use Rattle.sj_names.specs.Grammar.{is_class_name};
 ghost use Rattle.sj_reach.specs.Answers.{AreReachable, IsRefused, AreLeast, AllFound, IsLeastReport, comes_first, first_told};
 ghost use Rattle.sj_reach.specs.Conclusions.{Adds, Among};
 ghost use Rattle.sj_reach.specs.Seen.{SeesFact};

@@ -2,7 +2,6 @@
 ghost use Rattle.std.specs.Prelude.{◌≡◌, ◌++◌, ◌∷◌, [], IfOk, IfErr, Some, Ok, Err};
 ghost use Rattle.std.specs.Option.{option_copied};
 ghost use Rattle.sj_names.specs.Grammar.{is_class_name};
-ghost use Rattle.sj_trees.specs.View.{view};
 ghost use Rattle.sj_read_spec.specs.Reading.{bytes_at, list_at};
 ghost use Rattle.sj_read_spec.specs.Tables.{name_at};
 ghost use Rattle.sj_read_spec.specs.Types.{option_at};

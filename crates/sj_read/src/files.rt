@@ -1,9 +1,9 @@
 // Class files.
-ghost use Rattle.std.specs.Prelude.{◌≡◌, ℕ, length, nat_eq, codes, IfOk, Ok, Err};
+ghost use Rattle.std.specs.Prelude.{◌≡◌, Ok, Err};
 ghost use Rattle.sj_names.specs.Counting.{raised};
 ghost use Rattle.sj_trees.specs.declared.classes.ClassDef.{ClassDef};
 ghost use Rattle.sj_trees.specs.declared.refusals.Code.{Code};
-ghost use Rattle.sj_read_spec.specs.Files.{magic_at, version_text_at, version_at, tables_at, contents_at, file_of, FileIs, Fails};
+ghost use Rattle.sj_read_spec.specs.Files.{magic_at, version_text_at, version_at, tables_at, contents_at, file_of};
 ghost use Rattle.sj_read_spec.specs.Classes.{class_at};
 ghost use Rattle.sj_read.specs.Parts.{text_tables_at, more_tables_at};
 ghost use Rattle.sj_read_trees.specs.Stops.{Gives};

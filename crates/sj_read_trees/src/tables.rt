@@ -1,5 +1,5 @@
 // The four tables in front of the class, and how the class names their entries.
-ghost use Rattle.std.specs.Prelude.{◌≡◌, List, ℕ, map, length};
+ghost use Rattle.std.specs.Prelude.{◌≡◌, List, ℕ};
 ghost use Rattle.sj_names.specs.Grammar.{is_class_name, is_plain_name, is_simple_name};
 ghost use Rattle.sj_read_spec.specs.Tables.{entry_at, name_at, text_at, string_at};
 ghost use Rattle.sj_read_spec.specs.Types.{position_at};

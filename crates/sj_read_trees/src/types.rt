@@ -1,7 +1,6 @@
 // Types and codes.
 ghost use Rattle.std.specs.Prelude.{◌≡◌};
-ghost use Rattle.sj_trees.specs.Operators.{unary_with, binary_with};
-ghost use Rattle.sj_read_spec.specs.Codes.{reserved_trees, kinds, reserved_kinds, member_tags, reserved_members, plain_types, reserved_types};
+ghost use Rattle.sj_read_spec.specs.Codes.{reserved_trees, kinds, reserved_kinds, member_tags, reserved_members};
 ghost use Rattle.sj_trees.specs.Forms.{among, form_codes};
 ghost use Rattle.sj_read_spec.specs.Types.{coded, code_at, namespace_at, type_of, type_at};
 ghost use Rattle.sj_read_spec.specs.Trees.{unary_at, binary_at};

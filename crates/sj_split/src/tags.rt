@@ -1,5 +1,5 @@
 // Homes by tags.
-ghost use Rattle.std.specs.Prelude.{◌≡◌, ◌∷◌, ◌<◌, ℕ, IfOk, length, map, Contains};
+ghost use Rattle.std.specs.Prelude.{◌≡◌, ◌∷◌, ◌<◌, IfOk, length, map, Contains};
 ghost use Rattle.std.specs.List.{join_with_byte};
 ghost use Rattle.sj_split.specs.Homes.{home_of_tags};
 ghost use Rattle.sj_split.specs.Steps.{entry_class, tags_in, AreReaches, AreHomesByTags, AreInside, AreCondensed, IsNumbered};

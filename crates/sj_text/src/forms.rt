@@ -1,7 +1,6 @@
 // Forms without trees in them.
-ghost use Rattle.std.specs.Prelude.{◌≡◌, ◌==◌, codes, map};
-ghost use Rattle.exact_place.specs.Reading.{lead_at};
-ghost use Rattle.sj_trees.specs.View.{view, view_case, terms_view, cases_view};
+ghost use Rattle.std.specs.Prelude.{◌≡◌};
+ghost use Rattle.sj_trees.specs.View.{view};
 ghost use Rattle.text_scan.specs.Gives.{Gives};
 ghost use Rattle.sj_text_spec.specs.Reading as reading;
 ghost use Rattle.sj_trees.specs.declared.forms.LeafForm.TheVariants as leaves;

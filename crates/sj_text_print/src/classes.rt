@@ -3,7 +3,7 @@ ghost use Rattle.std.specs.Prelude.{◌≡◌, OnOk, IfOk, codes};
 ghost use Rattle.js_tree.specs.Written.{put, ◌▸◌, put_more, put_separated};
 ghost use Rattle.sj_text_spec.specs.Spelling.{Lists};
 ghost use Rattle.sj_text_spec.specs.Rules.{HasListing, bare};
-ghost use Rattle.sj_text_spec.specs.Texts.{put_bracketed, put_list, put_name, put_param, put_field, put_body, put_method, put_superclass, put_class, listing_text};
+ghost use Rattle.sj_text_spec.specs.Texts.{put_list, put_name, put_param, put_field, put_body, put_method, put_superclass, put_class, listing_text};
 
 use crate::literals::append_name;
 use crate::parts::{kind_part, mark_part, method_part, name_part, namespace_part, type_part};

@@ -12,7 +12,6 @@ ghost use Rattle.sj_typing_spec.specs.Checks as checks;
 ghost use Rattle.sj_typing_spec.specs.Answered as answered;
 ghost use Rattle.sj_typing_spec.specs.Answered.{AsRun, seen, agreed, ended};
 ghost use Rattle.sj_typing_spec.specs.Rows as rows;
-ghost use Rattle.sj_typing_spec.specs.Typed as typed;
 ghost use Rattle.sj_ask.specs.declared.errors.TypeError.{TypeError};
 
 use crate::rows::row_of;

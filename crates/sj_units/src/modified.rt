@@ -1,5 +1,5 @@
 // Modified UTF-8, read and written.
-ghost use Rattle.std.specs.Prelude.{◌≡◌, ◌↔◌, ◌<◌, ℕ, List, [], ◌∷◌, ◌≢◌, ◌≤◌, ◌++◌, IsTrue, IfOk, OnOk, Some, None, Err, option_map, is_some, length};
+ghost use Rattle.std.specs.Prelude.{◌≡◌, ◌↔◌, ◌<◌, ◌++◌, IsTrue, IfOk, OnOk, Some, None, Err, option_map, is_some};
 ghost use Rattle.sj_units.specs.Modified as modified;
 
 use crate::{NoMemory, Units, UnitsError};

@@ -1,5 +1,5 @@
 // A class and its members.
-ghost use Rattle.std.specs.Prelude.{◌≡◌, OnOk, map};
+ghost use Rattle.std.specs.Prelude.{◌≡◌, OnOk};
 ghost use Rattle.sj_write_spec.specs.Fields.{HasFiles, name_field, plain_field, each, list_fields, option_fields};
 ghost use Rattle.sj_write_spec.specs.Trees.{term_fields};
 ghost use Rattle.sj_write_spec.specs.Classes.{kind_code, param_fields, field_fields, method_fields, members_fields, class_fields};

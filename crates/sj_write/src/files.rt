@@ -1,7 +1,6 @@
 // Class files.
-ghost use Rattle.std.specs.Prelude.{◌≡◌, [], ◌++◌, OnOk, IfOk, map, length};
+ghost use Rattle.std.specs.Prelude.{◌≡◌, [], ◌++◌, OnOk, IfOk, map};
 ghost use Rattle.std.specs.List.{flat_map};
-ghost use Rattle.byteorder.specs.Endian.{big_bytes};
 ghost use Rattle.sj_units.specs.Modified.{modified_bytes};
 ghost use Rattle.sj_write_spec.specs.Fields.{HasFiles, list_fields};
 ghost use Rattle.sj_write_spec.specs.References.{method_name_fields};

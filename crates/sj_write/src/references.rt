@@ -1,5 +1,5 @@
 // Types, references and the names of methods.
-ghost use Rattle.std.specs.Prelude.{◌≡◌, OnOk, map};
+ghost use Rattle.std.specs.Prelude.{◌≡◌, OnOk};
 ghost use Rattle.sj_write_spec.specs.Fields.{name_field, ◌▸◌, byte, list_fields};
 ghost use Rattle.sj_write_spec.specs.References.{type_fields, array_fields, base_fields, reference_fields, result_fields, method_name_fields};
 ghost use Rattle.sj_write.specs.Writing.{put};

@@ -1,11 +1,10 @@
 // What is written of a class so far: the entries of the tables, and the bytes behind them.
-ghost use Rattle.std.specs.Prelude.{◌≡◌, ◌<◌, ◌++◌, [], OnOk, IfOk, length, map, slice_index, option_map, not};
+ghost use Rattle.std.specs.Prelude.{◌≡◌, ◌<◌, OnOk, IfOk, map, not};
 ghost use Rattle.std.specs.List.{list_any, flat_map};
-ghost use Rattle.byteorder.specs.Endian.{big_bytes};
-ghost use Rattle.sj_write_spec.specs.Fields.{HasFiles, number_field, plain_field, name_field, method_field, string_field, mark, count, position_fields};
+ghost use Rattle.sj_write_spec.specs.Fields.{HasFiles, number_field, name_field, method_field, string_field, mark, count, position_fields};
 ghost use Rattle.sj_write_spec.specs.References.{names_in_method, names_in_reference, names_in_result, names_in_base};
 ghost use Rattle.sj_write_spec.specs.Tables.{same_text, same_method, with_entry, index_of};
-ghost use Rattle.sj_write.specs.Writing.{Writing, put, unwritten, knowing, entered, all_entered, with_files, with_methods, with_strings, with_bytes, with_index};
+ghost use Rattle.sj_write.specs.Writing.{Writing, put, unwritten, knowing, entered, all_entered, with_files, with_methods, with_strings, with_bytes};
 
 use crate::entries::StringEntry;
 use crate::numbers::{append, append_count, append_long, append_number, append_short};

@@ -1,5 +1,4 @@
 // The laws of the file that a class is written as.
-ghost use Rattle.std.specs.Prelude.{List, ℕ};
 ghost use Rattle.sj_trees.specs.declared.classes.ClassDef.{ClassDef};
 ghost use Rattle.sj_write_spec.specs.Fields.{Fields};
 ghost use Rattle.sj_write_spec.specs.Classes.{NamesItsFiles};

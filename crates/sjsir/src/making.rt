@@ -1,5 +1,5 @@
 // The class file of a listing.
-ghost use Rattle.std.specs.Prelude.{◌≡◌, ◌≤◌, ◌↔◌, ℕ, Some, IfOk, IsTrue, Err, is_some, false};
+ghost use Rattle.std.specs.Prelude.{◌≡◌, ◌↔◌, Some, IfOk, IsTrue, Err, is_some, false};
 ghost use Rattle.sj_outside.specs.Contents.{Parts, file_at};
 ghost use Rattle.sjsir.specs.Making as making;
 ghost use Rattle.sjsir.specs.Nesting.{is_deep};

@@ -1,9 +1,6 @@
 // The listings of class files.
-ghost use Rattle.std.specs.Prelude.{◌≡◌, ◌≤◌, ℕ, List, Option, Some, IfOk, IsTrue, Err, is_some, map, string_bytes};
+ghost use Rattle.std.specs.Prelude.{◌≡◌, Option, Some, IfOk, IsTrue, Err, is_some, map, string_bytes};
 ghost use Rattle.sj_outside.specs.Contents.{Parts, file_at};
-ghost use Rattle.sj_outside.specs.Faults.{Rose};
-ghost use Rattle.sj_outside.specs.Writing.{Appends};
-ghost use Rattle.sj_read_spec.specs.Files.{Fails};
 ghost use Rattle.sj_trees.specs.Refusals as faults;
 ghost use Rattle.sjsir.specs.Output as output;
 ghost use Rattle.sjsir.specs.Printing as spec;

@@ -1,5 +1,5 @@
 // What is written.
-ghost use Rattle.std.specs.Prelude.{◌≡◌, ◌⊎◌, [], ◌∷◌, IfOk, string_bytes};
+ghost use Rattle.std.specs.Prelude.{◌≡◌, ◌⊎◌, [], IfOk, string_bytes};
 ghost use Rattle.sj_outside.specs.Faults.{Rose};
 ghost use Rattle.sj_outside.specs.Writing.{Appends, Writes, WritesFront};
 ghost use Rattle.sjsir.specs.Making as making;

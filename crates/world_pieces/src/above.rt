@@ -1,5 +1,5 @@
 // The classes above the classes of the kinds, and the pieces of helpers.
-ghost use Rattle.std.specs.Prelude.{◌≡◌, ◌++◌, map, All, IfOk, OnOk};
+ghost use Rattle.std.specs.Prelude.{◌≡◌, map, All, IfOk};
 ghost use Rattle.sj_emit_help_spec.specs.Helpers as rules;
 ghost use Rattle.sj_emit_help_spec.specs.Words.{kind_class};
 ghost use Rattle.js_tree.specs.Rules.{IsPiece};
