@@ -103,7 +103,7 @@ module _ (z : Setting) (lawful : Lawful z) (low : LowAlike z) where
   check_given t has _ _ w env s sc u inside (more_operands _ r e _ _ _ told one no_operands) same = checked_alike z lawful t w env sc r e has inside (more_operands t r e [] [] [] told one no_operands) w s u (grows-refl w) same
 
   abbrev FineAt : Context → Term → Type 0
-  FineAt c e = FineOperand z.place.classes z.is_mutable (usable z) z.code c.scope e (λ y. FineHere z lawful low c (to_variable y (type_of_term e)) e)
+  FineAt c e = FineOperand z.place.typing z.is_mutable (usable z) z.code c.scope e (λ y. FineHere z lawful low c (to_variable y (type_of_term e)) e)
 
   -- the value of a receiver that is spilled by itself, checked: where it is of type nothing there is none
   never_final : (c : Context) (x : core.Variable) (p : Position) (j : ℕ) → (usable z).helper check_name ≡ true → (w : World) (sc : js.Scope) → OneFinal z lawful c (to_variable x Nothing) w sc j Nothing (null_act z) (λ es. finish (to_variable x Nothing) p Nothing false (core.checked_value (first_of es)))
@@ -151,7 +151,7 @@ module _ (z : Setting) (lawful : Lawful z) (low : LowAlike z) where
       given rs es w env s sc u inside alike same = new_alike z lawful.base d m (all_stood (types_referred m.params) (types_of ts) fit.0) rs (coerced_arguments m.params (types_of ts) es) (coerced_arguments m.params (types_of ts) es) refl built made free (all-stood-fit (types_referred m.params) (types_of ts) fit.0) w env s sc u inside (operands_coerced z lawful.base w env sc inside m.params (types_of ts) rs es fit.0 fit.1 (subst (λ is. OperandsAlike z w env sc is rs es) (sym (types-list z lawful low c.targets ts)) alike)) same
 
   -- This, where there is one
-  pub this_does : (p : Position) (c : Context) (k : Destination) (j : ℕ) (t : IrType) → Sound z.is_mutable c → Writes c.written k → FitsIn (usable z) k t → Plain z.place.classes (usable z) z.code c.scope (this_ref p t) → Does z lawful c k j (this_ref p t)
+  pub this_does : (p : Position) (c : Context) (k : Destination) (j : ℕ) (t : IrType) → Sound z.is_mutable c → Writes c.written k → FitsIn (usable z) k t → Plain z.place.typing (usable z) z.code c.scope (this_ref p t) → Does z lawful c k j (this_ref p t)
   this_does p c k j t sound wr fits plain w env s sc u r same = by env.this_value (sc.bindings (z.place.name core.receiver)) r.sees.this refl
     where
       by : (o : Option ir.Value) (cell : js.Cell) → Receiving w z.code.owner o cell → env.this_value ≡ o → Ends z lawful c c.scope k w sc (ir_meaning.local_value env.this_value env s) (finish k p t true (core.variable_use core.receiver) j).statements sc u
@@ -212,10 +212,10 @@ module _ (z : Setting) (lawful : Lawful z) (low : LowAlike z) where
       goes y _ _ s u h _ object states = sim_wrong z.direction F _
 
   -- where the right side is plain
-  set_final : (c : Context) (p : Position) (j : ℕ) (own : IrType) (d f : List ℕ) (t : IrType) (e : Term) → (usable z).field d f t ≡ true → StandsFor z t (type_of_term e) → Plain z.place.classes (usable z) z.code c.scope e → (w : World) (sc : js.Scope) → OneFinal z lawful c discard w sc j own (ir_meaning.assign_on d f (ir_meaning.step z.place.classes z.low e)) (λ es. one (core.assign_field (Some p) (first_of es) d f (coerced t (type_of_term e) (expression_of z.code.sure e))))
+  set_final : (c : Context) (p : Position) (j : ℕ) (own : IrType) (d f : List ℕ) (t : IrType) (e : Term) → (usable z).field d f t ≡ true → StandsFor z t (type_of_term e) → Plain z.place.typing (usable z) z.code c.scope e → (w : World) (sc : js.Scope) → OneFinal z lawful c discard w sc j own (ir_meaning.assign_on d f (ir_meaning.step z.place.classes z.low e)) (λ es. one (core.assign_field (Some p) (first_of es) d f (coerced t (type_of_term e) (expression_of z.code.sure e))))
   set_final c p j own d f t e has fits plain from before n r x w env s sc u ahead l g ready ks same operand = set_alike c p own d f t (stood t (type_of_term e) fits.0) has (stood-fits t (type_of_term e) fits.0) from before w env s sc u g ready ks same r (ir_meaning.step z.place.classes z.low e) x (coerced t (type_of_term e) (expression_of z.code.sure e)) operand (stood_told z lawful.base w env sc ready.sees.inside t (type_of_term e) fits.0 (expression_of z.code.sure e) (plain_alike z lawful c.scope e plain).told) (stood_alike z lawful.base w env sc ready.sees.inside t (type_of_term e) fits.0 fits.1 (ir_meaning.step z.place.classes z.low e) (expression_of z.code.sure e) (as_operand z lawful c.scope e (plain_alike z lawful c.scope e plain).alike w env sc ready.sees))
 
-  pub set_does : (p q : Position) (c : Context) (j : ℕ) (o : Term) (d f : List ℕ) (t : IrType) (e : Term) → Sound z.is_mutable c → Ahead c j → (usable z).field d f t ≡ true → StandsFor z t (type_of_term e) → is_plain e ≡ true → Plain z.place.classes (usable z) z.code c.scope e → OperandDoes z lawful c j (receiver_piece c.targets o) → Does z lawful c discard j (assign p (select q o d f t) e)
+  pub set_does : (p q : Position) (c : Context) (j : ℕ) (o : Term) (d f : List ℕ) (t : IrType) (e : Term) → Sound z.is_mutable c → Ahead c j → (usable z).field d f t ≡ true → StandsFor z t (type_of_term e) → is_plain e ≡ true → Plain z.place.typing (usable z) z.code c.scope e → OperandDoes z lawful c j (receiver_piece c.targets o) → Does z lawful c discard j (assign p (select q o d f t) e)
   set_does p q c j o d f t e sound ahead has fits i plain operand w env s sc u r same = subst (λ a. Ends z lawful c c.scope discard w sc a (into z.is_mutable z.code.sure c.targets discard j (assign p (select q o d f t) e)).statements sc u) (sym (sure_run o act [] w env s sc c.scope r.sees)) (subst (λ (a : Code). Ends z lawful c c.scope discard w sc (ir_meaning.in_order ((receiver_piece c.targets o).run ∷ []) act env s) a.statements sc u) (sym (before_plain (receiver_piece c.targets o).here (piece z lawful low c.targets e).here j both i (shape operand))) (of_operands z lawful c discard (receiver_piece c.targets o ∷ []) j act made sound ahead (operand, tt) (one_final z lawful c discard j (receiver_piece c.targets o).here.tpe act made (set_final c p j (receiver_piece c.targets o).here.tpe d f t e has fits plain)) w env s sc u r same))
     where
       act : List ir.Value → ir.Run

@@ -110,7 +110,7 @@ module _ (z : Setting) (lawful : Lawful z) where
     goes_on = λ later u ks. ap (λ (cell : js.Cell). js_meaning.cell_value (js_meaning.or_outer cell (js_meaning.top_cell (owner z.place.program later.file (z.place.name core.receiver)) (z.place.name core.receiver) u)) u) (ks.same core.receiver kept ∙ h);
   })
 
-  pub fixed_run : (c : Context) (p : core.Variable → Type 0) (t : Term) → Sound z.is_mutable (keeping c p) → is_fixed z.is_mutable t ≡ true → Plain z.place.classes (usable z) z.code c.scope t → (w : World) (env : ir.Env) (sc : js.Scope) → Sees z.place z.code c.scope w env sc → FixedOrWrong p w env sc (type_of_term t) (ir_meaning.step z.place.classes z.low t) (expression_of z.code.sure t)
+  pub fixed_run : (c : Context) (p : core.Variable → Type 0) (t : Term) → Sound z.is_mutable (keeping c p) → is_fixed z.is_mutable t ≡ true → Plain z.place.typing (usable z) z.code c.scope t → (w : World) (env : ir.Env) (sc : js.Scope) → Sees z.place z.code c.scope w env sc → FixedOrWrong p w env sc (type_of_term t) (ir_meaning.step z.place.classes z.low t) (expression_of z.code.sure t)
   fixed_run c p (undefined_literal q) sound e h w env sc sees = inl (value_fixed p w env sc (undefined_literal q) ir.undefined js.undefined same_undefined refl tt (λ s. refl) (λ later u. refl))
   fixed_run c p (null_literal q) sound e h w env sc sees = inl (value_fixed p w env sc (null_literal q) ir.null js.null same_null refl tt (λ s. refl) (λ later u. refl))
   fixed_run c p (boolean_literal q b) sound e h w env sc sees = inl (value_fixed p w env sc (boolean_literal q b) (ir.boolean b) (js.boolean b) (same_boolean b) refl tt (λ s. refl) (λ later u. refl))

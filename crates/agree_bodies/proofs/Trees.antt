@@ -49,7 +49,7 @@ use Rattle.agree_plain_trees.proofs.Worlds.{World}
 
 -- the level below: each tree of the forms that are built, and its statements, with one unit less
 abbrev pub LowAlike : Setting → Type 1
-LowAlike z = (c : Context) (k : Destination) (j : ℕ) (t : Term) → Sound z.is_mutable c → Ahead c j → Outside c (Own t) → Writes c.written k → Fine z.place.classes z.is_mutable (usable z) z.code c.scope (around c) k t → (w : World) (env : ir.Env) (s : ir.State) (sc : js.Scope) (u : js.State) → Ready z.place z.code c.scope c.writable w env sc → SameState z.place w s u → Sim z.direction (Came z.place z.code c c.scope k w sc) (z.low t env s) (z.js_low (statement_templates z.place.name z.place.label (usable z).lookup (into z.is_mutable z.code.sure c.targets k j t).statements) sc u)
+LowAlike z = (c : Context) (k : Destination) (j : ℕ) (t : Term) → Sound z.is_mutable c → Ahead c j → Outside c (Own t) → Writes c.written k → Fine z.place.typing z.is_mutable (usable z) z.code c.scope (around c) k t → (w : World) (env : ir.Env) (s : ir.State) (sc : js.Scope) (u : js.State) → Ready z.place z.code c.scope c.writable w env sc → SameState z.place w s u → Sim z.direction (Came z.place z.code c c.scope k w sc) (z.low t env s) (z.js_low (statement_templates z.place.name z.place.label (usable z).lookup (into z.is_mutable z.code.sure c.targets k j t).statements) sc u)
 
 -- what is written for a tree in which each local is defined once, wherever its values go
 pub written : (is_mutable sure : List ℕ → Bool) (to : List ℕ → Type 0) (may : Type 0) (ls : Targets) (t : Term) (k : Destination) (j : ℕ) {around : List (List ℕ)} → Placed to may around t → Good (Own t) around false j (into is_mutable sure ls k j t)
@@ -76,7 +76,7 @@ go_on-given o = ap (then_do o) (fun_ext onward-given) ∙ then_do-right o
 
 module _ (z : Setting) (lawful : Lawful z) (low : LowAlike z) where
   abbrev pub FineHere : Context → Destination → Term → Type 0
-  FineHere c k t = Fine z.place.classes z.is_mutable (usable z) z.code c.scope (around c) k t
+  FineHere c k t = Fine z.place.typing z.is_mutable (usable z) z.code c.scope (around c) k t
 
   -- the theorem on one tree
   abbrev pub TreeDoes : Term → Type 1
@@ -86,15 +86,15 @@ module _ (z : Setting) (lawful : Lawful z) (low : LowAlike z) where
   abbrev pub piece : Targets → Term → Piece
   piece ls t = record { run = ir_meaning.step z.place.classes z.low t; here = operand z.is_mutable z.code.sure t (λ k j. into z.is_mutable z.code.sure ls k j t) }
 
-  pub operand_does : (c : Context) (j : ℕ) (t : Term) → TreeDoes t → Outside c (Own t) → FineOperand z.place.classes z.is_mutable (usable z) z.code c.scope t (λ y. FineHere c (to_variable y (type_of_term t)) t) → OperandDoes z lawful c j (piece c.targets t)
+  pub operand_does : (c : Context) (j : ℕ) (t : Term) → TreeDoes t → Outside c (Own t) → FineOperand z.place.typing z.is_mutable (usable z) z.code c.scope t (λ y. FineHere c (to_variable y (type_of_term t)) t) → OperandDoes z lawful c j (piece c.targets t)
   operand_does c j t does out (inl h) = inl (h.plain, record { alike = λ w env sc sees. as_operand z lawful c.scope t (plain_alike z lawful c.scope t h).alike w env sc sees; told = (plain_alike z lawful c.scope t h).told; fixes = λ e p sound w env sc sees. fixed_run z lawful c p t sound e h w env sc sees })
   operand_does c j t does out (inr h) = inr (h.0, h.1, (λ k i. (written z.is_mutable z.code.sure c.reaches c.tries c.targets t k i (h.2 (core.numbered j)).once).onward), λ p i l ext sound ahead. does (writing (keeping c p) (core.numbered i)) (to_variable (core.numbered i) (type_of_term t)) (suc i) (sound-writing z lawful (keeping c p) i sound ahead) (ahead-writing z lawful (keeping c p) i ahead) (outside-writing z lawful c p i (Own t) ext out) (inl refl) (h.2 (core.numbered i)))
 
   -- a definition by what is known of its right side
   pub define_does : (p : Position) (x : List ℕ) (t : IrType) (b : Bool) (e : Term) → TreeDoes e → (c : Context) (j : ℕ) → Sound z.is_mutable c → Ahead c j → Outside c (Own (var_def p x t b e)) → FineHere c discard (var_def p x t b e) → (w : World) (env : ir.Env) (s : ir.State) (sc : js.Scope) (u : js.State) → Ready z.place z.code c.scope c.writable w env sc → SameState z.place w s u → Ends z lawful c (with_local x t c.scope) discard w sc (ir_meaning.step z.place.classes z.low (var_def p x t b e) env s) (into z.is_mutable z.code.sure c.targets discard j (var_def p x t b e)).statements sc u
-  define_does p x t b e does c j sound ahead out fine = define_alike z lawful c p x t (type_of_term e) (ir_meaning.step z.place.classes z.low e) (expression_of z.code.sure e) (into z.is_mutable z.code.sure c.targets (to_variable (core.named x) t) j e) j (is_plain e) sound (λ i. out.scope x i (inl refl)) (out.writable x (inl refl)) (out.kept x (inl refl)) (⊎_elim (λ h. inl (h.0.plain, stands-for z lawful t (type_of_term e) h.1 h.2, λ w env sc sees. as_operand z lawful c.scope e (plain_alike z lawful c.scope e h.0).alike w env sc sees)) (λ h. inr (h.0, does (defining z lawful c x) (to_variable (core.named x) t) j (sound-defining z lawful c x sound (λ i. out.scope x i (inl refl)) (out.kept x (inl refl))) (ahead-defining z lawful c x j ahead) (record { scope = λ y i o. out.scope y i (inr o); writable = λ y o wr. ⊎_elim (λ i. fine.typed.0.finds.1 (subst (Own e) (cc) o)) (out.writable y (inr o)) wr; kept = λ y o. out.kept y (inr o) }) (inl refl) h.1)) (definition_of z.place.classes lawful.base.ordered z.is_mutable (usable z) z.code c.scope (around c) discard p x t b e fine))
+  define_does p x t b e does c j sound ahead out fine = define_alike z lawful c p x t (type_of_term e) (ir_meaning.step z.place.classes z.low e) (expression_of z.code.sure e) (into z.is_mutable z.code.sure c.targets (to_variable (core.named x) t) j e) j (is_plain e) sound (λ i. out.scope x i (inl refl)) (out.writable x (inl refl)) (out.kept x (inl refl)) (⊎_elim (λ h. inl (h.0.plain, stands-for z lawful t (type_of_term e) h.1 h.2, λ w env sc sees. as_operand z lawful c.scope e (plain_alike z lawful c.scope e h.0).alike w env sc sees)) (λ h. inr (h.0, does (defining z lawful c x) (to_variable (core.named x) t) j (sound-defining z lawful c x sound (λ i. out.scope x i (inl refl)) (out.kept x (inl refl))) (ahead-defining z lawful c x j ahead) (record { scope = λ y i o. out.scope y i (inr o); writable = λ y o wr. ⊎_elim (λ i. fine.typed.0.finds.1 (subst (Own e) (cc) o)) (out.writable y (inr o)) wr; kept = λ y o. out.kept y (inr o) }) (inl refl) h.1)) (definition_of z.place.typing lawful.base.ordered z.is_mutable (usable z) z.code c.scope (around c) discard p x t b e fine))
 
-  pub quiet : (t : Term) (c : Context) (k : Destination) (p : Position) (e : core.Expression) (j : ℕ) (v : ir.Env → ir.Value) → Sound z.is_mutable c → Writes c.written k → FitsIn (usable z) k (type_of_term t) → Plain z.place.classes (usable z) z.code c.scope t → expression_of z.code.sure t ≡ e → ((w : World) (env : ir.Env) (s : ir.State) (sc : js.Scope) → Ready z.place z.code c.scope c.writable w env sc → ir_meaning.step z.place.classes z.low t env s ≡ done (ir.ends (ir.gives (v env)) env s)) → (w : World) (env : ir.Env) (s : ir.State) (sc : js.Scope) (u : js.State) → Ready z.place z.code c.scope c.writable w env sc → SameState z.place w s u → Ends z lawful c c.scope k w sc (ir_meaning.step z.place.classes z.low t env s) (finish k p (type_of_term t) true e j).statements sc u
+  pub quiet : (t : Term) (c : Context) (k : Destination) (p : Position) (e : core.Expression) (j : ℕ) (v : ir.Env → ir.Value) → Sound z.is_mutable c → Writes c.written k → FitsIn (usable z) k (type_of_term t) → Plain z.place.typing (usable z) z.code c.scope t → expression_of z.code.sure t ≡ e → ((w : World) (env : ir.Env) (s : ir.State) (sc : js.Scope) → Ready z.place z.code c.scope c.writable w env sc → ir_meaning.step z.place.classes z.low t env s ≡ done (ir.ends (ir.gives (v env)) env s)) → (w : World) (env : ir.Env) (s : ir.State) (sc : js.Scope) (u : js.State) → Ready z.place z.code c.scope c.writable w env sc → SameState z.place w s u → Ends z lawful c c.scope k w sc (ir_meaning.step z.place.classes z.low t env s) (finish k p (type_of_term t) true e j).statements sc u
   quiet t c k p e j v sound wr fits plain is at w env s sc u r same = quiet_alike z lawful c k p (type_of_term t) e j sound wr fits w env s sc u (ir_meaning.step z.place.classes z.low t env s) (v env) (at w env s sc r) r same (subst (λ d. Sim z.direction (Valued z.place w env (type_of_term t)) (ir_meaning.step z.place.classes z.low t env s) (shown z d sc u)) is ((plain_alike z lawful c.scope t plain).alike w env s sc u r.sees same))
 
   abbrev pub value_of : Option ir.Value → ir.Value

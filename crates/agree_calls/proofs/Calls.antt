@@ -220,7 +220,7 @@ module _ (p : Place) (names : NamesDiffer p) where
       js_is = ap (λ o. js_meaning.code_call js_low (p.home (a_function m)) o xs u) l.emitted
 
       locals : Bound p w l.definition.params vs xs names_declared → Sim d (Valued p w env l.definition.result) (ir_meaning.body_call low l.definition.result (Some l.its_body) None (ir_meaning.parameters l.definition.params vs) env s) js_body
-      locals h = subst (λ o. Sim d (Valued p w env l.definition.result) (ir_meaning.body_call low l.definition.result (Some l.its_body) None o env s) js_body) (sym h.are) (sim_then d (Came p here (start is_mutable l.definition.params) scope k w sc) (Valued p w env l.definition.result) (low l.its_body inner s) (js_low code.body sc u) (ir_meaning.returned l.definition.result env) js_meaning.returned (below (start is_mutable l.definition.params) k 1 l.its_body (sound-start is_mutable l.definition.params) (ahead-start is_mutable l.definition.params) (outside-start is_mutable l.definition.params (Own l.its_body) l.rules.once.fresh) (writes-nothing (λ y. ⊥) l.definition.result k (way l.definition.result)) (body-fine p.classes (p.has here.file) here.file m.class l.definition l.its_body l.rules) w inner s sc u ready same) (comes_back d p here l.definition.result k (way l.definition.result) (start is_mutable l.definition.params) scope w sc env))
+      locals h = subst (λ o. Sim d (Valued p w env l.definition.result) (ir_meaning.body_call low l.definition.result (Some l.its_body) None o env s) js_body) (sym h.are) (sim_then d (Came p here (start is_mutable l.definition.params) scope k w sc) (Valued p w env l.definition.result) (low l.its_body inner s) (js_low code.body sc u) (ir_meaning.returned l.definition.result env) js_meaning.returned (below (start is_mutable l.definition.params) k 1 l.its_body (sound-start is_mutable l.definition.params) (ahead-start is_mutable l.definition.params) (outside-start is_mutable l.definition.params (Own l.its_body) l.rules.once.fresh) (writes-nothing (λ y. ⊥) l.definition.result k (way l.definition.result)) (body-fine p.typing (p.has here.file) here.file m.class l.definition l.its_body l.rules) w inner s sc u ready same) (comes_back d p here l.definition.result k (way l.definition.result) (start is_mutable l.definition.params) scope w sc env))
         where
           inner : ir.Env
           inner = record { this_value = None; locals = h.locals; sure = sure_locals l.its_body }

@@ -31,7 +31,7 @@ use Rattle.agree_bodies.proofs.RulesGive.{no_division}
 use Rattle.agree_bodies.specs.Subtyping.{IsSubtyping}
 use Rattle.dispatch_laws.specs.Subtypes.{IsSub}
 
-module _ (p : Place) (ordered : IsSubtyping (IsSub p.classes)) (names : NamesDiffer p) (linked : (f : Name) (m : Member) → (p.has f).linked m ≡ true → Linked p m) (alone : CallsAlone p) where
+module _ (p : Place) (ordered : IsSubtyping (IsSub p.typing)) (names : NamesDiffer p) (linked : (f : Name) (m : Member) → (p.has f).linked m ≡ true → Linked p m) (alone : CallsAlone p) where
   -- a body in a file of the place, with what the levels of these bounds give
   abbrev within : Code → Direction → (List ℕ → Bool) → ℕ → ℕ → Setting
   within f d is_mutable n k = record { place = p; code = f; direction = d; is_mutable = is_mutable; low = ir_meaning.below p.classes n; js_low = js_meaning.below p.program k }

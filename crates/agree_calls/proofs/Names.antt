@@ -168,8 +168,8 @@ no_top (a_test t) = no_test t
 no_top (a_cast t) = no_cast t
 no_top (a_helper h) = no_letter (helper_name h) (helper-begins h)
 
-pub emitted_names_differ : (classes : ir_world.World) (program : js.Program) (home : Top → Name) (has : Name → Usable) (room : Room) → NamesDiffer (emitted_in classes program home has room)
-emitted_names_differ classes program home has room = record { variables = variables-differ; labels = labels-differ; tops = no_top }
+pub emitted_names_differ : (classes typing : ir_world.World) (program : js.Program) (home : Top → Name) (has : Name → Usable) (room : Room) → NamesDiffer (emitted_in classes typing program home has room)
+emitted_names_differ classes typing program home has room = record { variables = variables-differ; labels = labels-differ; tops = no_top }
 
 -- any binding but the variable of a static field
 abbrev pub is_static_variable : Top → Bool

@@ -60,6 +60,7 @@ use Rattle.sj_trees.specs.declared.types.IrType.{IrType}
 use Rattle.sj_trees.specs.declared.types.IrType.TheVariants.{Any, Boolean, Int, Array, NoType, Class}
 use Rattle.agree_bodies.proofs.Worlds.{World, SameValue, SameValues, value-fits}
 use Rattle.agree_bodies.proofs.Contexts.{Came}
+use Rattle.agree_bodies.proofs.InWorld.{in_world}
 use Rattle.agree_bodies.proofs.Main.{does}
 use Rattle.agree_bodies.proofs.Trees.{LowAlike}
 use Rattle.agree_bodies.specs.Subtyping.{IsSubtyping}
@@ -94,7 +95,7 @@ use Rattle.agree_calls.proofs.Setters.{sets_alike}
 use Rattle.agree_calls.proofs.Modules.{stores_alike, loading, loads_alike}
 use Rattle.agree_calls.proofs.Testing.{primitive, tests_alike}
 
-module _ (p : Place) (plain : IsPlain p.classes) (ordered : IsSubtyping (IsSub p.classes)) (names : NamesDiffer p) (has : HasObjects p) where
+module _ (p : Place) (plain : IsPlain p.classes) (ordered : IsSubtyping (IsSub p.typing)) (names : NamesDiffer p) (has : HasObjects p) where
   -- a body in a file of the place, with what the levels of these bounds give
   abbrev within : Code → Direction → (List ℕ → Bool) → ℕ → ℕ → Setting
   within f d is_mutable n k = record { place = p; code = f; direction = d; is_mutable = is_mutable; low = ir_meaning.below p.classes n; js_low = js_meaning.below p.program k }
@@ -131,7 +132,7 @@ module _ (p : Place) (plain : IsPlain p.classes) (ordered : IsSubtyping (IsSub p
 
   -- what a member may run on, its target may
   taken_by : (w : World) (m o : Member) (v : ir.Value) (x : js.Value) → IsTargetOf p.classes m o → IsReceiver w m.class v x → IsReceiver w o.class v x
-  taken_by w m o v x its this = record { stands = value-fits w (class_type o.class) (class_type m.class) v x (fits-sub p.classes ordered (class_type o.class) (class_type m.class) its.above (ap (λ b. b && not (is_char (class_type o.class))) (class-no-char m.class))) this.stands; there = this.there }
+  taken_by w m o v x its this = record { stands = value-fits w (class_type o.class) (class_type m.class) v x (fits-sub p.classes (in_world p.classes plain) (class_type o.class) (class_type m.class) its.above (ap (λ b. b && not (is_char (class_type o.class))) (class-no-char m.class))) this.stands; there = this.there }
 
   target_alike : (d : Direction) (n k : ℕ) → Level d n k → TargetsAlike p d (ir_meaning.below p.classes n) (js_meaning.below p.program k)
   target_alike d n k level m o its l w v x vs xs env s u this values same = subst (λ (g : MethodName). Sim d (Valued p w env (call_type g.result)) (ir_meaning.call (ir_meaning.below p.classes n) (ir_meaning.static_target p.classes m.class m.namespace m.method) (Some v) vs env s) (top_call p (js_meaning.below p.program k) (a_method o) (x ∷ xs) u)) its.method (receive_alike p names d (ir_meaning.below p.classes n) k o l (ir_meaning.static_target p.classes m.class m.namespace m.method) (its.runs l.definition l.its_body l.has_body l.found) (level (record { file = p.home (a_method o); owner = o.class; sure = sure_locals l.its_body }) l.reaches (is_mutable_in l.definition l.its_body)) w v x vs xs env s u (taken_by w m o v x its this) (subst (λ (g : MethodName). SameValues w (types_referred g.params) vs xs) (sym its.method) values) same)

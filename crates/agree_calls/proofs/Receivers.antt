@@ -128,7 +128,7 @@ module _ (p : Place) (names : NamesDiffer p) where
       js_is = ap (λ o. js_meaning.code_call js_low (p.home (a_method m)) o (x ∷ xs) u) l.emitted ∙ ap (λ o. then_do o js_meaning.returned) (in_turn l.definition.namespace bound_at)
 
       locals : Bound p w l.definition.params vs xs names_declared → Sim d (Valued p w env l.definition.result) (ir_meaning.body_call low l.definition.result (Some l.its_body) (Some v) (ir_meaning.parameters l.definition.params vs) env s) js_body
-      locals h = subst (λ o. Sim d (Valued p w env l.definition.result) (ir_meaning.body_call low l.definition.result (Some l.its_body) (Some v) o env s) js_body) (sym h.are) (subst (λ o. Sim d (Valued p w env l.definition.result) (then_do (low l.its_body inner s) (ir_meaning.returned l.definition.result env)) o) (sym (then_do-associative (js_low (text own) sc u) (behind l.definition.namespace bound_at) js_meaning.returned)) (sim_then d (Came p here (start is_mutable l.definition.params) scope k w sc) (Valued p w env l.definition.result) (low l.its_body inner s) (js_low (text own) sc u) (ir_meaning.returned l.definition.result env) (λ b. then_do (behind l.definition.namespace bound_at b) js_meaning.returned) (below (start is_mutable l.definition.params) k 1 l.its_body (sound-start is_mutable l.definition.params) (ahead-start is_mutable l.definition.params) (outside-start is_mutable l.definition.params (Own l.its_body) l.rules.once.fresh) (writes-nothing (λ y. ⊥) l.definition.result k (way l.definition.result)) (body-fine p.classes (p.has here.file) here.file m.class l.definition l.its_body l.rules) w inner s sc u ready same) (ends l.definition.namespace bound_at l.passes)))
+      locals h = subst (λ o. Sim d (Valued p w env l.definition.result) (ir_meaning.body_call low l.definition.result (Some l.its_body) (Some v) o env s) js_body) (sym h.are) (subst (λ o. Sim d (Valued p w env l.definition.result) (then_do (low l.its_body inner s) (ir_meaning.returned l.definition.result env)) o) (sym (then_do-associative (js_low (text own) sc u) (behind l.definition.namespace bound_at) js_meaning.returned)) (sim_then d (Came p here (start is_mutable l.definition.params) scope k w sc) (Valued p w env l.definition.result) (low l.its_body inner s) (js_low (text own) sc u) (ir_meaning.returned l.definition.result env) (λ b. then_do (behind l.definition.namespace bound_at b) js_meaning.returned) (below (start is_mutable l.definition.params) k 1 l.its_body (sound-start is_mutable l.definition.params) (ahead-start is_mutable l.definition.params) (outside-start is_mutable l.definition.params (Own l.its_body) l.rules.once.fresh) (writes-nothing (λ y. ⊥) l.definition.result k (way l.definition.result)) (body-fine p.typing (p.has here.file) here.file m.class l.definition l.its_body l.rules) w inner s sc u ready same) (ends l.definition.namespace bound_at l.passes)))
         where
           outer : Name → js.Cell
           outer = js_meaning.bind_parameters (parameters_in p (names_of l.definition.params)) xs names_declared
@@ -212,8 +212,8 @@ module _ (p : Place) (names : NamesDiffer p) where
           gone : result_destination l.definition.result ≡ discard
           gone = ap result_destination l.result_is
 
-          fine : Fine p.classes is_mutable (p.has here.file) here (parameters_of l.definition.params) no_labels discard l.its_body
-          fine = subst (λ k. Fine p.classes is_mutable (p.has here.file) here (parameters_of l.definition.params) no_labels k l.its_body) gone (body-fine p.classes (p.has here.file) here.file m.class l.definition l.its_body l.rules)
+          fine : Fine p.typing is_mutable (p.has here.file) here (parameters_of l.definition.params) no_labels discard l.its_body
+          fine = subst (λ k. Fine p.typing is_mutable (p.has here.file) here (parameters_of l.definition.params) no_labels k l.its_body) gone (body-fine p.typing (p.has here.file) here.file m.class l.definition l.its_body l.rules)
 
           came : Sim d (Came p here (start is_mutable l.definition.params) scope discard w sc) (low l.its_body inner s) (run z own sc u)
           came = subst (λ k. Sim d (Came p here (start is_mutable l.definition.params) scope discard w sc) (low l.its_body inner s) (run z (into is_mutable (sure_locals l.its_body) [] k 1 l.its_body).statements sc u)) (sym gone) (below (start is_mutable l.definition.params) discard 1 l.its_body (sound-start is_mutable l.definition.params) (ahead-start is_mutable l.definition.params) (outside-start is_mutable l.definition.params (Own l.its_body) l.rules.once.fresh) tt fine w inner s sc u ready same)

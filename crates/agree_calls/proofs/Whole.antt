@@ -191,9 +191,9 @@ module _ (p : Place) (f : Name) (reaches : Reaches p f) where
         next d n k es y others _ _ (thrown z v x s u g a same) = uncaught_alike p p.program d z v x s u same a.stands a.suits
 
 -- a file that calls initializers behind what it declares
-module _ (w : ir_world.World) (f : Name) (m : Module) (none : m.imports ≡ []) (usable : Usable) (room : Room) where
+module _ (w typing : ir_world.World) (f : Name) (m : Module) (none : m.imports ≡ []) (usable : Usable) (room : Room) where
   abbrev pub place_of : Place
-  place_of = emitted_in w (alone f m) (λ t. f) (λ g. usable) room
+  place_of = emitted_in w typing (alone f m) (λ t. f) (λ g. usable) room
 
   pub reaches : Reaches place_of f
   reaches t u = own_name f m (top_name t) none
@@ -250,7 +250,7 @@ no_heaps p = record {
   boxes = refl;
 }
 
-module _ (w : ir_world.World) (id : List ℕ) (fs : List EmittedMethod) (es : List EntryPoint) (linked_here : Member → Bool) where
+module _ (w typing : ir_world.World) (id : List ℕ) (fs : List EmittedMethod) (es : List EntryPoint) (linked_here : Member → Bool) where
   abbrev has : Usable
   has = members_alone linked_here
 
@@ -261,7 +261,7 @@ module _ (w : ir_world.World) (id : List ℕ) (fs : List EmittedMethod) (es : Li
   program = program_with id fs es
 
   abbrev place : Place
-  place = emitted_in w program (λ t. file) (λ f. has) no_room
+  place = emitted_in w typing program (λ t. file) (λ f. has) no_room
 
   parameters-are : (xs : List (List ℕ)) → parameter_names xs ≡ parameters_in place xs
   parameters-are [] = refl
@@ -270,7 +270,7 @@ module _ (w : ir_world.World) (id : List ℕ) (fs : List EmittedMethod) (es : Li
   pub code-is : (e : EmittedMethod) → code_with e ≡ function_of place file e.definition e.its_body
   code-is e = λ i. record { parameters = parameters-are (desugared e.definition e.its_body).params i; body = (code_with e).body }
 
-  linked_by : is_proper_module (module_with fs es) ≡ true → (e : EmittedMethod) → Contains fs e → IsEmitted w has e → Linked place e.member
+  linked_by : is_proper_module (module_with fs es) ≡ true → (e : EmittedMethod) → Contains fs e → IsEmitted w typing has e → Linked place e.member
   linked_by proper e listed h = record {
     definition = e.definition;
     its_body = e.its_body;
@@ -289,7 +289,7 @@ module _ (w : ir_world.World) (id : List ℕ) (fs : List EmittedMethod) (es : Li
       distinct : are_distinct (item_names (map function_item_of fs ++ map call_item_of es)) ≡ true
       distinct = (and_parts names true (and_parts (names && true) true (and_parts (names && true && true) (list_all is_proper_item (map function_item_of fs ++ map call_item_of es)) proper).0).0).0
 
-  module _ (plain : IsPlain w) (proper : is_proper_module (module_with fs es) ≡ true) (emitted : (e : EmittedMethod) → Contains fs e → IsEmitted w has e) (functions : (m : Member) → has.linked m ≡ true → HasFunction fs m) where
+  module _ (plain : IsPlain typing) (proper : is_proper_module (module_with fs es) ≡ true) (emitted : (e : EmittedMethod) → Contains fs e → IsEmitted w typing has e) (functions : (m : Member) → has.linked m ≡ true → HasFunction fs m) where
     linked : (m : Member) → has.linked m ≡ true → Linked place m
     linked m l = let h = functions m l in subst (Linked place) h.is (linked_by proper h.method h.listed (emitted h.method h.listed))
 
@@ -317,13 +317,13 @@ module _ (w : ir_world.World) (id : List ℕ) (fs : List EmittedMethod) (es : Li
     no_objects = record { received = λ f m. refl; looked = λ f c m. refl; reflected = λ f m. refl; built = λ f m. refl; made = λ f c. refl; field = λ f c g t. refl; static_field = λ f c g t. refl; static_setter = λ f c g t. refl; modules = λ f c. refl; stored = λ f c. refl; tests = λ f t. refl; casts = λ f t. refl; on_arrays = λ f m. refl; helper = λ f x. refl }
 
     names : NamesDiffer place
-    names = emitted_names_differ w program (λ t. file) (λ f. has) no_room
+    names = emitted_names_differ w typing program (λ t. file) (λ f. has) no_room
 
-    initializers_agree : InitializersAgree w file (module_with fs es) refl has no_room
-    initializers_agree e l y s u same = calls_agree place (in_world w plain) names (λ f m l. linked m l) no_objects file (initializer_member e) l y [] [] ir_showing.outside s u no_values same
+    initializers_agree : InitializersAgree w typing file (module_with fs es) refl has no_room
+    initializers_agree e l y s u same = calls_agree place (in_world typing plain) names (λ f m l. linked m l) no_objects file (initializer_member e) l y [] [] ir_showing.outside s u no_values same
 
     pub shows_alike : ((e : EntryPoint) → Contains es e → has.linked (initializer_member e) ≡ true) → (d : Direction) (n k : ℕ) → Enough place.room 0 d n k → Sim d ◌≡◌ (ir_showing.all_show w n es (ir_world.opening w)) (js_showing.js_shows program id k)
-    shows_alike all d n k h = file_alike w file (module_with fs es) refl has no_room initializers_agree proper es (nothing_made (box_link place ∷ [])) (js_meaning.opening program) (λ k. past_functions program k file fs (map call_item_of es) (js_meaning.opening program)) opening_same all d n k h
+    shows_alike all d n k h = file_alike w typing file (module_with fs es) refl has no_room initializers_agree proper es (nothing_made (box_link place ∷ [])) (js_meaning.opening program) (λ k. past_functions program k file fs (map call_item_of es) (js_meaning.opening program)) opening_same all d n k h
 
-pub file_agrees : (w : ir_world.World) → IsPlain w → (entries : List EntryPoint) (id : List ℕ) (fs : List EmittedMethod) (linked_here : Member → Bool) → is_proper_module (module_with fs (ir_showing.initializers entries id)) ≡ true → ((e : EmittedMethod) → Contains fs e → IsEmitted w (members_alone linked_here) e) → ((m : Member) → linked_here m ≡ true → HasFunction fs m) → ((e : EntryPoint) → Contains (ir_showing.initializers entries id) e → linked_here (initializer_member e) ≡ true) → ((n : ℕ) → IsNotWrong (ir_showing.ir_shows w entries id n).end) → Agree (ir_showing.ir_shows w entries id) (js_showing.js_shows (program_with id fs (ir_showing.initializers entries id)) id)
-file_agrees w plain entries id fs linked_here proper emitted functions all right = agree-from_sim no_room (ir_showing.ir_shows w entries id) (js_showing.js_shows (program_with id fs (ir_showing.initializers entries id)) id) (shows_alike w id fs (ir_showing.initializers entries id) linked_here plain proper emitted functions all) right
+pub file_agrees : (w typing : ir_world.World) → IsPlain typing → (entries : List EntryPoint) (id : List ℕ) (fs : List EmittedMethod) (linked_here : Member → Bool) → is_proper_module (module_with fs (ir_showing.initializers entries id)) ≡ true → ((e : EmittedMethod) → Contains fs e → IsEmitted w typing (members_alone linked_here) e) → ((m : Member) → linked_here m ≡ true → HasFunction fs m) → ((e : EntryPoint) → Contains (ir_showing.initializers entries id) e → linked_here (initializer_member e) ≡ true) → ((n : ℕ) → IsNotWrong (ir_showing.ir_shows w entries id n).end) → Agree (ir_showing.ir_shows w entries id) (js_showing.js_shows (program_with id fs (ir_showing.initializers entries id)) id)
+file_agrees w typing plain entries id fs linked_here proper emitted functions all right = agree-from_sim no_room (ir_showing.ir_shows w entries id) (js_showing.js_shows (program_with id fs (ir_showing.initializers entries id)) id) (shows_alike w typing id fs (ir_showing.initializers entries id) linked_here plain proper emitted functions all) right

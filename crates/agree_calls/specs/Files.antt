@@ -15,11 +15,11 @@ use Rattle.agree_bodies.specs.Once.{NamesOnce}
 abbrev pub program_with : List ℕ → List EmittedMethod → List EntryPoint → Program
 program_with id fs es = record { file = file_of id; content = Some (module_with fs es) } ∷ []
 
--- the method is that of its member in the classes, with the types that its name tells; its body keeps the rules, and its names are defined once
-pub record IsEmitted (w : World) (has : Usable) (e : EmittedMethod) : Type 0 where
+-- the method is that of its member in the classes, with the types that its name tells; its body keeps the rules by the second classes, and its names are defined once
+pub record IsEmitted (w typing : World) (has : Usable) (e : EmittedMethod) : Type 0 where
   pub found : member_of w e.member.class e.member.namespace e.member.method ≡ Some e.definition
   pub has_body : e.definition.body ≡ Some e.its_body
   pub parameters : HaveTypes e.definition.params e.member.method.params
   pub result_is : e.definition.result ≡ call_type e.member.method.result
-  pub rules : KeepsRules w has e.member.class e.definition e.its_body
+  pub rules : KeepsRules typing has e.member.class e.definition e.its_body
   pub names : NamesOnce e.definition e.its_body

@@ -42,7 +42,7 @@ pub record Linked (p : Place) (m : Member) : Type 0 where
   pub parameters : HaveTypes definition.params m.method.params
   pub result_is : definition.result ≡ call_type m.method.result
   pub emitted : js_meaning.code_of p.program (p.home (a_function m)) (member_name m) ≡ Some (function_of p (p.home (a_function m)) definition its_body)
-  pub rules : KeepsRules p.classes (p.has (p.home (a_function m))) m.class definition its_body
+  pub rules : KeepsRules p.typing (p.has (p.home (a_function m))) m.class definition its_body
   pub reaches : Reaches p (p.home (a_function m))
 
 -- a call of a member by the IR, and a call of its function, with a bound on what its body does

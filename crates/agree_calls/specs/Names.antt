@@ -7,5 +7,5 @@ use Rattle.dispatch_laws.specs.Names.{variable_name, label_name}
 use Rattle.agree_bodies.specs.Settings.{Place, Top}
 use Rattle.agree_bodies.specs.Built.{Usable}
 
-abbrev pub emitted_in : ir_world.World → js.Program → (Top → Name) → (Name → Usable) → Room → Place
-emitted_in classes program home has room = record { classes = classes; program = program; name = variable_name; label = label_name; home = home; has = has; room = room }
+abbrev pub emitted_in : ir_world.World → ir_world.World → js.Program → (Top → Name) → (Name → Usable) → Room → Place
+emitted_in classes typing program home has room = record { classes = classes; typing = typing; program = program; name = variable_name; label = label_name; home = home; has = has; room = room }

@@ -45,7 +45,7 @@ pub record RunsOn (p : Place) (m : Member) : Type 0 where
   pub result_is : definition.result ≡ call_type m.method.result
   pub emitted : js_meaning.code_of p.program (p.home (a_method m)) (member_name m) ≡ Some (function_on p (p.home (a_method m)) definition (completed definition.namespace (body_of definition its_body)))
   pub passes : PassesObject definition.namespace definition.result
-  pub rules : KeepsRules p.classes (p.has (p.home (a_method m))) m.class definition its_body
+  pub rules : KeepsRules p.typing (p.has (p.home (a_method m))) m.class definition its_body
   pub reaches : Reaches p (p.home (a_method m))
 
 -- a constructor: its body's value is given up
@@ -57,5 +57,5 @@ pub record Constructs (p : Place) (m : Member) : Type 0 where
   pub parameters : HaveTypes definition.params m.method.params
   pub result_is : definition.result ≡ NoType
   pub emitted : js_meaning.code_of p.program (p.home (a_constructor m)) (member_name m) ≡ Some (function_on p (p.home (a_constructor m)) definition (constructor_body definition its_body))
-  pub rules : KeepsRules p.classes (p.has (p.home (a_constructor m))) m.class definition its_body
+  pub rules : KeepsRules p.typing (p.has (p.home (a_constructor m))) m.class definition its_body
   pub reaches : Reaches p (p.home (a_constructor m))

@@ -43,17 +43,17 @@ ghost use Rattle.agree_bodies.specs.Built.{Usable, members_alone};
 
 /// The theorem on calls, for any names of variables and labels that differ and any files of functions: let each member that the code of a file can use
 /// be a method of the classes with the types that its name tells, whose body keeps the rules by what the code of its own file can use and reaches by name there, and whose emitted function
-/// stands in that file; let no code make objects or use them, let no class write a hijacked class, and let none stand above `java.lang.Object`. Then a call of such a member by the IR and a call of its function agree where the arguments, of the types that the name tells, and the states stand for each
+/// stands in that file; let no code make objects or use them; and among the classes by which bodies are typed, which may be any, let none write a hijacked class and none stand above `java.lang.Object`. Then a call of such a member by the IR and a call of its function agree where the arguments, of the types that the name tells, and the states stand for each
 /// other: what the one shows within a bound, the other shows within each bound that is enough for it by the room of the place, and with no room within each that isn't less.
 pub fn calls_agree()
-    ensures { (p : Place) → IsPlain p.classes → NamesDiffer p → ((f : Name) (m : Member) → (p.has f).linked m ≡ true → Linked p m) → CallsAlone p → (f : Name) (m : Member) → (p.has f).linked m ≡ true → (w : World) (vs : List ir.Value) (xs : List js.Value) (env : ir.Env) (s : ir.State) (u : js.State) → SameValues w (types_referred m.method.params) vs xs → SameState p w s u → CallsAgree p m w vs xs env s u }
+    ensures { (p : Place) → IsPlain p.typing → NamesDiffer p → ((f : Name) (m : Member) → (p.has f).linked m ≡ true → Linked p m) → CallsAlone p → (f : Name) (m : Member) → (p.has f).linked m ≡ true → (w : World) (vs : List ir.Value) (xs : List js.Value) (env : ir.Env) (s : ir.State) (u : js.State) → SameValues w (types_referred m.method.params) vs xs → SameState p w s u → CallsAgree p m w vs xs env s u }
 {}
 
-/// The same where code makes objects and uses them: let what the code of each file can use be there, each with the conditions that its kind asks for,
+/// The same where code makes objects and uses them, the classes of the IR being as those by which bodies are typed: let what the code of each file can use be there, each with the conditions that its kind asks for,
 /// and let a call have the units that a null check and the constructors of a chain take beyond those of the IR. Then a call of a static member by
 /// the IR and a call of its function agree: the objects that they make stand for each other, and so does what they answer, throw and print.
 pub fn calls_with_objects_agree()
-    ensures { (p : Place) → IsPlain p.classes → NamesDiffer p → HasObjects p → (f : Name) (m : Member) → (p.has f).linked m ≡ true → (w : World) (vs : List ir.Value) (xs : List js.Value) (env : ir.Env) (s : ir.State) (u : js.State) → SameValues w (types_referred m.method.params) vs xs → SameState p w s u → CallsAgree p m w vs xs env s u }
+    ensures { (p : Place) → IsPlain p.classes → IsPlain p.typing → NamesDiffer p → HasObjects p → (f : Name) (m : Member) → (p.has f).linked m ≡ true → (w : World) (vs : List ir.Value) (xs : List js.Value) (env : ir.Env) (s : ir.State) (u : js.State) → SameValues w (types_referred m.method.params) vs xs → SameState p w s u → CallsAgree p m w vs xs env s u }
 {}
 
 /// `new` of a class of the emitted code makes one object and nothing else: its properties are those that lead to the constants of the first class of the chain,
@@ -84,13 +84,13 @@ pub fn chars_become_objects()
 /// The names of the emitted code differ: no two variables have one name, whatever numbers a name is made of, no two labels, and no variable has
 /// the name of a function, a class or a helper.
 pub fn emitted_names_differ()
-    ensures { (classes : ir_world.World) (program : js.Program) (home : Top → Name) (has : Name → Usable) (room : Room) → NamesDiffer (emitted_in classes program home has room) }
+    ensures { (classes typing : ir_world.World) (program : js.Program) (home : Top → Name) (has : Name → Usable) (room : Room) → NamesDiffer (emitted_in classes typing program home has room) }
 {}
 
 /// The theorem on files: take a module that has the functions of these methods in this order and then calls the initializers of a public module,
-/// and that has no early error. Let each method be that of its member in the classes, with the types that its name tells and a body that keeps the rules, let no class write a hijacked class, let none stand above `java.lang.Object`, let each member that is
+/// and that has no early error. Let each method be that of its member in the classes, with the types that its name tells and a body that keeps the rules by classes of which none writes a hijacked class and none stands above `java.lang.Object`, these or any others, let each member that is
 /// called have one of the functions, and let the initializers be among them. Then the file shows of the public module what the classes show,
 /// unless the classes are wrong at some bound: what the one shows within any bound the other shows within some bound, and the other way round.
 pub fn file_of_functions_agrees()
-    ensures { (w : ir_world.World) → IsPlain w → (entries : List EntryPoint) (id : List ℕ) (fs : List EmittedMethod) (linked : Member → Bool) → is_proper_module (module_with fs (initializers entries id)) ≡ true → ((e : EmittedMethod) → Contains fs e → IsEmitted w (members_alone linked) e) → ((m : Member) → linked m ≡ true → HasFunction fs m) → ((e : EntryPoint) → Contains (initializers entries id) e → linked (initializer_member e) ≡ true) → ((n : ℕ) → IsNotWrong (ir_shows w entries id n).end) → Agree (ir_shows w entries id) (js_shows (program_with id fs (initializers entries id)) id) }
+    ensures { (w typing : ir_world.World) → IsPlain typing → (entries : List EntryPoint) (id : List ℕ) (fs : List EmittedMethod) (linked : Member → Bool) → is_proper_module (module_with fs (initializers entries id)) ≡ true → ((e : EmittedMethod) → Contains fs e → IsEmitted w typing (members_alone linked) e) → ((m : Member) → linked m ≡ true → HasFunction fs m) → ((e : EntryPoint) → Contains (initializers entries id) e → linked (initializer_member e) ≡ true) → ((n : ℕ) → IsNotWrong (ir_shows w entries id n).end) → Agree (ir_shows w entries id) (js_shows (program_with id fs (initializers entries id)) id) }
 {}

@@ -49,7 +49,7 @@ module _ (w : World) (fs : List EmittedMethod) (classes : (c : ClassDef) → Con
   types : HaveTypes e.definition.params e.definition.name.params × (e.definition.result ≡ call_type e.definition.name.result)
   types = signature-keeps its.owner judged.unbroken e.definition its.listed
 
-  pub accepted : IsAccepted w fs e
+  pub accepted : IsAccepted w w fs e
   accepted = record {
     owner = its.owner;
     unbroken = judged.unbroken;
@@ -67,4 +67,4 @@ pub judged_plain : (w : World) → ((c : ClassDef) → Contains w c → IsJudged
 judged_plain w classes = plain_world w (λ c i. keeps-superclass c (classes c i).unbroken) (λ c i. keeps-hijacked c (classes c i).unbroken)
 
 pub judged_agree : (w : World) (entries : List EntryPoint) (id : List ℕ) (fs : List EmittedMethod) → ((c : ClassDef) → Contains w c → IsJudgedClass c) → ((e : EmittedMethod) → Contains fs e → IsJudgedMethod w fs e) → HaveOwnMembers fs → have_functions fs (initializers entries id) ≡ true → Agree (ir_shows w entries id) (js_shows (program_with id fs (initializers entries id)) id)
-judged_agree w entries id fs classes methods own called = classes_agree w (judged_plain w classes) entries id fs (λ e i. accepted w fs classes e (methods e i)) own called
+judged_agree w entries id fs classes methods own called = classes_agree w w (judged_plain w classes) entries id fs (λ e i. accepted w fs classes e (methods e i)) own called

@@ -17,11 +17,11 @@ use Rattle.agree_classes.specs.Programs.{IsAccepted}
 use Rattle.agree_typing.proofs.Classes.{class-keeps, signature-keeps}
 use Rattle.agree_typing.proofs.Methods.{names_keep}
 
-module _ (w : World) (fs : List EmittedMethod) (e : EmittedMethod) (h : IsAccepted w fs e) where
+module _ (w typing : World) (fs : List EmittedMethod) (e : EmittedMethod) (h : IsAccepted w typing fs e) where
   types : HaveTypes e.definition.params e.definition.name.params × (e.definition.result ≡ call_type e.definition.name.result)
   types = signature-keeps h.owner h.unbroken e.definition h.listed
 
-  right : IsRight w fs e
+  right : IsRight w typing fs e
   right = record {
     found = h.found;
     has_body = h.has_body;
@@ -31,8 +31,8 @@ module _ (w : World) (fs : List EmittedMethod) (e : EmittedMethod) (h : IsAccept
     names = names_keep h.owner e.definition e.its_body h.has_body (class-keeps h.owner h.unbroken e.definition h.listed);
   }
 
-  pub whole : IsWhole w fs e
+  pub whole : IsWhole w typing fs e
   whole = record { right = right; class_name = h.class_name; method_name = h.method_name }
 
-pub classes_agree : (w : World) → IsPlain w → (entries : List EntryPoint) (id : List ℕ) (fs : List EmittedMethod) → ((e : EmittedMethod) → Contains fs e → IsAccepted w fs e) → HaveOwnMembers fs → have_functions fs (initializers entries id) ≡ true → Agree (ir_shows w entries id) (js_shows (program_with id fs (initializers entries id)) id)
-classes_agree w plain entries id fs all own called = linked_agrees w plain entries id fs (λ e i. whole w fs e (all e i)) own called
+pub classes_agree : (w typing : World) → IsPlain typing → (entries : List EntryPoint) (id : List ℕ) (fs : List EmittedMethod) → ((e : EmittedMethod) → Contains fs e → IsAccepted w typing fs e) → HaveOwnMembers fs → have_functions fs (initializers entries id) ≡ true → Agree (ir_shows w entries id) (js_shows (program_with id fs (initializers entries id)) id)
+classes_agree w typing plain entries id fs all own called = linked_agrees w typing plain entries id fs (λ e i. whole w typing fs e (all e i)) own called

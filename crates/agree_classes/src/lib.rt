@@ -26,11 +26,11 @@ ghost use Rattle.agree_classes.specs.Judged.{IsJudgedClass, IsJudgedMethod};
 ghost use Rattle.agree_classes.specs.Written.{items_with};
 
 /// The theorem on classes with bodies that keep the rules: take methods, no two of one member, each of a class that breaks none of the local rules, with a body that keeps
-/// the rules; let the initializers of a public module be among them, and let no class write a hijacked class or stand above `java.lang.Object`. Then the
+/// the rules by classes of which none writes a hijacked class and none stands above `java.lang.Object`, these or any others; and let the initializers of a public module be among them. Then the
 /// file that has their functions in this order and behind them the calls of the initializers shows of the public module what the classes
 /// show: what the one shows within any bound the other shows within some bound, and the other way round, and neither is wrong at any bound.
 pub fn typed_classes_agree()
-    ensures { (w : World) → IsPlain w → (entries : List EntryPoint) (id : List ℕ) (fs : List EmittedMethod) → ((e : EmittedMethod) → Contains fs e → IsAccepted w fs e) → HaveOwnMembers fs → have_functions fs (initializers entries id) ≡ true → Agree (ir_shows w entries id) (js_shows (program_with id fs (initializers entries id)) id) }
+    ensures { (w typing : World) → IsPlain typing → (entries : List EntryPoint) (id : List ℕ) (fs : List EmittedMethod) → ((e : EmittedMethod) → Contains fs e → IsAccepted w typing fs e) → HaveOwnMembers fs → have_functions fs (initializers entries id) ≡ true → Agree (ir_shows w entries id) (js_shows (program_with id fs (initializers entries id)) id) }
 {}
 
 /// Take classes that were read from files and break none of the local rules, and methods of theirs, no two of one member and the initializers of a

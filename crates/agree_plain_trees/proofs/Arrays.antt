@@ -65,7 +65,7 @@ abbrev pub each_stood : (t : IrType) (owns : List IrType) → TakeEach t owns �
 each_stood t [] h = []
 each_stood t (own ∷ owns) h = stood t own h.0 ∷ each_stood t owns h.1
 
-pub stand-for-each : (z : Setting) → Lawful z → (ts : Terms) (t : IrType) → may_make (usable z) (any_item_boxed t ts) ≡ true → AllFit z.place.classes ts t → StandForEach z t (types_of ts)
+pub stand-for-each : (z : Setting) → Lawful z → (ts : Terms) (t : IrType) → may_make (usable z) (any_item_boxed t ts) ≡ true → AllFit z.place.typing ts t → StandForEach z t (types_of ts)
 stand-for-each z lawful no_terms t may h = (tt, tt)
 stand-for-each z lawful (more_terms e ts) t may h = let parts = each_made (usable z) (is_boxed t e) (any_item_boxed t ts) may in let own = stands-for z lawful t (type_of_term e) h.0 parts.0 in let others = stand-for-each z lawful ts t parts.1 h.1 in ((own.0, others.0), (own.1, others.1))
 

@@ -203,10 +203,10 @@ module _ (z : Setting) (lawful : Lawful z) where
   pub may-box : (expected own : IrType) → MayStand (usable z) expected own → MayBox z expected own
   may-box expected own may char = let has = boxes_it_has (can_box (usable z)) (is_char own && not (is_char expected)) may char in (has, lawful.boxes has)
 
-  pub stands-for : (expected own : IrType) → IsSub z.place.classes own expected → MayStand (usable z) expected own → StandsFor z expected own
-  stands-for expected own f may = (takes-below z.place.classes lawful.base.ordered expected own f, may-box expected own may)
+  pub stands-for : (expected own : IrType) → IsSub z.place.typing own expected → MayStand (usable z) expected own → StandsFor z expected own
+  stands-for expected own f may = (takes-below z.place.typing lawful.base.ordered expected own f, may-box expected own may)
 
-  pub stand-for-all : (ts : Terms) (rs : List TypeRef) → ArgumentsFit z.place.classes (usable z) ts rs → StandForAll z (types_referred rs) (types_of ts)
+  pub stand-for-all : (ts : Terms) (rs : List TypeRef) → ArgumentsFit z.place.typing (usable z) ts rs → StandForAll z (types_referred rs) (types_of ts)
   stand-for-all no_terms [] h = (tt, tt)
   stand-for-all no_terms (r ∷ rs) h = absurd h
   stand-for-all (more_terms t ts) [] h = absurd h

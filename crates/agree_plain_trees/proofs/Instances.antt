@@ -30,21 +30,21 @@ module _ (z : Setting) (lawful : Lawful z) (scene : Scene) (e : Term) (m : Metho
     pub takes : (r : ir.Run) → ir_meaning.taking z.place.classes (ir_meaning.class_looked_up (type_of_term e) m.result) r ≡ as_instances z class r
     pub runs : ir_meaning.call_method z.place.classes z.low (type_of_term e) m m.result ≡ ir_meaning.call_instance z.place.classes z.low class m
     pub checked : may_check (usable z) scene.sure e ≡ true
-    pub below : IsSub z.place.classes (type_of_term e) (class_type class)
+    pub below : IsSub z.place.typing (type_of_term e) (class_type class)
     pub on : StandsFor z (class_type class) (type_of_term e)
     pub way : Way z lawful class m free (stood (class_type class) (type_of_term e) on.0)
     pub called : callee_of (type_of_term e) m ≡ way.callee
 
-  pub by_class : (d : ByLookup z.place.classes (usable z) scene e m) → MayStand (usable z) (class_type d.is.lookup.class) (type_of_term e) → OnInstances
+  pub by_class : (d : ByLookup z.place.typing (usable z) scene e m) → MayStand (usable z) (class_type d.is.lookup.class) (type_of_term e) → OnInstances
   by_class d may =
       let l = d.is.lookup in
-      let on = stands-for z lawful (class_type l.class) (type_of_term e) (l.below z.place.classes) may in record {
+      let on = stands-for z lawful (class_type l.class) (type_of_term e) (l.below z.place.typing) may in record {
         class = l.class;
         free = l.free;
         takes = takes_instances z.place.classes (type_of_term e) m l.class l.receiver l.free d.is.result d.is.named;
         runs = calls_instance z.place.classes (type_of_term e) m l.class l.receiver l.free d.is.result d.is.named z.low;
         checked = d.checked;
-        below = l.below z.place.classes;
+        below = l.below z.place.typing;
         on = on;
         way = by_lookup z lawful l.class m l.free l.there (stood (class_type l.class) (type_of_term e) on.0);
         called = d.is.callee;
@@ -53,7 +53,7 @@ module _ (z : Setting) (lawful : Lawful z) (scene : Scene) (e : Term) (m : Metho
   abbrev array_stands : (own : IrType) (r : ArrayRef) → own ≡ Array r → StandsFor z Any own
   array_stands own r is = (inl (subst (Fits Any) (sym is) refl), subst (λ t. MayBox z Any t) (sym is) (λ h. impossible h))
 
-  pub by_array : OnArray z.place.classes (usable z) scene e m → OnInstances
+  pub by_array : OnArray z.place.typing (usable z) scene e m → OnInstances
   by_array d = record {
     class = object;
     free = refl;

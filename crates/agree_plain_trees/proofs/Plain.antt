@@ -309,11 +309,11 @@ module _ (z : Setting) (lawful : Lawful z) (scope : Scope) where
   in_front _ _ _ w env sc ts rs es (more_operands t r e _ _ _ told one no_operands) others = more_operands t r e ts rs es told one others
 
   module _ (scene : Scene) (seen : InScope scene scope) (surely : scene.sure ≡ z.code.sure) (owned : scene.owner ≡ z.code.owner) where
-    abbrev law : IsSubtyping (IsSub z.place.classes)
+    abbrev law : IsSubtyping (IsSub z.place.typing)
     law = lawful.base.ordered
 
     abbrev Kept : Term → Type 0
-    Kept t = Typed z.place.classes (usable z) scene t
+    Kept t = Typed z.place.typing (usable z) scene t
 
     -- objects that hold chars can be made, or none is
     abbrev Makes : Bool → Type 0
@@ -322,11 +322,11 @@ module _ (z : Setting) (lawful : Lawful z) (scope : Scope) where
     abbrev IsValue : Term → Type 0
     IsValue t = is_no_type (type_of_term t) ≡ false
 
-    value_yielded : (e : Term) (t : IrType) → is_no_type t ≡ false → Yields z.place.classes e t → IsValue e
+    value_yielded : (e : Term) (t : IrType) → is_no_type t ≡ false → Yields z.place.typing e t → IsValue e
     value_yielded e t n (nothing_wanted i) = impossible (sym n ∙ ap is_no_type i)
-    value_yielded e t n (fitting f) = value_below z.place.classes law (type_of_term e) t f n
+    value_yielded e t n (fitting f) = value_below z.place.typing law (type_of_term e) t f n
 
-    yielded_stands : (e : Term) (t : IrType) → is_no_type t ≡ false → Makes (is_boxed t e) → Yields z.place.classes e t → StandsFor z t (type_of_term e)
+    yielded_stands : (e : Term) (t : IrType) → is_no_type t ≡ false → Makes (is_boxed t e) → Yields z.place.typing e t → StandsFor z t (type_of_term e)
     yielded_stands e t n may (nothing_wanted i) = impossible (sym n ∙ ap is_no_type i)
     yielded_stands e t n may (fitting f) = stands-for z lawful t (type_of_term e) f may
 
@@ -341,7 +341,7 @@ module _ (z : Setting) (lawful : Lawful z) (scope : Scope) where
 
     call_tree : (p : Position) (c : List ℕ) (n : Namespace) (m : MethodName) (ts : Terms) (t : IrType) → Kept (apply_static p c n m ts t) → Makes (any_is_boxed m.params ts) → RowAlike ts → TreeAlike (apply_static p c n m ts t)
     call_tree p c n m ts t h may operands = record {
-      alike = λ w env s sc u sees same. call_plain p (member c n m) ts t h.0.meets.1 h.0.built (stand-for-all z lawful ts m.params (arguments_there z.place.classes (usable z) ts m.params may h.0.finds h.0.meets.2)) w env s sc u sees (operands w env sc sees) same;
+      alike = λ w env s sc u sees same. call_plain p (member c n m) ts t h.0.meets.1 h.0.built (stand-for-all z lawful ts m.params (arguments_there z.place.typing (usable z) ts m.params may h.0.finds h.0.meets.2)) w env s sc u sees (operands w env sc sees) same;
       told = refl;
     }
 
@@ -365,13 +365,13 @@ module _ (z : Setting) (lawful : Lawful z) (scope : Scope) where
         its = and_parts ((usable z).made c) ((usable z).built (member c Constructor m)) h.0.built
 
         fit : StandForAll z (types_referred m.params) (types_of ts)
-        fit = stand-for-all z lawful ts m.params (arguments_there z.place.classes (usable z) ts m.params may h.0.finds h.0.meets.1)
+        fit = stand-for-all z lawful ts m.params (arguments_there z.place.typing (usable z) ts m.params may h.0.finds h.0.meets.1)
 
     -- a receiver as it is coerced
     receiver_stood : (c : List ℕ) (own : IrType) (h : StandsFor z (class_type c) own) (r : ir.Run) (e : core.Expression) (w : World) (env : ir.Env) (sc : js.Scope) → Inside z.place z.code sc → OperandsAlike z w env sc (own ∷ []) (r ∷ []) (e ∷ []) → OperandsAlike z w env sc (stood (class_type c) own h.0 ∷ []) (r ∷ []) (coerced (class_type c) own e ∷ [])
     receiver_stood c own h r e w env sc inside operand = operand_stood z lawful.base w env sc inside (class_type c) own h.0 h.1 r e operand
 
-    receive_tree : (p : Position) (e : Term) (c : List ℕ) (n : Namespace) (m : MethodName) (ts : Terms) (t : IrType) → Received z.place.classes (usable z) (may_check (usable z) scene.sure) e c n m ts → Kept (apply_statically p e c n m ts t) → TreeAlike e → RowAlike ts → TreeAlike (apply_statically p e c n m ts t)
+    receive_tree : (p : Position) (e : Term) (c : List ℕ) (n : Namespace) (m : MethodName) (ts : Terms) (t : IrType) → Received z.place.typing (usable z) (may_check (usable z) scene.sure) e c n m ts → Kept (apply_statically p e c n m ts t) → TreeAlike e → RowAlike ts → TreeAlike (apply_statically p e c n m ts t)
     receive_tree p e c n m ts t its h one operands = record {
       alike = λ w env s sc u sees same. by_equal w env t _ _ _ _ refl (λ i. shown z (core.receiver_call (callees.Member (member c n m)) (receiver-coerced c (type_of_term e) (received_text (is_sure z.code.sure e) (expression_of z.code.sure e)) i) (expressions_of (coerced_arguments m.params (types_of ts) (all_expressions z.code.sure ts)))) sc u) (subst (λ k. Sim z.direction (Valued z.place w env k) (ir_meaning.step z.place.classes z.low (apply_statically p e c n m ts t) env s) (shown z (core.receiver_call (callees.Member (member c n m)) (coerced (class_type c) (type_of_term e) (received_text (is_sure z.code.sure e) (expression_of z.code.sure e))) (expressions_of (coerced_arguments m.params (types_of ts) (all_expressions z.code.sure ts)))) sc u)) (sym h.0.meets.1) (received_call_alike z lawful.base (member c n m) (stood (class_type c) (type_of_term e) on.0) (all_stood (types_referred m.params) (types_of ts) fit.0) (ir_meaning.receiving z.place.classes (is_sure env.sure e) z.low (ir_meaning.step z.place.classes z.low e)) (ir_meaning.operands z.place.classes z.low ts) (coerced (class_type c) (type_of_term e) (received_text (is_sure z.code.sure e) (expression_of z.code.sure e))) (coerced_arguments m.params (types_of ts) (all_expressions z.code.sure ts)) its.there (stood-fits (class_type c) (type_of_term e) on.0) (all-stood-fit (types_referred m.params) (types_of ts) fit.0) w env s sc u sees.inside (in_front _ _ _ w env sc _ _ _ (receiver_stood c (type_of_term e) on _ _ w env sc sees.inside (receiver_alike e one its.may_be w env sc sees)) (passed m.params ts fit w env sc sees.inside (operands w env sc sees))) same));
       told = refl;
@@ -391,22 +391,22 @@ module _ (z : Setting) (lawful : Lawful z) (scope : Scope) where
 
     -- both operands of an operator, where it takes them, have values
     operation_tree : (p : Position) (o : BinaryOp) (e d : Term) → Kept (binary_op p o e d) → Makes (operands_are_boxed o e d) → (IsValue e → TreeAlike e) → (IsValue d → TreeAlike d) → TreeAlike (binary_op p o e d)
-    operation_tree p o e d h may one other = ⊎_elim (λ takes. binary_tree p o e d (operates z.place.classes law (usable z) o e d may takes) (one (left_value takes)) (other (right_value takes))) (λ divides. division_tree p o e d divides.0 (fits-dividend z.place.classes law o d (type_of_term e) divides.0 divides.1) (one (value_below z.place.classes law (type_of_term e) (left_operand o) divides.1 (value_none (left_operand o) (left-operand-value o))))) (operation z.place.classes (usable z) scene o e d h.0.built h.2 h.0.meets)
+    operation_tree p o e d h may one other = ⊎_elim (λ takes. binary_tree p o e d (operates z.place.typing law (usable z) o e d may takes) (one (left_value takes)) (other (right_value takes))) (λ divides. division_tree p o e d divides.0 (fits-dividend z.place.typing law o d (type_of_term e) divides.0 divides.1) (one (value_below z.place.typing law (type_of_term e) (left_operand o) divides.1 (value_none (left_operand o) (left-operand-value o))))) (operation z.place.typing (usable z) scene o e d h.0.built h.2 h.0.meets)
       where
-        left_value : Takes z.place.classes (usable z) o e d → IsValue e
-        left_value (its_types simple f g) = value_below z.place.classes law (type_of_term e) (left_operand o) f (value_none (left_operand o) (left-operand-value o))
-        left_value (of_division is f g) = value_below z.place.classes law (type_of_term e) (left_operand o) f (value_none (left_operand o) (left-operand-value o))
-        left_value (of_identity i is f g) = value_below z.place.classes law (type_of_term e) (left_operand o) f (value_none (left_operand o) (left-operand-value o))
+        left_value : Takes z.place.typing (usable z) o e d → IsValue e
+        left_value (its_types simple f g) = value_below z.place.typing law (type_of_term e) (left_operand o) f (value_none (left_operand o) (left-operand-value o))
+        left_value (of_division is f g) = value_below z.place.typing law (type_of_term e) (left_operand o) f (value_none (left_operand o) (left-operand-value o))
+        left_value (of_identity i is f g) = value_below z.place.typing law (type_of_term e) (left_operand o) f (value_none (left_operand o) (left-operand-value o))
         left_value (texts is f g) = not_none (type_of_term e) (not_no_type (type_of_term e) f)
 
-        right_value : Takes z.place.classes (usable z) o e d → IsValue d
-        right_value (its_types simple f g) = value_below z.place.classes law (type_of_term d) (right_operand o) g (value_none (right_operand o) (right-operand-value o))
-        right_value (of_division is f g) = value_below z.place.classes law (type_of_term d) (right_operand o) g (value_none (right_operand o) (right-operand-value o))
-        right_value (of_identity i is f g) = value_below z.place.classes law (type_of_term d) (right_operand o) g (value_none (right_operand o) (right-operand-value o))
+        right_value : Takes z.place.typing (usable z) o e d → IsValue d
+        right_value (its_types simple f g) = value_below z.place.typing law (type_of_term d) (right_operand o) g (value_none (right_operand o) (right-operand-value o))
+        right_value (of_division is f g) = value_below z.place.typing law (type_of_term d) (right_operand o) g (value_none (right_operand o) (right-operand-value o))
+        right_value (of_identity i is f g) = value_below z.place.typing law (type_of_term d) (right_operand o) g (value_none (right_operand o) (right-operand-value o))
         right_value (texts is f g) = not_none (type_of_term d) (not_no_type (type_of_term d) g)
 
     -- the operand of a test or a cast, as it is coerced
-    standing_any : (e : Term) → Makes (is_boxed Any e) → IsSub z.place.classes (type_of_term e) Any → StandsFor z Any (type_of_term e)
+    standing_any : (e : Term) → Makes (is_boxed Any e) → IsSub z.place.typing (type_of_term e) Any → StandsFor z Any (type_of_term e)
     standing_any e may f = stands-for z lawful Any (type_of_term e) f may
 
     brought : (e : Term) (f : StandsFor z Any (type_of_term e)) → TreeAlike e → (w : World) (env : ir.Env) (sc : js.Scope) → Sees z.place z.code scope w env sc → OperandsAlike z w env sc (stood Any (type_of_term e) f.0 ∷ []) (ir_meaning.step z.place.classes z.low e ∷ []) (coerced Any (type_of_term e) (expression_of z.code.sure e) ∷ [])
@@ -433,7 +433,7 @@ module _ (z : Setting) (lawful : Lawful z) (scope : Scope) where
     -- arrays
     new_array_tree : (p : Position) (r : ArrayRef) (e : Term) → Kept (new_array p r e) → TreeAlike e → TreeAlike (new_array p r e)
     new_array_tree p r e h one = record {
-      alike = λ w env s sc u sees same. new_array_alike z lawful r h.0.finds whole.0 its.0 its.1 (type_of_term e) (fits-lowest z.place.classes law Int (type_of_term e) refl h.0.meets) (ir_meaning.step z.place.classes z.low e) (expression_of z.code.sure e) w env s sc u sees.inside (with_tree e one w env sc sees [] [] [] no_operands) same;
+      alike = λ w env s sc u sees same. new_array_alike z lawful r h.0.finds whole.0 its.0 its.1 (type_of_term e) (fits-lowest z.place.typing law Int (type_of_term e) refl h.0.meets) (ir_meaning.step z.place.classes z.low e) (expression_of z.code.sure e) w env s sc u sees.inside (with_tree e one w env sc sees [] [] [] no_operands) same;
       told = refl;
     }
       where
@@ -469,7 +469,7 @@ module _ (z : Setting) (lawful : Lawful z) (scope : Scope) where
 
     item_tree : (p : Position) (e i : Term) (t : IrType) → Kept (array_select p e i t) → TreeAlike e → TreeAlike i → TreeAlike (array_select p e i t)
     item_tree p e i t h one other = record {
-      alike = λ w env s sc u sees same. subst (λ k. Sim z.direction (Valued z.place w env k) (ir_meaning.in_order (ir_meaning.receiving z.place.classes (is_sure env.sure e) z.low (ir_meaning.step z.place.classes z.low e) ∷ ir_meaning.step z.place.classes z.low i ∷ []) (ir_meaning.select_item z.place.classes z.low) env s) (shown z (core.element_of (received_text (is_sure z.code.sure e) (expression_of z.code.sure e)) (expression_of z.code.sure i)) sc u)) its.element (item_alike z lawful its.reference its.dimensions built.0 (type_of_term e) (type_of_term i) its.fits (fits-lowest z.place.classes law Int (type_of_term i) refl h.0.meets.1) (ir_meaning.receiving z.place.classes (is_sure env.sure e) z.low (ir_meaning.step z.place.classes z.low e)) (ir_meaning.step z.place.classes z.low i) (received_text (is_sure z.code.sure e) (expression_of z.code.sure e)) (expression_of z.code.sure i) w env s sc u sees.inside (in_front (receiver_alike e one built.1 w env sc sees) (with_tree i other w env sc sees [] [] [] no_operands)) same);
+      alike = λ w env s sc u sees same. subst (λ k. Sim z.direction (Valued z.place w env k) (ir_meaning.in_order (ir_meaning.receiving z.place.classes (is_sure env.sure e) z.low (ir_meaning.step z.place.classes z.low e) ∷ ir_meaning.step z.place.classes z.low i ∷ []) (ir_meaning.select_item z.place.classes z.low) env s) (shown z (core.element_of (received_text (is_sure z.code.sure e) (expression_of z.code.sure e)) (expression_of z.code.sure i)) sc u)) its.element (item_alike z lawful its.reference its.dimensions built.0 (type_of_term e) (type_of_term i) its.fits (fits-lowest z.place.typing law Int (type_of_term i) refl h.0.meets.1) (ir_meaning.receiving z.place.classes (is_sure env.sure e) z.low (ir_meaning.step z.place.classes z.low e)) (ir_meaning.step z.place.classes z.low i) (received_text (is_sure z.code.sure e) (expression_of z.code.sure e)) (expression_of z.code.sure i) w env s sc u sees.inside (in_front (receiver_alike e one built.1 w env sc sees) (with_tree i other w env sc sees [] [] [] no_operands)) same);
       told = refl;
     }
       where
@@ -483,14 +483,14 @@ module _ (z : Setting) (lawful : Lawful z) (scope : Scope) where
         in_front (more_operands own q x _ _ _ told one no_operands) others = more_operands own q x _ _ _ told one others
 
     -- a call on a receiver: of a private or a public member, or of a constructor with a value
-    receiving_tree : (p : Position) (e : Term) (c : List ℕ) (n : Namespace) (m : MethodName) (ts : Terms) (t : IrType) → Kept (apply_statically p e c n m ts t) → Makes (is_boxed Any e || any_is_boxed m.params ts) → IsNoConstruction (apply_statically p e c n m ts t) → TreeAlike e → (ArgumentsFit z.place.classes (usable z) ts m.params → RowAlike ts) → TreeAlike (apply_statically p e c n m ts t)
-    receiving_tree p e c Private m ts t h may v one others = let its = received z.place.classes (usable z) (may_check (usable z) scene.sure) e c Private m ts h.0.built may h.0.finds h.0.meets.2 h.0.meets.3 in receive_tree p e c Private m ts t its h one (others its.arguments)
-    receiving_tree p e c Public m ts t h may v one others = let its = received z.place.classes (usable z) (may_check (usable z) scene.sure) e c Public m ts h.0.built may h.0.finds h.0.meets.2 h.0.meets.3 in receive_tree p e c Public m ts t its h one (others its.arguments)
-    receiving_tree p e c Constructor m ts t h may v one others = let its = received z.place.classes (usable z) (may_check (usable z) scene.sure) e c Constructor m ts (with_value (usable z) c m t (may_check (usable z) scene.sure e) v h.0.built) may h.0.finds h.0.meets.2 h.0.meets.3 in receive_tree p e c Constructor m ts t its h one (others its.arguments)
+    receiving_tree : (p : Position) (e : Term) (c : List ℕ) (n : Namespace) (m : MethodName) (ts : Terms) (t : IrType) → Kept (apply_statically p e c n m ts t) → Makes (is_boxed Any e || any_is_boxed m.params ts) → IsNoConstruction (apply_statically p e c n m ts t) → TreeAlike e → (ArgumentsFit z.place.typing (usable z) ts m.params → RowAlike ts) → TreeAlike (apply_statically p e c n m ts t)
+    receiving_tree p e c Private m ts t h may v one others = let its = received z.place.typing (usable z) (may_check (usable z) scene.sure) e c Private m ts h.0.built may h.0.finds h.0.meets.2 h.0.meets.3 in receive_tree p e c Private m ts t its h one (others its.arguments)
+    receiving_tree p e c Public m ts t h may v one others = let its = received z.place.typing (usable z) (may_check (usable z) scene.sure) e c Public m ts h.0.built may h.0.finds h.0.meets.2 h.0.meets.3 in receive_tree p e c Public m ts t its h one (others its.arguments)
+    receiving_tree p e c Constructor m ts t h may v one others = let its = received z.place.typing (usable z) (may_check (usable z) scene.sure) e c Constructor m ts (with_value (usable z) c m t (may_check (usable z) scene.sure e) v h.0.built) may h.0.finds h.0.meets.2 h.0.meets.3 in receive_tree p e c Constructor m ts t its h one (others its.arguments)
     receiving_tree p e c n m ts t h may v one others = impossible h.0.built
 
     -- a call that is looked up, on a receiver of a hijacked class: what the member does that this class runs, and its text
-    applied_tree : (p : Position) (e : Term) (m : MethodName) (ts : Terms) (t : IrType) → (d : Direct z.place.classes (usable z) scene p e m ts t) → TreeAlike (apply_statically p e d.is.direct.class Public m ts t) → TreeAlike (apply p e m ts t)
+    applied_tree : (p : Position) (e : Term) (m : MethodName) (ts : Terms) (t : IrType) → (d : Direct z.place.typing (usable z) scene p e m ts t) → TreeAlike (apply_statically p e d.is.direct.class Public m ts t) → TreeAlike (apply p e m ts t)
     applied_tree p e m ts t d one = record {
       alike = λ w env s sc u sees same. by_equal w env t _ _ _ _ ((λ i. ir_meaning.in_order (takes env i ∷ ir_meaning.operands z.place.classes z.low ts) (ir_meaning.call_method z.place.classes z.low (type_of_term e) m m.result) env s) ∙ (λ i. ir_meaning.in_order (ir_meaning.receiving z.place.classes (is_sure env.sure e) z.low (ir_meaning.step z.place.classes z.low e) ∷ ir_meaning.operands z.place.classes z.low ts) (runs i) env s)) (λ i. shown z (written i) sc u) (one.alike w env s sc u sees same);
       told = subst (λ x. tells t (expression_template z.place.name z.place.label (usable z).lookup x) ≡ true) (sym written) one.told;
@@ -506,7 +506,7 @@ module _ (z : Setting) (lawful : Lawful z) (scope : Scope) where
         written = ap (λ k. core.receiver_call k (coerced_receiver (type_of_term e) (received_text (is_sure z.code.sure e) (expression_of z.code.sure e))) (expressions_of (coerced_arguments m.params (types_of ts) (all_expressions z.code.sure ts)))) d.is.callee
 
     -- a call on an instance of a class
-    instance_tree : (p : Position) (e : Term) (m : MethodName) (ts : Terms) (t : IrType) → OnInstances z lawful scene e m → t ≡ call_type m.result → ArgumentsFit z.place.classes (usable z) ts m.params → TreeAlike e → (ArgumentsFit z.place.classes (usable z) ts m.params → RowAlike ts) → TreeAlike (apply p e m ts t)
+    instance_tree : (p : Position) (e : Term) (m : MethodName) (ts : Terms) (t : IrType) → OnInstances z lawful scene e m → t ≡ call_type m.result → ArgumentsFit z.place.typing (usable z) ts m.params → TreeAlike e → (ArgumentsFit z.place.typing (usable z) ts m.params → RowAlike ts) → TreeAlike (apply p e m ts t)
     instance_tree p e m ts t d result may one others = record {
       alike = λ w env s sc u sees same. by_equal w env t _ _ _ _ ((λ i. ir_meaning.in_order (d.takes (received env) i ∷ ir_meaning.operands z.place.classes z.low ts) (ir_meaning.call_method z.place.classes z.low (type_of_term e) m m.result) env s) ∙ (λ i. ir_meaning.in_order (as_instances z d.class (received env) ∷ ir_meaning.operands z.place.classes z.low ts) (d.runs i) env s)) (λ i. shown z (written i) sc u) (subst (λ k. Sim z.direction (Valued z.place w env k) (ir_meaning.in_order (as_instances z d.class (received env) ∷ ir_meaning.operands z.place.classes z.low ts) (ir_meaning.call_instance z.place.classes z.low d.class m) env s) (shown z (core.receiver_call d.way.callee (coerced (class_type d.class) (type_of_term e) receiver) (expressions_of (coerced_arguments m.params (types_of ts) (all_expressions z.code.sure ts)))) sc u)) (sym result) (looked_call_alike z lawful d.class m d.free (stood (class_type d.class) (type_of_term e) d.on.0) d.way (all_stood (types_referred m.params) (types_of ts) fit.0) (received env) (ir_meaning.operands z.place.classes z.low ts) (coerced (class_type d.class) (type_of_term e) receiver) (coerced_arguments m.params (types_of ts) (all_expressions z.code.sure ts)) (stood-fits (class_type d.class) (type_of_term e) d.on.0) (all-stood-fit (types_referred m.params) (types_of ts) fit.0) w env s sc u sees.inside (in_front _ _ _ w env sc _ _ _ (receiver_stood d.class (type_of_term e) d.on _ _ w env sc sees.inside (receiver_alike e one d.checked w env sc sees)) (passed m.params ts fit w env sc sees.inside (others may w env sc sees))) same));
       told = subst (λ x. tells t (expression_template z.place.name z.place.label (usable z).lookup x) ≡ true) (sym written) (d.way.told t (coerced (class_type d.class) (type_of_term e) receiver) (expressions_of (coerced_arguments m.params (types_of ts) (all_expressions z.code.sure ts))));
@@ -525,7 +525,7 @@ module _ (z : Setting) (lawful : Lawful z) (scope : Scope) where
         written = ap (λ k. core.receiver_call k (coerced_receiver (type_of_term e) receiver) (expressions_of (coerced_arguments m.params (types_of ts) (all_expressions z.code.sure ts)))) d.called ∙ ap (λ x. core.receiver_call d.way.callee x (expressions_of (coerced_arguments m.params (types_of ts) (all_expressions z.code.sure ts)))) (receiver-coerced d.class (type_of_term e) receiver)
 
     -- a call by a reflective name
-    named_tree : (p : Position) (e : Term) (m : MethodName) (ts : Terms) (t : IrType) (d : ByName z.place.classes (usable z) scene e m) → t ≡ call_type m.result → MayStand (usable z) (class_type object) (type_of_term e) × ArgumentsFit z.place.classes (usable z) ts m.params → TreeAlike e → (ArgumentsFit z.place.classes (usable z) ts m.params → RowAlike ts) → TreeAlike (apply p e m ts t)
+    named_tree : (p : Position) (e : Term) (m : MethodName) (ts : Terms) (t : IrType) (d : ByName z.place.typing (usable z) scene e m) → t ≡ call_type m.result → MayStand (usable z) (class_type object) (type_of_term e) × ArgumentsFit z.place.typing (usable z) ts m.params → TreeAlike e → (ArgumentsFit z.place.typing (usable z) ts m.params → RowAlike ts) → TreeAlike (apply p e m ts t)
     named_tree p e m ts t d result may one others = record {
       alike = λ w env s sc u sees same. by_equal w env t _ _ _ _ (λ i. ir_meaning.in_order (ir_meaning.taking z.place.classes (ir_meaning.class_looked_up (type_of_term e) (d.is.named i)) (received env) ∷ ir_meaning.operands z.place.classes z.low ts) (ir_meaning.call_method z.place.classes z.low (type_of_term e) m (d.is.named i)) env s) (λ i. shown z (written i) sc u) (subst (λ k. Sim z.direction (Valued z.place w env k) (ir_meaning.in_order (received env ∷ ir_meaning.operands z.place.classes z.low ts) (ir_meaning.call_reflective z.place.classes z.low m) env s) (shown z (core.receiver_call (callees.Reflective m) (coerced Any (type_of_term e) receiver) (expressions_of (coerced_arguments m.params (types_of ts) (all_expressions z.code.sure ts)))) sc u)) (sym (result ∙ ap call_type d.is.named)) (reflected_call_alike z lawful m d.is.there (stood Any (type_of_term e) on.0) (all_stood (types_referred m.params) (types_of ts) fit.0) (received env) (ir_meaning.operands z.place.classes z.low ts) (coerced Any (type_of_term e) receiver) (coerced_arguments m.params (types_of ts) (all_expressions z.code.sure ts)) (stood-fits Any (type_of_term e) on.0) (all-stood-fit (types_referred m.params) (types_of ts) fit.0) w env s sc u sees.inside (in_front _ _ _ w env sc _ _ _ (receiver_stood object (type_of_term e) on _ _ w env sc sees.inside (receiver_alike e one d.checked w env sc sees)) (passed m.params ts fit w env sc sees.inside (others may.1 w env sc sees))) same));
       told = subst (λ x. tells t (expression_template z.place.name z.place.label (usable z).lookup x) ≡ true) (sym written) refl;
@@ -546,14 +546,14 @@ module _ (z : Setting) (lawful : Lawful z) (scope : Scope) where
         written : expression_of z.code.sure (apply p e m ts t) ≡ core.receiver_call (callees.Reflective m) (coerced Any (type_of_term e) receiver) (expressions_of (coerced_arguments m.params (types_of ts) (all_expressions z.code.sure ts)))
         written = ap (λ k. core.receiver_call k (coerced_receiver (type_of_term e) receiver) (expressions_of (coerced_arguments m.params (types_of ts) (all_expressions z.code.sure ts)))) d.is.callee ∙ ap (λ x. core.receiver_call (callees.Reflective m) x (expressions_of (coerced_arguments m.params (types_of ts) (all_expressions z.code.sure ts)))) (receiver-coerced object (type_of_term e) receiver)
 
-    called_tree : (p : Position) (e : Term) (m : MethodName) (ts : Terms) (t : IrType) → Kept (apply p e m ts t) → Makes (is_boxed Any e || any_is_boxed m.params ts) → ((c : List ℕ) → IsSub z.place.classes (type_of_term e) (class_type c) → TreeAlike e) → (ArgumentsFit z.place.classes (usable z) ts m.params → RowAlike ts) → TreeAlike (apply p e m ts t)
-    called_tree p e m ts t h may one others = by (applied z.place.classes (usable z) scene p e m ts t h.0)
+    called_tree : (p : Position) (e : Term) (m : MethodName) (ts : Terms) (t : IrType) → Kept (apply p e m ts t) → Makes (is_boxed Any e || any_is_boxed m.params ts) → ((c : List ℕ) → IsSub z.place.typing (type_of_term e) (class_type c) → TreeAlike e) → (ArgumentsFit z.place.typing (usable z) ts m.params → RowAlike ts) → TreeAlike (apply p e m ts t)
+    called_tree p e m ts t h may one others = by (applied z.place.typing (usable z) scene p e m ts t h.0)
       where
-        by : Applied z.place.classes (usable z) scene p e m ts t → TreeAlike (apply p e m ts t)
-        by (directly d) = applied_tree p e m ts t d (receiving_tree p e d.is.direct.class Public m ts t (d.here, h.1, h.2) may tt (one d.is.direct.class (d.is.direct.below z.place.classes)) others)
-        by (by_name d) = named_tree p e m ts t d h.0.meets.1 (looked_stand z.place.classes (usable z) e object m ts may h.0.finds h.0.meets.2) (one object (to_any refl d.value)) others
-        by (on_array d) = instance_tree p e m ts t (by_array z lawful scene e m d) h.0.meets.1 (looked_stand z.place.classes (usable z) e object m ts may h.0.finds h.0.meets.2).1 (one object (to_any refl (array_valued (type_of_term e) d.array))) others
-        by (by_lookup d) = let stand = looked_stand z.place.classes (usable z) e d.is.lookup.class m ts may h.0.finds h.0.meets.2 in instance_tree p e m ts t (by_class z lawful scene e m d stand.0) h.0.meets.1 stand.1 (one d.is.lookup.class (d.is.lookup.below z.place.classes)) others
+        by : Applied z.place.typing (usable z) scene p e m ts t → TreeAlike (apply p e m ts t)
+        by (directly d) = applied_tree p e m ts t d (receiving_tree p e d.is.direct.class Public m ts t (d.here, h.1, h.2) may tt (one d.is.direct.class (d.is.direct.below z.place.typing)) others)
+        by (by_name d) = named_tree p e m ts t d h.0.meets.1 (looked_stand z.place.typing (usable z) e object m ts may h.0.finds h.0.meets.2) (one object (to_any refl d.value)) others
+        by (on_array d) = instance_tree p e m ts t (by_array z lawful scene e m d) h.0.meets.1 (looked_stand z.place.typing (usable z) e object m ts may h.0.finds h.0.meets.2).1 (one object (to_any refl (array_valued (type_of_term e) d.array))) others
+        by (by_lookup d) = let stand = looked_stand z.place.typing (usable z) e d.is.lookup.class m ts may h.0.finds h.0.meets.2 in instance_tree p e m ts t (by_class z lawful scene e m d stand.0) h.0.meets.1 stand.1 (one d.is.lookup.class (d.is.lookup.below z.place.typing)) others
 
     mutual
       -- both directions at once: what a plain tree comes to, its expression comes to
@@ -566,34 +566,34 @@ module _ (z : Setting) (lawful : Lawful z) (scope : Scope) where
           let branches = each_made (usable z) (is_boxed t a || boxes_as_text a) (is_boxed t b || boxes_as_text b) parts.1 in
           let first = each_made (usable z) (is_boxed t a) (boxes_as_text a) branches.0 in
           let second = each_made (usable z) (is_boxed t b) (boxes_as_text b) branches.1 in
-          if_tree p c a b t h first.0 second.0 (when_not (is_no_type t) q.0) (tree_alike c h.1 parts.0 q.1 (value_apart z.place.classes (usable z) scene c h.1 (value_below z.place.classes law (type_of_term c) Boolean h.0.meets.0 refl))) (tree_alike a h.2 first.1 y.1 (value_apart z.place.classes (usable z) scene a h.2 (value_yielded a t (when_not (is_no_type t) q.0) h.0.meets.1))) (tree_alike b h.3 second.1 x.1 (value_apart z.place.classes (usable z) scene b h.3 (value_yielded b t (when_not (is_no_type t) q.0) h.0.meets.2)))
-      tree_alike (new_object p c m ts) h boxed k v = let parts = each_made (usable z) (any_is_boxed m.params ts) (any_boxes_as_text ts) boxed in new_tree p c m ts h parts.0 (trees_alike ts m.params h.1 parts.1 k (arguments_there z.place.classes (usable z) ts m.params parts.0 h.0.finds h.0.meets.1))
-      tree_alike (select p e c f t) h boxed k v = select_tree p e c f t h (tree_alike e h.1 boxed k (value_apart z.place.classes (usable z) scene e h.1 (value_below z.place.classes law (type_of_term e) (class_type c) h.0.meets.0 (class_value c))))
+          if_tree p c a b t h first.0 second.0 (when_not (is_no_type t) q.0) (tree_alike c h.1 parts.0 q.1 (value_apart z.place.typing (usable z) scene c h.1 (value_below z.place.typing law (type_of_term c) Boolean h.0.meets.0 refl))) (tree_alike a h.2 first.1 y.1 (value_apart z.place.typing (usable z) scene a h.2 (value_yielded a t (when_not (is_no_type t) q.0) h.0.meets.1))) (tree_alike b h.3 second.1 x.1 (value_apart z.place.typing (usable z) scene b h.3 (value_yielded b t (when_not (is_no_type t) q.0) h.0.meets.2)))
+      tree_alike (new_object p c m ts) h boxed k v = let parts = each_made (usable z) (any_is_boxed m.params ts) (any_boxes_as_text ts) boxed in new_tree p c m ts h parts.0 (trees_alike ts m.params h.1 parts.1 k (arguments_there z.place.typing (usable z) ts m.params parts.0 h.0.finds h.0.meets.1))
+      tree_alike (select p e c f t) h boxed k v = select_tree p e c f t h (tree_alike e h.1 boxed k (value_apart z.place.typing (usable z) scene e h.1 (value_below z.place.typing law (type_of_term e) (class_type c) h.0.meets.0 (class_value c))))
       tree_alike (apply_statically p e c n m ts t) h boxed k v =
           let x = and_parts (is_plain e) (are_plain ts) k in
           let parts = each_made (usable z) (is_boxed Any e || any_is_boxed m.params ts) (boxes_as_text e || any_boxes_as_text ts) boxed in
           let operands = each_made (usable z) (boxes_as_text e) (any_boxes_as_text ts) parts.1 in
-          receiving_tree p e c n m ts t h parts.0 v (tree_alike e h.1 operands.0 x.0 (value_apart z.place.classes (usable z) scene e h.1 (value_below z.place.classes law (type_of_term e) (class_type c) h.0.meets.2 (class_value c)))) (trees_alike ts m.params h.2 operands.1 x.1)
+          receiving_tree p e c n m ts t h parts.0 v (tree_alike e h.1 operands.0 x.0 (value_apart z.place.typing (usable z) scene e h.1 (value_below z.place.typing law (type_of_term e) (class_type c) h.0.meets.2 (class_value c)))) (trees_alike ts m.params h.2 operands.1 x.1)
       tree_alike (apply p e m ts t) h boxed k v =
           let x = and_parts (is_plain e) (are_plain ts) k in
           let parts = each_made (usable z) (is_boxed Any e || any_is_boxed m.params ts) (boxes_as_text e || any_boxes_as_text ts) boxed in
           let operands = each_made (usable z) (boxes_as_text e) (any_boxes_as_text ts) parts.1 in
-          called_tree p e m ts t h parts.0 (λ c on. tree_alike e h.1 operands.0 x.0 (value_apart z.place.classes (usable z) scene e h.1 (value_below z.place.classes law (type_of_term e) (class_type c) on (class_value c)))) (trees_alike ts m.params h.2 operands.1 x.1)
+          called_tree p e m ts t h parts.0 (λ c on. tree_alike e h.1 operands.0 x.0 (value_apart z.place.typing (usable z) scene e h.1 (value_below z.place.typing law (type_of_term e) (class_type c) on (class_value c)))) (trees_alike ts m.params h.2 operands.1 x.1)
       tree_alike (select_static p c f t) h boxed k v = record { alike = λ w env s sc u sees same. static_alike z lawful.base c f t h.built w env s sc u sees.inside same; told = refl }
       tree_alike (load_module p c) h boxed k v = record { alike = λ w env s sc u sees same. load_alike z lawful c h.built w env s sc u sees.inside same; told = refl }
       tree_alike (this_ref p t) h boxed k v = this_tree p t h
-      tree_alike (apply_static p c n m ts t) h boxed k v = let parts = each_made (usable z) (any_is_boxed m.params ts) (any_boxes_as_text ts) boxed in call_tree p c n m ts t h parts.0 (trees_alike ts m.params h.1 parts.1 k (arguments_there z.place.classes (usable z) ts m.params parts.0 h.0.finds h.0.meets.2))
-      tree_alike (unary_op p o e) h boxed k v = unary_tree p o e (fits-unary z.place.classes law o (type_of_term e) h.0.meets) (tree_alike e h.1 boxed k (value_apart z.place.classes (usable z) scene e h.1 (value_below z.place.classes law (type_of_term e) (unary_operand o) h.0.meets (value_none (unary_operand o) (unary-operand-value o)))))
-      tree_alike (binary_op p o e d) h boxed k v = let x = and_parts (is_plain e) (is_plain d) k in let whole = each_made (usable z) (operands_are_boxed o e d) (boxes_as_text e || boxes_as_text d) boxed in let parts = each_made (usable z) (boxes_as_text e) (boxes_as_text d) whole.1 in operation_tree p o e d h whole.0 (λ v. tree_alike e h.1 parts.0 x.0 (value_apart z.place.classes (usable z) scene e h.1 v)) (λ v. tree_alike d h.2 parts.1 x.1 (value_apart z.place.classes (usable z) scene d h.2 v))
-      tree_alike (new_array p r e) h boxed k v = new_array_tree p r e h (tree_alike e h.1 boxed k (value_apart z.place.classes (usable z) scene e h.1 (value_below z.place.classes law (type_of_term e) Int h.0.meets refl)))
+      tree_alike (apply_static p c n m ts t) h boxed k v = let parts = each_made (usable z) (any_is_boxed m.params ts) (any_boxes_as_text ts) boxed in call_tree p c n m ts t h parts.0 (trees_alike ts m.params h.1 parts.1 k (arguments_there z.place.typing (usable z) ts m.params parts.0 h.0.finds h.0.meets.2))
+      tree_alike (unary_op p o e) h boxed k v = unary_tree p o e (fits-unary z.place.typing law o (type_of_term e) h.0.meets) (tree_alike e h.1 boxed k (value_apart z.place.typing (usable z) scene e h.1 (value_below z.place.typing law (type_of_term e) (unary_operand o) h.0.meets (value_none (unary_operand o) (unary-operand-value o)))))
+      tree_alike (binary_op p o e d) h boxed k v = let x = and_parts (is_plain e) (is_plain d) k in let whole = each_made (usable z) (operands_are_boxed o e d) (boxes_as_text e || boxes_as_text d) boxed in let parts = each_made (usable z) (boxes_as_text e) (boxes_as_text d) whole.1 in operation_tree p o e d h whole.0 (λ v. tree_alike e h.1 parts.0 x.0 (value_apart z.place.typing (usable z) scene e h.1 v)) (λ v. tree_alike d h.2 parts.1 x.1 (value_apart z.place.typing (usable z) scene d h.2 v))
+      tree_alike (new_array p r e) h boxed k v = new_array_tree p r e h (tree_alike e h.1 boxed k (value_apart z.place.typing (usable z) scene e h.1 (value_below z.place.typing law (type_of_term e) Int h.0.meets refl)))
       tree_alike (array_value p r ts) h boxed k v = let parts = each_made (usable z) (any_item_boxed (element_type r) ts) (any_boxes_as_text ts) boxed in array_tree_of p r ts h parts.0 (items_alike ts (element_type r) (value_none (element_type r) (element-value r)) h.1 parts.1 k h.0.meets)
-      tree_alike (array_length p e) h boxed k v = length_tree p e h (tree_alike e h.1 boxed k (value_apart z.place.classes (usable z) scene e h.1 (array-value (type_of_term e) h.0.meets)))
+      tree_alike (array_length p e) h boxed k v = length_tree p e h (tree_alike e h.1 boxed k (value_apart z.place.typing (usable z) scene e h.1 (array-value (type_of_term e) h.0.meets)))
       tree_alike (array_select p e i t) h boxed k v =
           let x = and_parts (is_plain e) (is_plain i) k in
           let parts = each_made (usable z) (boxes_as_text e) (boxes_as_text i) boxed in
-          item_tree p e i t h (tree_alike e h.1 parts.0 x.0 (value_apart z.place.classes (usable z) scene e h.1 (items-value (type_of_term e) t h.0.meets.0))) (tree_alike i h.2 parts.1 x.1 (value_apart z.place.classes (usable z) scene i h.2 (value_below z.place.classes law (type_of_term i) Int h.0.meets.1 refl)))
-      tree_alike (is_instance_of p e t) h boxed k v = let parts = each_made (usable z) (is_boxed Any e) (boxes_as_text e) boxed in test_tree p e t h (standing_any e parts.0 h.0.meets.1) (tree_alike e h.1 parts.1 k (value_apart z.place.classes (usable z) scene e h.1 (value_below z.place.classes law (type_of_term e) Any h.0.meets.1 refl)))
-      tree_alike (as_instance_of p e t) h boxed k v = let parts = each_made (usable z) (is_boxed Any e) (boxes_as_text e) boxed in cast_tree p e t h (standing_any e parts.0 h.0.meets.1) (tree_alike e h.1 parts.1 k (value_apart z.place.classes (usable z) scene e h.1 (value_below z.place.classes law (type_of_term e) Any h.0.meets.1 refl)))
+          item_tree p e i t h (tree_alike e h.1 parts.0 x.0 (value_apart z.place.typing (usable z) scene e h.1 (items-value (type_of_term e) t h.0.meets.0))) (tree_alike i h.2 parts.1 x.1 (value_apart z.place.typing (usable z) scene i h.2 (value_below z.place.typing law (type_of_term i) Int h.0.meets.1 refl)))
+      tree_alike (is_instance_of p e t) h boxed k v = let parts = each_made (usable z) (is_boxed Any e) (boxes_as_text e) boxed in test_tree p e t h (standing_any e parts.0 h.0.meets.1) (tree_alike e h.1 parts.1 k (value_apart z.place.typing (usable z) scene e h.1 (value_below z.place.typing law (type_of_term e) Any h.0.meets.1 refl)))
+      tree_alike (as_instance_of p e t) h boxed k v = let parts = each_made (usable z) (is_boxed Any e) (boxes_as_text e) boxed in cast_tree p e t h (standing_any e parts.0 h.0.meets.1) (tree_alike e h.1 parts.1 k (value_apart z.place.typing (usable z) scene e h.1 (value_below z.place.typing law (type_of_term e) Any h.0.meets.1 refl)))
       tree_alike (undefined_literal p) h boxed k v = record { alike = λ w env s sc u sees same. literal_alike w env Undefined s u ir.undefined js.undefined same_undefined refl tt same; told = refl }
       tree_alike (null_literal p) h boxed k v = record { alike = λ w env s sc u sees same. literal_alike w env Null s u ir.null js.null same_null refl tt same; told = refl }
       tree_alike (boolean_literal p b) h boxed k v = record { alike = λ w env s sc u sees same. literal_alike w env Boolean s u (ir.boolean b) (js.boolean b) (same_boolean b) refl tt same; told = refl }
@@ -619,15 +619,15 @@ module _ (z : Setting) (lawful : Lawful z) (scope : Scope) where
       tree_alike (match_on p e cs d t) h boxed k v = impossible k
       tree_alike (log_line p e) h boxed k v = impossible k
 
-      trees_alike : (ts : Terms) (rs : List TypeRef) → TypedAll z.place.classes (usable z) scene ts → Makes (any_boxes_as_text ts) → are_plain ts ≡ true → ArgumentsFit z.place.classes (usable z) ts rs → RowAlike ts
+      trees_alike : (ts : Terms) (rs : List TypeRef) → TypedAll z.place.typing (usable z) scene ts → Makes (any_boxes_as_text ts) → are_plain ts ≡ true → ArgumentsFit z.place.typing (usable z) ts rs → RowAlike ts
       trees_alike no_terms rs h boxed k fit w env sc sees = no_operands
       trees_alike (more_terms t ts) [] h boxed k fit w env sc sees = absurd fit
-      trees_alike (more_terms t ts) (r ∷ rs) h boxed k fit w env sc sees = let x = and_parts (is_plain t) (are_plain ts) k in let parts = each_made (usable z) (boxes_as_text t) (any_boxes_as_text ts) boxed in with_tree t (tree_alike t h.0 parts.0 x.0 (value_apart z.place.classes (usable z) scene t h.0 (value_below z.place.classes law (type_of_term t) (reference_type r) fit.0.0 (value_none (reference_type r) fit.1)))) w env sc sees _ _ _ (trees_alike ts rs h.1 parts.1 x.1 fit.2 w env sc sees)
+      trees_alike (more_terms t ts) (r ∷ rs) h boxed k fit w env sc sees = let x = and_parts (is_plain t) (are_plain ts) k in let parts = each_made (usable z) (boxes_as_text t) (any_boxes_as_text ts) boxed in with_tree t (tree_alike t h.0 parts.0 x.0 (value_apart z.place.typing (usable z) scene t h.0 (value_below z.place.typing law (type_of_term t) (reference_type r) fit.0.0 (value_none (reference_type r) fit.1)))) w env sc sees _ _ _ (trees_alike ts rs h.1 parts.1 x.1 fit.2 w env sc sees)
 
       -- items, each of which has a value
-      items_alike : (ts : Terms) (t : IrType) → is_no_type t ≡ false → TypedAll z.place.classes (usable z) scene ts → Makes (any_boxes_as_text ts) → are_plain ts ≡ true → AllFit z.place.classes ts t → RowAlike ts
+      items_alike : (ts : Terms) (t : IrType) → is_no_type t ≡ false → TypedAll z.place.typing (usable z) scene ts → Makes (any_boxes_as_text ts) → are_plain ts ≡ true → AllFit z.place.typing ts t → RowAlike ts
       items_alike no_terms t n h boxed k fit w env sc sees = no_operands
-      items_alike (more_terms e ts) t n h boxed k fit w env sc sees = let x = and_parts (is_plain e) (are_plain ts) k in let parts = each_made (usable z) (boxes_as_text e) (any_boxes_as_text ts) boxed in with_tree e (tree_alike e h.0 parts.0 x.0 (value_apart z.place.classes (usable z) scene e h.0 (value_below z.place.classes law (type_of_term e) t fit.0 n))) w env sc sees _ _ _ (items_alike ts t n h.1 parts.1 x.1 fit.1 w env sc sees)
+      items_alike (more_terms e ts) t n h boxed k fit w env sc sees = let x = and_parts (is_plain e) (are_plain ts) k in let parts = each_made (usable z) (boxes_as_text e) (any_boxes_as_text ts) boxed in with_tree e (tree_alike e h.0 parts.0 x.0 (value_apart z.place.typing (usable z) scene e h.0 (value_below z.place.typing law (type_of_term e) t fit.0 n))) w env sc sees _ _ _ (items_alike ts t n h.1 parts.1 x.1 fit.1 w env sc sees)
 
-  pub plain_alike : (t : Term) → Plain z.place.classes (usable z) z.code scope t → TreeAlike t
+  pub plain_alike : (t : Term) → Plain z.place.typing (usable z) z.code scope t → TreeAlike t
   plain_alike t p = tree_alike p.scene p.seen p.surely p.owned t p.typed p.boxed p.plain p.apart

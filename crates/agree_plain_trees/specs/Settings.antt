@@ -122,10 +122,11 @@ is_named has (some_constants c) = has.bases c
 is_named has (a_cell c) = false
 is_named has t = is_usable has t
 
--- what is fixed: the two programs, the names that stand for variables and labels, the file of each binding, what the code of each file can use, and the
--- units that the emitted code may take beyond those of the IR
+-- what is fixed: the two programs, the classes by which bodies are typed (those of the IR's program, or others where no code tells an object's class), the names that stand for
+-- variables and labels, the file of each binding, what the code of each file can use, and the units that the emitted code may take beyond those of the IR
 pub record Place : Type 0 where
   pub classes : ir_world.World
+  pub typing : ir_world.World
   pub program : js.Program
   pub name : core.Variable → Name
   pub label : List ℕ → Name
@@ -506,7 +507,7 @@ CellsDiffer p = (c d : List ℕ) → IsClass p.classes c → IsClass p.classes d
 
 -- subtyping is ordered, and what the levels below give of what is called, set, stored and made; a class of which objects are made has its code there, and is not hijacked
 pub record Based (z : Setting) : Type 0 where
-  pub ordered : IsSubtyping (IsSub z.place.classes)
+  pub ordered : IsSubtyping (IsSub z.place.typing)
   pub names : NamesDiffer z.place
   pub reaches : Reaches z.place z.code.file
   pub fields : (c f : List ℕ) (t : IrType) → (usable z).field c f t ≡ true → HasField z.place c f t

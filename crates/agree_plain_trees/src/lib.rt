@@ -23,5 +23,5 @@ ghost use Rattle.agree_plain_trees.specs.Worlds.{World};
 /// That is, where both are done they have shown the same lines, and the values and states that they come to stand for each other; where a
 /// side is going, what it has shown begins what the other shows. A tree that is wrong promises nothing.
 pub fn plain_trees_agree()
-    ensures { (z : Setting) → Lawful z → (scope : List ℕ → IrType → Bool) (t : Term) → Plain z.place.classes (usable z) z.code (λ x i. scope x i ≡ true) t → (w : World) (env : ir.Env) (s : ir.State) (sc : js.Scope) (u : js.State) → Sees z.place z.code (λ x i. scope x i ≡ true) w env sc → SameState z.place w s u → Sim z.direction (Valued z.place w env (type_of_term t)) (ir_meaning.step z.place.classes z.low t env s) (shown z (expression_of z.code.sure t) sc u) }
+    ensures { (z : Setting) → Lawful z → (scope : List ℕ → IrType → Bool) (t : Term) → Plain z.place.typing (usable z) z.code (λ x i. scope x i ≡ true) t → (w : World) (env : ir.Env) (s : ir.State) (sc : js.Scope) (u : js.State) → Sees z.place z.code (λ x i. scope x i ≡ true) w env sc → SameState z.place w s u → Sim z.direction (Valued z.place w env (type_of_term t)) (ir_meaning.step z.place.classes z.low t env s) (shown z (expression_of z.code.sure t) sc u) }
 {}

@@ -76,14 +76,14 @@ tripling_rules = record {
   once = record { once = (((tt, tt, λ x o k. k), ((tt, tt, λ x o k. k)), λ x o k. ⊎_elim (λ i. i) (λ i. i) k), (tt, tt, λ x o k. k), λ x o k. ⊎_elim (λ i. i) (λ i. i) k); parameters = ((λ i. i), tt); fresh = λ x o i. no_local x o };
 }
 
-pub main_right : IsRight worked_world worked_methods (emitted main_method tests_it)
+pub main_right : IsRight worked_world worked_world worked_methods (emitted main_method tests_it)
 main_right = record { found = refl; has_body = refl; parameters = tt; result_is = refl; rules = main_rules; names = record { once = tt; fresh = λ x n i. n } }
 
-pub tripling_right : IsRight worked_world worked_methods (emitted tripling_method triples)
+pub tripling_right : IsRight worked_world worked_world worked_methods (emitted tripling_method triples)
 tripling_right = record { found = refl; has_body = refl; parameters = (refl, tt); result_is = refl; rules = tripling_rules; names = record { once = tt; fresh = λ x n i. n } }
 
-each_right : (e : EmittedMethod) → Contains worked_methods e → IsRight worked_world worked_methods e
-each_right e h = ⊎_elim (λ same. subst (IsRight worked_world worked_methods) same main_right) (λ later. ⊎_elim (λ same. subst (IsRight worked_world worked_methods) same tripling_right) (λ none. nothing_in e none) (in_front_or_behind (emitted tripling_method triples) [] e later)) (in_front_or_behind (emitted main_method tests_it) (emitted tripling_method triples ∷ []) e h)
+each_right : (e : EmittedMethod) → Contains worked_methods e → IsRight worked_world worked_world worked_methods e
+each_right e h = ⊎_elim (λ same. subst (IsRight worked_world worked_world worked_methods) same main_right) (λ later. ⊎_elim (λ same. subst (IsRight worked_world worked_world worked_methods) same tripling_right) (λ none. nothing_in e none) (in_front_or_behind (emitted tripling_method triples) [] e later)) (in_front_or_behind (emitted main_method tests_it) (emitted tripling_method triples ∷ []) e h)
 
 pub worked_plain : IsPlain worked_world
 worked_plain = plain_world worked_world (λ c i. only c (λ (d : ClassDef). keeps_superclass d ≡ true) refl i) (λ c i. only c (λ (d : ClassDef). keeps_hijacked d ≡ true) refl i)
@@ -92,4 +92,4 @@ worked_plain = plain_world worked_world (λ c i. only c (λ (d : ClassDef). keep
     only c P h i = ⊎_elim (λ same. subst P same h) (λ none. nothing_in c none) (in_front_or_behind (object_with (main_method ∷ tripling_method ∷ [])) [] c i)
 
 pub worked_agrees : Agree (ir_shows worked_world once (codes "main")) (js_shows (program_with (codes "main") worked_methods once) (codes "main"))
-worked_agrees = program_agrees worked_world worked_plain once (codes "main") worked_methods refl each_right refl
+worked_agrees = program_agrees worked_world worked_world worked_plain once (codes "main") worked_methods refl each_right refl

@@ -27,13 +27,13 @@ functions_of fs = members_alone (has_function fs)
 abbrev pub have_functions : List EmittedMethod → List EntryPoint → Bool
 have_functions fs es = list_all (λ (e : EntryPoint). has_function fs (initializer_member e)) es
 
--- the method is that of its member in the classes, with the types that its name tells; its body keeps the rules, where calls are of these
--- methods
-abbrev pub IsRight : World → List EmittedMethod → EmittedMethod → Type 0
-IsRight w fs e = IsEmitted w (functions_of fs) e
+-- the method is that of its member in the classes, with the types that its name tells; its body keeps the rules by the second classes, where calls are of
+-- these methods
+abbrev pub IsRight : World → World → List EmittedMethod → EmittedMethod → Type 0
+IsRight w typing fs e = IsEmitted w typing (functions_of fs) e
 
 -- and its class and name are in their grammar
-pub record IsWhole (w : World) (fs : List EmittedMethod) (e : EmittedMethod) : Type 0 where
-  pub right : IsRight w fs e
+pub record IsWhole (w typing : World) (fs : List EmittedMethod) (e : EmittedMethod) : Type 0 where
+  pub right : IsRight w typing fs e
   pub class_name : IsTrue (is_class_name e.member.class)
   pub method_name : IsMethodName e.member.method

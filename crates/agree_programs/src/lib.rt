@@ -23,12 +23,12 @@ ghost use Rattle.agree_soundness.specs.SjWorldLaws.{IsPlain};
 ghost use Rattle.agree_programs.specs.Worked.{worked_world, worked_methods};
 
 /// The theorem on programs of methods whose bodies keep the rules: take a module that has the functions of these methods in this order and then calls the initializers
-/// of a public module, and that has no early error, and let no class write a hijacked class or stand above `java.lang.Object`. Let each method be that of its member in the classes, with the types that its name
-/// tells, with a body that keeps the rules and calls these methods alone; and let the initializers be among them. Then
+/// of a public module, and that has no early error. Let each method be that of its member in the classes, with the types that its name
+/// tells, with a body that keeps the rules by classes of which none writes a hijacked class and none stands above `java.lang.Object`, these or any others, and calls these methods alone; and let the initializers be among them. Then
 /// the file shows of the public module what the classes show: what the one shows within any bound the other shows within some bound, and the
 /// other way round, and neither is wrong at any bound.
 pub fn program_of_bodies_agrees()
-    ensures { (w : World) → IsPlain w → (entries : List EntryPoint) (id : List ℕ) (fs : List EmittedMethod) → is_proper_module (module_with fs (initializers entries id)) ≡ true → ((e : EmittedMethod) → Contains fs e → IsRight w fs e) → have_functions fs (initializers entries id) ≡ true → Agree (ir_shows w entries id) (js_shows (program_with id fs (initializers entries id)) id) }
+    ensures { (w typing : World) → IsPlain typing → (entries : List EntryPoint) (id : List ℕ) (fs : List EmittedMethod) → is_proper_module (module_with fs (initializers entries id)) ≡ true → ((e : EmittedMethod) → Contains fs e → IsRight w typing fs e) → have_functions fs (initializers entries id) ≡ true → Agree (ir_shows w entries id) (js_shows (program_with id fs (initializers entries id)) id) }
 {}
 
 /// The premises of the theorem on programs can be met: `main` tests whether `f`, which triples in a loop, gives 27 for 1. The class and its
@@ -42,15 +42,20 @@ pub fn worked_program_agrees()
 {}
 
 /// The theorem on programs without a premise on the file: take methods, no two of one member, each of which is that of its member in the classes, with the
-/// types that its name tells, with a body that keeps the rules and calls these methods alone; and let the
-/// initializers of a public module be among them; and let no class write a hijacked class or stand above `java.lang.Object`. Then the file that has their functions in this order and behind them the calls of the
+/// types that its name tells, with a body that keeps the rules by classes of which none writes a hijacked class and none stands above `java.lang.Object`, these or any others, and calls these methods alone; and let the
+/// initializers of a public module be among them. Then the file that has their functions in this order and behind them the calls of the
 /// initializers shows of the public module what the classes show: what the one shows within any bound the other shows within some bound, and
 /// the other way round, and neither is wrong at any bound.
 pub fn linked_bodies_agree()
-    ensures { (w : World) → IsPlain w → (entries : List EntryPoint) (id : List ℕ) (fs : List EmittedMethod) → ((e : EmittedMethod) → Contains fs e → IsWhole w fs e) → HaveOwnMembers fs → have_functions fs (initializers entries id) ≡ true → Agree (ir_shows w entries id) (js_shows (program_with id fs (initializers entries id)) id) }
+    ensures { (w typing : World) → IsPlain typing → (entries : List EntryPoint) (id : List ℕ) (fs : List EmittedMethod) → ((e : EmittedMethod) → Contains fs e → IsWhole w typing fs e) → HaveOwnMembers fs → have_functions fs (initializers entries id) ≡ true → Agree (ir_shows w entries id) (js_shows (program_with id fs (initializers entries id)) id) }
 {}
 
-/// Its premises can be met: by the two methods of the worked program.
+/// Where bodies keep the rules by no classes at all, so that all they take of subtyping is that a type is below itself and any, null below each class, and a primitive type below its own, nothing is asked of the classes.
+pub fn bodies_without_classes_agree()
+    ensures { (w : World) (entries : List EntryPoint) (id : List ℕ) (fs : List EmittedMethod) → ((e : EmittedMethod) → Contains fs e → IsWhole w [] fs e) → HaveOwnMembers fs → have_functions fs (initializers entries id) ≡ true → Agree (ir_shows w entries id) (js_shows (program_with id fs (initializers entries id)) id) }
+{}
+
+/// The premises of the theorem on programs without one on the file can be met: by the two methods of the worked program.
 pub fn worked_bodies_agree()
     ensures { Agree (ir_shows worked_world once (codes "main")) (js_shows (program_with (codes "main") worked_methods once) (codes "main")) }
 {}

@@ -19,11 +19,11 @@ worked_class = object_with (main_method ∷ tripling_method ∷ [])
 worked : Recorded worked_class
 worked = record { found = refl; findings = refl; tested = refl }
 
-pub each_accepted : (e : EmittedMethod) → Contains worked_methods e → IsAccepted worked_world worked_methods e
+pub each_accepted : (e : EmittedMethod) → Contains worked_methods e → IsAccepted worked_world worked_world worked_methods e
 each_accepted = each_accepted_of worked_class worked
 
 pub own_members : HaveOwnMembers worked_methods
 own_members = own worked_methods refl
 
 pub worked_agrees : Agree (ir_shows worked_world once (codes "main")) (js_shows (program_with (codes "main") worked_methods once) (codes "main"))
-worked_agrees = classes_agree worked_world worked_plain once (codes "main") worked_methods each_accepted own_members refl
+worked_agrees = classes_agree worked_world worked_world worked_plain once (codes "main") worked_methods each_accepted own_members refl

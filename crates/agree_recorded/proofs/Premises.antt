@@ -164,7 +164,7 @@ record IsFound (c : ClassDef) (d : MethodDef) : Type 0 where
   pub found : member_of (c ∷ []) object_name d.namespace d.name ≡ Some d
   pub has_body : d.body ≡ Some (body_in d)
 
-accepted : (c : ClassDef) (fs : List EmittedMethod) (d : MethodDef) → FirstBroken c None → IsFound c d → is_accepted (functions_of fs) d ≡ true → IsAccepted (c ∷ []) fs (emitted d (body_in d))
+accepted : (c : ClassDef) (fs : List EmittedMethod) (d : MethodDef) → FirstBroken c None → IsFound c d → is_accepted (functions_of fs) d ≡ true → IsAccepted (c ∷ []) (c ∷ []) fs (emitted d (body_in d))
 accepted c fs d unbroken there h =
     let body = and_parts (is_typed (functions_of fs) (scene_of object_name d (body_in d)) (body_in d)) (yields_there (body_in d) d.result && (not (body_boxes d (body_in d)) && ((is_none d.result || not (has_no_value d.result)) && (are_values d.params && is_well_named d.name)))) h in
     let value = and_parts (yields_there (body_in d) d.result) (not (body_boxes d (body_in d)) && ((is_none d.result || not (has_no_value d.result)) && (are_values d.params && is_well_named d.name))) body.1 in
@@ -201,7 +201,7 @@ body_is (Some e) h = refl
 abbrev pub found_in : ClassDef → MethodDef → Option MethodDef
 found_in c d = member_of (c ∷ []) object_name d.namespace d.name
 
-all_accepted : (c : ClassDef) (fs : List EmittedMethod) (ds : List MethodDef) → FirstBroken c None → ((d : MethodDef) → Contains ds d → Contains c.methods d) → map (found_in c) ds ≡ map Some ds → list_all has_body ds ≡ true → list_all (is_accepted (functions_of fs)) ds ≡ true → AllOf (IsAccepted (c ∷ []) fs) (all_emitted ds)
+all_accepted : (c : ClassDef) (fs : List EmittedMethod) (ds : List MethodDef) → FirstBroken c None → ((d : MethodDef) → Contains ds d → Contains c.methods d) → map (found_in c) ds ≡ map Some ds → list_all has_body ds ≡ true → list_all (is_accepted (functions_of fs)) ds ≡ true → AllOf (IsAccepted (c ∷ []) (c ∷ []) fs) (all_emitted ds)
 all_accepted c fs [] unbroken listed found bodies h = tt
 all_accepted c fs (d ∷ ds) unbroken listed found bodies h =
     let its : found_in c d ≡ Some d = cc in
@@ -211,7 +211,7 @@ all_accepted c fs (d ∷ ds) unbroken listed found bodies h =
     let k = and_parts (is_accepted (functions_of fs) d) (list_all (is_accepted (functions_of fs)) ds) h in
     let first = accepted c fs d unbroken (record { listed = listed d (0, omega arith, refl); found = its; has_body = body }) k.0 in
     let rest = all_accepted c fs ds unbroken (λ x i. listed x (Contains-append_right (d ∷ []) ds x i)) others its_bodies.1 k.1 in
-    subst (λ (o : Option Term). AllOf (IsAccepted (c ∷ []) fs) (emitted_of d o (all_emitted ds))) (sym body) (first, rest)
+    subst (λ (o : Option Term). AllOf (IsAccepted (c ∷ []) (c ∷ []) fs) (emitted_of d o (all_emitted ds))) (sym body) (first, rest)
 
 -- what is tested of a class that the reference recorded
 abbrev pub tests : ClassDef → List Bool
@@ -272,13 +272,13 @@ module _ (c : ClassDef) (h : Recorded c) where
   pub recorded_unbroken : FirstBroken c None
   recorded_unbroken = unbroken c computed
 
-  pub each_accepted_of : (e : EmittedMethod) → Contains (all_emitted c.methods) e → IsAccepted (c ∷ []) (all_emitted c.methods) e
+  pub each_accepted_of : (e : EmittedMethod) → Contains (all_emitted c.methods) e → IsAccepted (c ∷ []) (c ∷ []) (all_emitted c.methods) e
   each_accepted_of =
       let tested = h.tested in
       let fs = all_emitted c.methods in
       let bodies : list_all has_body c.methods ≡ true = cc in
       let rows : list_all (is_accepted (functions_of (all_emitted c.methods))) c.methods ≡ true = cc in
-      each_of (IsAccepted (c ∷ []) fs) fs (all_accepted c fs c.methods recorded_unbroken (λ d i. i) h.found bodies rows)
+      each_of (IsAccepted (c ∷ []) (c ∷ []) fs) fs (all_accepted c fs c.methods recorded_unbroken (λ d i. i) h.found bodies rows)
 
   only : (d : ClassDef) (P : ClassDef → Type 0) → P c → Contains (c ∷ []) d → P d
   only d P h i = ⊎_elim (λ same. subst P same h) (λ none. nothing_in d none) (in_front_or_behind c [] d i)
@@ -288,4 +288,4 @@ module _ (c : ClassDef) (h : Recorded c) where
       let tested = h.tested in
       let unlike : all_unlike (all_emitted c.methods) ≡ true = cc in
       let called : have_functions (all_emitted c.methods) once ≡ true = cc in
-      classes_agree (c ∷ []) (plain_world (c ∷ []) (λ d i. only d (λ (e : ClassDef). keeps_superclass e ≡ true) (keeps-superclass c recorded_unbroken) i) (λ d i. only d (λ (e : ClassDef). keeps_hijacked e ≡ true) (keeps-hijacked c recorded_unbroken) i)) once (codes "main") (all_emitted c.methods) each_accepted_of (own (all_emitted c.methods) unlike) called
+      classes_agree (c ∷ []) (c ∷ []) (plain_world (c ∷ []) (λ d i. only d (λ (e : ClassDef). keeps_superclass e ≡ true) (keeps-superclass c recorded_unbroken) i) (λ d i. only d (λ (e : ClassDef). keeps_hijacked e ≡ true) (keeps-hijacked c recorded_unbroken) i)) once (codes "main") (all_emitted c.methods) each_accepted_of (own (all_emitted c.methods) unlike) called

@@ -8,7 +8,7 @@
 //! functions here are laws: they do nothing when they run, and their clauses are theorems.
 #![tactic(auto)]
 
-ghost use Rattle.std.specs.Prelude.{◌≡◌, true, [], ◌∷◌, codes, Ok};
+ghost use Rattle.std.specs.Prelude.{◌≡◌, true, codes, Ok};
 ghost use Rattle.std.specs.List.{Contains};
 ghost use Rattle.outcomes.specs.Agreement.{Agree};
 ghost use Rattle.ir_mean.specs.Rows.{once};
@@ -22,7 +22,7 @@ ghost use Rattle.agree_classes.specs.Worked.{worked_world, worked_methods};
 ghost use Rattle.agree_classes.specs.Programs.{IsAccepted};
 ghost use Rattle.sj_trees.specs.declared.classes.ClassDef.{ClassDef};
 ghost use Rattle.agree_recorded.specs.Judged.{IsJudged};
-ghost use Rattle.agree_recorded.specs.Bounds.{all_emitted, class_within, class_shows, file_within, file_shows, function_texts};
+ghost use Rattle.agree_recorded.specs.Bounds.{class_within, class_shows, file_within, file_shows, function_texts};
 ghost use Rattle.agree_recorded.specs.Files as files;
 ghost use Rattle.agree_recorded.specs.Texts as texts;
 ghost use Rattle.agree_recorded.specs.Whole as whole;
@@ -138,7 +138,7 @@ pub fn choice_with_lines()
 /// The premises of the theorem on classes can be met: by the worked program, whose class breaks none of the local rules, and whose two methods
 /// have the rows of typing. So its class and its file agree.
 pub fn worked_classes_agree()
-    ensures accepted { (e : EmittedMethod) → Contains worked_methods e → IsAccepted worked_world worked_methods e }
+    ensures accepted { (e : EmittedMethod) → Contains worked_methods e → IsAccepted worked_world worked_world worked_methods e }
     ensures own_members { HaveOwnMembers worked_methods }
     ensures called { have_functions worked_methods (initializers once (codes "main")) ≡ true }
     ensures agree { Agree (ir_shows worked_world once (codes "main")) (js_shows (program_with (codes "main") worked_methods once) (codes "main")) }

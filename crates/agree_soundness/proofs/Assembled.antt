@@ -1,4 +1,5 @@
 -- A world that has what its classes give has the laws on objects.
+use Rattle.std.proofs.Common.{refl}
 use Rattle.agree_soundness.proofs.Chains.{on_chain, no_primitive, no_top, class_hijacked}
 use Rattle.agree_soundness.proofs.Lengths.{chain_of_has}
 use Rattle.agree_soundness.specs.Laws.{ObjectLaws}
@@ -6,8 +7,9 @@ use Rattle.agree_soundness.specs.Worlds.{ObjectWorld}
 use Rattle.agree_early_errors.specs.Built.{Usable}
 use Rattle.dispatch_laws.specs.Known.{Classes}
 
-pub laws_of : (w : Classes) (has : Usable) → ObjectWorld w has → ObjectLaws w has
+pub laws_of : (w : Classes) (has : Usable) → ObjectWorld w has → ObjectLaws w w has
 laws_of w has h = record {
+  typed = λ k. refl;
   received = h.received;
   looked = h.looked;
   on_arrays = h.on_arrays;

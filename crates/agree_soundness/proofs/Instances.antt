@@ -157,7 +157,7 @@ module _ (w : World) (law : IsSubtyping (IsSub w)) (at : Classes) (st : ir.State
   tested_type v (Array r) (has_type o i f) h = array_type v o r i h
   tested_type v t i h = impossible h
 
-  -- whether a value is of a type is a boolean
-  pub test_type : (v : ir.Value) (t : IrType) → Has (is_instance_value w t st v) Boolean
-  test_type ir.null t = has_type Boolean (of_boolean false) (law.same Boolean)
-  test_type v t = has_type Boolean (of_boolean (is_of_type w st v t)) (law.same Boolean)
+-- whether a value is of a type is a boolean
+pub test_type : (w typing : World) (law : IsSubtyping (IsSub typing)) (at : Classes) (st : ir.State) (v : ir.Value) (t : IrType) → HasType (IsSub typing) law at (is_instance_value w t st v) Boolean
+test_type w typing law at st ir.null t = has_type Boolean (of_boolean false) (law.same Boolean)
+test_type w typing law at st v t = has_type Boolean (of_boolean (is_of_type w st v t)) (law.same Boolean)

@@ -71,23 +71,23 @@ get_rules = record { typed = (record { meets = (equal refl, field_type); built =
 pub main_rules : KeepsRules object_world object_use object_name main_method gets
 main_rules = record { typed = (record { meets = (tt, refl, equal refl, tt); built = refl; finds = tt }, (record { meets = (refl, tt); built = refl; finds = tt }, tt), tt); yields = nothing_wanted refl; boxed = refl; result = inl refl; values = λ x p e. impossible (cc); once = record { once = (tt, tt, λ x o i. i); parameters = tt; fresh = λ x o i. i } }
 
-abbrev pub main_right : RightMember object_world object_use main_member
+abbrev pub main_right : RightMember object_world object_world object_use main_member
 main_right = record { definition = main_method; its_body = gets; found = refl; has_body = refl; rules = main_rules; names = record { once = tt; fresh = λ x n i. n }; parameters = tt; result_is = refl }
 
-linked_right : (m : Member) → object_use.linked m ≡ true → RightMember object_world object_use m
-linked_right m h = subst (RightMember object_world object_use) (sym (member-same m main_member h)) main_right
+linked_right : (m : Member) → object_use.linked m ≡ true → RightMember object_world object_world object_use m
+linked_right m h = subst (RightMember object_world object_world object_use) (sym (member-same m main_member h)) main_right
 
-abbrev pub get_right : RightMember object_world object_use (member class_name Private get_name)
+abbrev pub get_right : RightMember object_world object_world object_use (member class_name Private get_name)
 get_right = record { definition = get_method; its_body = gets_field; found = refl; has_body = refl; rules = get_rules; names = record { once = tt; fresh = λ x n i. n }; parameters = tt; result_is = refl }
 
-received_right : (m : Member) → object_use.received m ≡ true → RightMember object_world object_use m
-received_right m h = subst (RightMember object_world object_use) (sym (member-same m (member class_name Private get_name) h)) get_right
+received_right : (m : Member) → object_use.received m ≡ true → RightMember object_world object_world object_use m
+received_right m h = subst (RightMember object_world object_world object_use) (sym (member-same m (member class_name Private get_name) h)) get_right
 
-abbrev pub init_right : RightMember object_world object_use (member class_name Constructor init_name)
+abbrev pub init_right : RightMember object_world object_world object_use (member class_name Constructor init_name)
 init_right = record { definition = init_method; its_body = skip nowhere; found = refl; has_body = refl; rules = init_rules; names = record { once = tt; fresh = λ x n i. n }; parameters = tt; result_is = refl }
 
-built_right : (m : Member) → object_use.built m ≡ true → RightMember object_world object_use m
-built_right m h = subst (RightMember object_world object_use) (sym (member-same m (member class_name Constructor init_name) h)) init_right
+built_right : (m : Member) → object_use.built m ≡ true → RightMember object_world object_world object_use m
+built_right m h = subst (RightMember object_world object_world object_use) (sym (member-same m (member class_name Constructor init_name) h)) init_right
 
 -- a class of the world is one of the two
 pub each_class : (P : ClassDef → Type 0) → P (object_with (main_method ∷ [])) → P its_class → (c : ClassDef) → Contains object_world c → P c
@@ -147,8 +147,9 @@ none_below c f t o h (the_field e g i) its sub = no_primitive object_world kept 
 no_top : (c f : List ℕ) (t : IrType) → OneField c f t → IsSub object_world (Class object_name) (class_type c) → ⊥
 no_top c f t (the_field e g h) sub = top_not_below (subst (λ (n : Name). IsSub object_world (Class object_name) (class_type n)) e sub)
 
-pub object_laws : ObjectLaws object_world object_use
+pub object_laws : ObjectLaws object_world object_world object_use
 object_laws = record {
+  typed = λ k. refl;
   received = received_right;
   looked = λ c m h d b. impossible h;
   reflected = λ p h d b. impossible h;
@@ -178,7 +179,7 @@ pub initializer_linked : (e : EntryPoint) → Contains (initializers once (codes
 initializer_linked e i = ⊎_elim (λ same. subst (λ (x : EntryPoint). object_use.linked (initializer_member x) ≡ true) same refl) (λ none. nothing_in e none) (in_front_or_behind main_entry [] e i)
 
 pub gets_right : (n : ℕ) → IsNotWrong (ir_shows object_world once (codes "main") n).end
-gets_right = never_wrong object_world plain object_use object_laws linked_right once (codes "main") initializer_linked
+gets_right = never_wrong object_world object_world plain object_use object_laws linked_right once (codes "main") initializer_linked
 
 three : FitsSigned w32 (pos 3)
 three = record { sfits = omega arith }
@@ -186,11 +187,11 @@ three = record { sfits = omega arith }
 counting_rules : KeepsRules array_world array_use object_name counting_method counts
 counting_rules = record { typed = (record { meets = tt; built = refl; finds = tt }, (record { meets = (equal refl, tt); built = refl; finds = (omega arith, omega arith) }, (record { meets = tt; built = refl; finds = three }, tt))); yields = nothing_wanted refl; boxed = refl; result = inl refl; values = λ x p e. impossible (cc); once = record { once = (tt, tt, λ x o i. i); parameters = tt; fresh = λ x o i. i } }
 
-abbrev counting_right : RightMember array_world array_use main_member
+abbrev counting_right : RightMember array_world array_world array_use main_member
 counting_right = record { definition = counting_method; its_body = counts; found = refl; has_body = refl; rules = counting_rules; names = record { once = tt; fresh = λ x n i. n }; parameters = tt; result_is = refl }
 
-main_linked : (m : Member) → array_use.linked m ≡ true → RightMember array_world array_use m
-main_linked m h = subst (RightMember array_world array_use) (sym (member-same m main_member h)) counting_right
+main_linked : (m : Member) → array_use.linked m ≡ true → RightMember array_world array_world array_use m
+main_linked m h = subst (RightMember array_world array_world array_use) (sym (member-same m main_member h)) counting_right
 
 one_class : (P : ClassDef → Type 0) → P (object_with (counting_method ∷ [])) → (c : ClassDef) → Contains array_world c → P c
 one_class P here c i = ⊎_elim (λ same. subst P same here) (λ none. nothing_in c none) (in_front_or_behind (object_with (counting_method ∷ [])) [] c i)
@@ -215,8 +216,9 @@ divides_nothing LongDivide h = impossible h
 divides_nothing LongRemainder h = impossible h
 divides_nothing _ h = impossible h
 
-pub array_laws : ObjectLaws array_world array_use
+pub array_laws : ObjectLaws array_world array_world array_use
 array_laws = record {
+  typed = λ k. refl;
   received = λ m h. impossible h;
   looked = λ c m h d b. impossible h;
   on_arrays = λ m h made. impossible h;
@@ -246,4 +248,4 @@ counting_linked : (e : EntryPoint) → Contains (initializers once (codes "main"
 counting_linked e i = ⊎_elim (λ same. subst (λ (x : EntryPoint). array_use.linked (initializer_member x) ≡ true) same refl) (λ none. nothing_in e none) (in_front_or_behind main_entry [] e i)
 
 pub length_never_wrong : (n : ℕ) → IsNotWrong (ir_shows array_world once (codes "main") n).end
-length_never_wrong = never_wrong array_world (plain_world array_world (one_class (λ c. keeps_superclass c ≡ true) refl) (one_class (λ c. keeps_hijacked c ≡ true) refl)) array_use array_laws main_linked once (codes "main") counting_linked
+length_never_wrong = never_wrong array_world array_world (plain_world array_world (one_class (λ c. keeps_superclass c ≡ true) refl) (one_class (λ c. keeps_hijacked c ≡ true) refl)) array_use array_laws main_linked once (codes "main") counting_linked

@@ -29,9 +29,9 @@ class_of_kind Short = hijacked_class Int
 class_of_kind t = hijacked_class t
 
 -- a class by which a call on a value of the type of another class is looked up: one that is made below it, or that of a primitive type below it
-pub data IsClassBelow (w : World) (has : Usable) (c : List ℕ) : List ℕ → Type 0 where
-  made_below : (d : List ℕ) → has.made d ≡ true → IsSub w (Class d) (class_type c) → IsClassBelow w has c d
-  kind_below : (o : IrType) (d : List ℕ) → class_of_kind o ≡ Some d → IsSub w o (class_type c) → IsClassBelow w has c d
+pub data IsClassBelow (typing : World) (has : Usable) (c : List ℕ) : List ℕ → Type 0 where
+  made_below : (d : List ℕ) → has.made d ≡ true → IsSub typing (Class d) (class_type c) → IsClassBelow typing has c d
+  kind_below : (o : IrType) (d : List ℕ) → class_of_kind o ≡ Some d → IsSub typing o (class_type c) → IsClassBelow typing has c d
 
 -- such a class stands below, and has a target for the method that can be called
 pub record Answers (w : World) (has : Usable) (c d : List ℕ) (m : MethodName) : Type 0 where
@@ -68,26 +68,33 @@ negative_size = codes "java.lang.NegativeArraySizeException"
 abbrev pub CanRaise : Usable → List ℕ → Type 0
 CanRaise has c = (has.made c ≡ true) × (has.built (member c Constructor with_message) ≡ true)
 
--- Members that run on an object and constructors keep the rules, and what a call of a member runs is its target; a method that can be looked up on the objects of a class has a
+-- the code casts values, writes items of arrays, or calls members on receivers
+pub data TellsClasses (has : Usable) : Type 0 where
+  by_cast : (t : IrType) → has.casts t ≡ true → TellsClasses has
+  by_item : (t : IrType) → can_put has t ≡ true → TellsClasses has
+  by_call : (m : Member) → has.received m ≡ true → TellsClasses has
+
+-- Bodies are typed by the classes of the program where the code tells classes, and by any others where it doesn't. Members that run on an object and constructors keep the rules, and what a call of a member runs is its target; a method that can be looked up on the objects of a class has a
 -- target in each class below it, one that can be called on arrays in the class of all objects, where that is made, and a reflective name by which receivers can be called an answer in each class; no class
 -- that is made is hijacked. A field that can be read has one type, with values, and is an instance field of its class, which stands on the chain of
 -- superclasses of each class that is made below it; no primitive type is below it, nor that of all objects. A static field that can be used has one type, with values, and is one of its class. A class whose one object can be loaded is made,
 -- and so is its constructor. Where the null check can be used, its exception is
 -- made, and so are that of a division whose helper can be used, that of a cast that can be used, and those of the helpers of arrays that can be used. Where arrays can be made,
 -- so is their class by the IR, that of all objects.
-pub record ObjectLaws (w : World) (has : Usable) : Type 0 where
-  pub received : (m : Member) → has.received m ≡ true → RightMember w has m
+pub record ObjectLaws (w typing : World) (has : Usable) : Type 0 where
+  pub typed : TellsClasses has → typing ≡ w
+  pub received : (m : Member) → has.received m ≡ true → RightMember w typing has m
   pub targets : (m : Member) → has.received (has.lookup.target m) ≡ true → IsTargetOf w m (has.lookup.target m)
-  pub looked : (c : List ℕ) (m : MethodName) → has.looked_up c m ≡ true → (d : List ℕ) → IsClassBelow w has c d → Answers w has c d m
+  pub looked : (c : List ℕ) (m : MethodName) → has.looked_up c m ≡ true → (d : List ℕ) → IsClassBelow typing has c d → Answers w has c d m
   pub on_arrays : (m : MethodName) → has.on_arrays m ≡ true → has.made object ≡ true → Answers w has object object m
-  pub reflected : (p : MethodName) → has.reflected p ≡ true → (d : List ℕ) → IsClassBelow w has object d → AnswersByName w has d p
-  pub built : (m : Member) → has.built m ≡ true → RightMember w has m
+  pub reflected : (p : MethodName) → has.reflected p ≡ true → (d : List ℕ) → IsClassBelow typing has object d → AnswersByName w has d p
+  pub built : (m : Member) → has.built m ≡ true → RightMember w typing has m
   pub made : (c : List ℕ) → has.made c ≡ true → is_hijacked c ≡ false
   pub fields : (c f : List ℕ) (t : IrType) → has.field c f t ≡ true → HasValue t × (zeros_in (class_of w c) f ≡ Some (zero_of t))
   pub one_type : (c f : List ℕ) (s t : IrType) → has.field c f s ≡ true → has.field c f t ≡ true → s ≡ t
-  pub holders : (c f : List ℕ) (t : IrType) → has.field c f t ≡ true → (d : List ℕ) → has.made d ≡ true → IsSub w (Class d) (class_type c) → list_any (is_same_text c) (chain_of w d) ≡ true
-  pub strangers : (c f : List ℕ) (t : IrType) → has.field c f t ≡ true → (o : IrType) (h : List ℕ) → hijacked_class o ≡ Some h → IsSub w o (class_type c) → ⊥
-  pub tops : (c f : List ℕ) (t : IrType) → has.field c f t ≡ true → IsSub w (Class object) (class_type c) → ⊥
+  pub holders : (c f : List ℕ) (t : IrType) → has.field c f t ≡ true → (d : List ℕ) → has.made d ≡ true → IsSub typing (Class d) (class_type c) → list_any (is_same_text c) (chain_of w d) ≡ true
+  pub strangers : (c f : List ℕ) (t : IrType) → has.field c f t ≡ true → (o : IrType) (h : List ℕ) → hijacked_class o ≡ Some h → IsSub typing o (class_type c) → ⊥
+  pub tops : (c f : List ℕ) (t : IrType) → has.field c f t ≡ true → IsSub typing (Class object) (class_type c) → ⊥
   pub statics : (c f : List ℕ) (t : IrType) → has_static has c f t ≡ true → HasValue t × (statics_in (class_of w c) f ≡ Some (zero_of t))
   pub one_static : (c f : List ℕ) (s t : IrType) → has_static has c f s ≡ true → has_static has c f t ≡ true → s ≡ t
   pub modules : (c : List ℕ) → has.modules c ≡ true → (has.made c ≡ true) × (has.built (member c Constructor without_parameters) ≡ true)

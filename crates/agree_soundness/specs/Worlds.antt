@@ -48,12 +48,12 @@ WritesInterfaces w d = (b : Name) → Path (IsParent w) d b → (class : ClassDe
 pub record ObjectWorld (w : Classes) (has : Usable) : Type 0 where
   pub kept : AreClassesKept w
   pub acyclic : HasNoCycle w
-  pub received : (m : Member) → has.received m ≡ true → RightMember w has m
+  pub received : (m : Member) → has.received m ≡ true → RightMember w w has m
   pub targets : (m : Member) → has.received (has.lookup.target m) ≡ true → IsTargetOf w m (has.lookup.target m)
   pub looked : (c : Name) (m : MethodName) → has.looked_up c m ≡ true → (d : Name) → IsClassBelow w has c d → Answers w has c d m
   pub on_arrays : (m : MethodName) → has.on_arrays m ≡ true → has.made object ≡ true → Answers w has object object m
   pub reflected : (p : MethodName) → has.reflected p ≡ true → (d : Name) → IsClassBelow w has object d → AnswersByName w has d p
-  pub built : (m : Member) → has.built m ≡ true → RightMember w has m
+  pub built : (m : Member) → has.built m ≡ true → RightMember w w has m
   pub made : (c : Name) → has.made c ≡ true → (is_hijacked c ≡ false) × WritesInterfaces w c
   pub primitives : (h : Name) → is_hijacked h ≡ true → WritesInterfaces w h
   pub fields : (c f : Name) (t : IrType) → has.field c f t ≡ true → HasFields w c × HasValue t × (zeros_in (ir_world.class_of w c) f ≡ Some (zero_of t))

@@ -34,15 +34,15 @@ ghost use Rattle.dispatch_laws.specs.SjWorldLaws.{IsPlain};
 ghost use Rattle.dispatch_laws.specs.Refusals.{HasNoCycle};
 ghost use Rattle.dispatch_laws.specs.Subtypes.{hijacked_class, IsSub};
 
-/// Where the members that can be called keep the rules, and the world has what the laws on objects ask, what a public module shows whose initializers
-/// can be called is wrong at no bound.
+/// Where the members that can be called keep the rules, by classes of which none writes a hijacked class and none stands above `java.lang.Object`, and the world has what the laws on objects ask, what a public module
+/// shows whose initializers can be called is wrong at no bound. The laws ask that these are the classes of the world where casts, items of arrays or calls on receivers tell classes.
 pub fn modules_are_never_wrong()
-    ensures { (w : World) → IsPlain w → (has : Usable) → ObjectLaws w has → ((m : Member) → has.linked m ≡ true → RightMember w has m) → (entries : List EntryPoint) (id : List ℕ) → ((e : EntryPoint) → Contains (initializers entries id) e → has.linked (initializer_member e) ≡ true) → (n : ℕ) → IsNotWrong (ir_shows w entries id n).end }
+    ensures { (w typing : World) → IsPlain typing → (has : Usable) → ObjectLaws w typing has → ((m : Member) → has.linked m ≡ true → RightMember w typing has m) → (entries : List EntryPoint) (id : List ℕ) → ((e : EntryPoint) → Contains (initializers entries id) e → has.linked (initializer_member e) ≡ true) → (n : ℕ) → IsNotWrong (ir_shows w entries id n).end }
 {}
 
 /// Where nothing but static members is used, the laws on objects ask nothing.
 pub fn members_alone_ask_nothing()
-    ensures { (w : World) (linked : Member → Bool) → ObjectLaws w (members_alone linked) }
+    ensures { (w typing : World) (linked : Member → Bool) → ObjectLaws w typing (members_alone linked) }
 {}
 
 /// What is below a class whose instances may have fields, in a world whose classes keep the rules on superclasses and on hijacked classes: a class has it on its
@@ -61,18 +61,18 @@ pub fn classes_with_an_instance_field_have_fields()
 /// The laws on objects hold in a world whose classes keep the local rules and stand on no cycle, where what is made isn't hijacked, what can be read is a field
 /// of a class with fields or a static field of its class, and whatever is written as an interface above these and above the hijacked classes is one.
 pub fn object_worlds_have_the_laws()
-    ensures { (w : Classes) (has : Usable) → ObjectWorld w has → ObjectLaws w has }
+    ensures { (w : Classes) (has : Usable) → ObjectWorld w has → ObjectLaws w w has }
 {}
 
 /// The premises can be met where objects are used: by a world whose `main` makes an object and calls a method on it that gives its field. What it shows is wrong at
 /// no bound.
 pub fn worked_objects()
-    ensures laws { ObjectLaws object_world object_use }
+    ensures laws { ObjectLaws object_world object_world object_use }
     ensures never_wrong { (n : ℕ) → IsNotWrong (ir_shows object_world once (codes "main") n).end }
 {}
 
 /// And where arrays are used: by a world whose `main` asks for the length of one that it makes.
 pub fn worked_arrays()
-    ensures laws { ObjectLaws array_world array_use }
+    ensures laws { ObjectLaws array_world array_world array_use }
     ensures never_wrong { (n : ℕ) → IsNotWrong (ir_shows array_world once (codes "main") n).end }
 {}

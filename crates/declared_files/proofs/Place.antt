@@ -120,7 +120,7 @@ module _ (z : Spread) where
   room = record { each = 5; beyond = suc (longest z.classes) }
 
   abbrev pub place : Place
-  place = emitted_in z.classes z.program z.home z.has room
+  place = emitted_in z.classes z.classes z.program z.home z.has room
 
   module _ (rest : List Item) (run : RunInOrder z.program z.front z.last z.declared rest) (can : Declared z) where
     pub reaches : (f : Name) → Reaches place f

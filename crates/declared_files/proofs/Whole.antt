@@ -34,7 +34,7 @@ module _ (z : Spread) (all : Usable) (entries : List EntryPoint) (id : List ℕ)
   calls = map call_item_of es
 
   names : NamesDiffer (place z)
-  names = emitted_names_differ z.classes z.program z.home z.has (room z)
+  names = emitted_names_differ z.classes z.classes z.program z.home z.has (room z)
 
   runs : RunInOrder z.program z.front z.last z.declared calls
   runs = record { good = ap (list_all (is_good_file z.program)) (sym public.order) ∙ public.good; once = ap are_distinct (sym public.order) ∙ (files_run_last z.program z.last).once; items = public.items }
@@ -52,4 +52,4 @@ module _ (z : Spread) (all : Usable) (entries : List EntryPoint) (id : List ℕ)
   alike d n k h = subst (λ fs. Sim d ◌≡◌ (ir_showing.ir_shows z.classes entries id n) (order_shows (place z) z.last (reaches z calls runs can z.last) agree z.front z.declared es runs.good runs.items tops.front tops.end tops.runs tops.runs_last k fs)) (sym order_is) (files_alike (place z) z.last (reaches z calls runs can z.last) agree z.front z.declared es runs.good runs.items tops.front tops.end tops.runs tops.runs_last (begun z calls runs can tops.end tops.hold tops.made) (same_begins z calls runs can tops.end tops.hold tops.made) public.linked d n k h)
 
   pub files_agree : Agree (ir_showing.ir_shows z.classes entries id) (js_showing.js_shows z.program id)
-  files_agree = agree-from_sim (room z) (ir_showing.ir_shows z.classes entries id) (js_showing.js_shows z.program id) alike (never_wrong z.classes plain all laws.objects laws.linked entries id (λ e c. (laws.among z.last).tops (a_function (initializer_member e)) (public.linked e c)))
+  files_agree = agree-from_sim (room z) (ir_showing.ir_shows z.classes entries id) (js_showing.js_shows z.program id) alike (never_wrong z.classes z.classes plain all laws.objects laws.linked entries id (λ e c. (laws.among z.last).tops (a_function (initializer_member e)) (public.linked e c)))

@@ -126,19 +126,19 @@ field_type = record { field = its_field; is_field = record { class = worked.its_
 main_rules : KeepsRules object_world main_use object_name main_method gets
 main_rules = record { typed = (record { meets = (tt, refl, equal refl, tt); built = refl; finds = tt }, (record { meets = (refl, tt); built = refl; finds = tt }, tt), tt); yields = nothing_wanted refl; boxed = refl; result = inl refl; values = λ x p e. impossible (cc); once = record { once = (tt, tt, λ x o i. i); parameters = tt; fresh = λ x o i. i } }
 
-abbrev main_right : RightMember object_world main_use main_member
+abbrev main_right : RightMember object_world object_world main_use main_member
 main_right = record { definition = main_method; its_body = gets; found = refl; has_body = refl; rules = main_rules; names = record { once = tt; fresh = λ x n i. n }; parameters = tt; result_is = refl }
 
 get_rules : KeepsRules object_world class_use class_name get_method gets_field
 get_rules = record { typed = (record { meets = (equal refl, field_type); built = refl; finds = tt }, record { meets = tt; built = refl; finds = (tt, refl) }); yields = fitting (equal refl); boxed = refl; result = inr refl; values = λ x p e. impossible (cc); once = record { once = tt; parameters = tt; fresh = λ x o i. i } }
 
-abbrev get_right : RightMember object_world class_use (member class_name Private get_name)
+abbrev get_right : RightMember object_world object_world class_use (member class_name Private get_name)
 get_right = record { definition = get_method; its_body = gets_field; found = refl; has_body = refl; rules = get_rules; names = record { once = tt; fresh = λ x n i. n }; parameters = tt; result_is = refl }
 
 init_rules : KeepsRules object_world class_use class_name init_method (skip nowhere)
 init_rules = record { typed = record { meets = tt; built = refl; finds = tt }; yields = nothing_wanted refl; boxed = refl; result = inl refl; values = λ x p e. impossible (cc); once = record { once = tt; parameters = tt; fresh = λ x o i. i } }
 
-abbrev init_right : RightMember object_world class_use (member class_name Constructor init_name)
+abbrev init_right : RightMember object_world object_world class_use (member class_name Constructor init_name)
 init_right = record { definition = init_method; its_body = skip nowhere; found = refl; has_body = refl; rules = init_rules; names = record { once = tt; fresh = λ x n i. n }; parameters = tt; result_is = refl }
 
 -- where each item stands
@@ -386,7 +386,7 @@ pub lawful : IsLawful spread object_use
 lawful = record {
   among = by_file (λ f u. IsAmong u object_use) (record { tops = main_among; made = λ c h. subst (λ k. object_use.made k ≡ true) (is-equal class_name c h) refl; fields = λ c g t h. impossible h; targets = λ m. refl }) (record { tops = class_among; made = λ c h. subst (λ k. object_use.made k ≡ true) (is-equal object_name c h) refl; fields = λ c g t h. h; targets = λ m. refl }) (λ f. record { tops = none_among; made = λ c h. impossible h; fields = λ c g t h. impossible h; targets = λ m. refl });
   objects = object_laws;
-  linked = λ m h. subst (RightMember object_world object_use) (sym (member-same m main_member h)) main_right_at_all;
+  linked = λ m h. subst (RightMember object_world object_world object_use) (sym (member-same m main_member h)) main_right_at_all;
 }
 
 pub is_public : IsPublic spread (codes "main") once

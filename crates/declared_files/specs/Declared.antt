@@ -86,7 +86,7 @@ Stands z t i = Contains (all_items z) (placed (z.home t) i)
 
 -- a member with a body that keeps the rules by what its file can use, which runs so, and its function
 pub record FunctionDeclared (z : Spread) (t : Top) (r : Running) (m : MemberName) : Type 0 where
-  pub right : RightMember z.classes (z.has (z.home t)) m
+  pub right : RightMember z.classes z.classes (z.has (z.home t)) m
   pub runs : running right.definition.namespace ≡ r
   pub function : Stands z t (member_piece (z.has (z.home t)).lookup m (desugared_member right.definition right.its_body)).item
 
@@ -367,5 +367,5 @@ pub record IsPublic (z : Spread) (id : List ℕ) (es : List EntryPoint) : Type 0
 -- what the code of the files can use is among this; of it the classes have what the laws on objects ask, and members that keep the rules by it
 pub record IsLawful (z : Spread) (all : Usable) : Type 0 where
   pub among : (f : Name) → IsAmong (z.has f) all
-  pub objects : ObjectLaws z.classes all
-  pub linked : (m : MemberName) → all.linked m ≡ true → RightMember z.classes all m
+  pub objects : ObjectLaws z.classes z.classes all
+  pub linked : (m : MemberName) → all.linked m ≡ true → RightMember z.classes z.classes all m

@@ -197,7 +197,7 @@ module _ (entries : List EntryPoint) (files : List SourceFile) (l : Linked) (all
 
   -- a member whose function stands in this file
   record CodeIn (f : Name) (r : Running) (m : Member) : Type 0 where
-    right : RightMember w (restricted there (uses_in modules ps f)) m
+    right : RightMember w w (restricted there (uses_in modules ps f)) m
     runs : running right.definition.namespace ≡ r
     function : Contains (all_items z) (placed f (piece_of_member w (record { member = m; definition = right.definition; its_body = right.its_body })).item)
 

@@ -54,7 +54,7 @@ module _ (entries : List EntryPoint) (files : List SourceFile) (w : Classes) (id
         let are_live = all_chosen (IsLive w facts) (names_of w) lives_there live in
         let are_helpers = all_chosen IsFine every_helper (λ h fine. stands_in_table h) helpers in
         let run = running.run entries files w all facts bytes a bodies exact live.those are_live helpers.those are_helpers in
-        never_wrong w (judged_plain w (judged entries files w bytes a)) (running.has entries files w all facts bytes a bodies exact live.those are_live helpers.those are_helpers)
+        never_wrong w w (judged_plain w (judged entries files w bytes a)) (running.has entries files w all facts bytes a bodies exact live.those are_live helpers.those are_helpers)
         (laws_of w (running.has entries files w all facts bytes a bodies exact live.those are_live helpers.those are_helpers) (carry entries files w facts all live.those helpers.those written bytes a bodies run))
         (link_right entries files w facts all live.those helpers.those written bytes a bodies run)
         entries id (λ e i. running.starts entries files w all facts bytes a bodies exact live.those are_live helpers.those are_helpers e (initializers_among id entries e i)) n

@@ -61,7 +61,7 @@ module _ (entries : List EntryPoint) (files : List SourceFile) (w : Classes) (by
       pub kept : KeepsRules w has its.owner.name e.definition e.its_body
       kept = rules_kept w has its.owner e.definition e.its_body (bodies.found e i).has_body (class-keeps its.owner owner_judged.unbroken e.definition its.listed) (a.typed e.member e.definition (needed w entries all bodies e i) (defined w e.member e.definition (bodies.found e i).found)) built body (result_is e.definition.name.result e.definition.result types.1) (parameters_have_values e.definition.params e.definition.name.params types.0 method.0.0.params)
 
-      abbrev pub right_method : RightMember w has e.member
+      abbrev pub right_method : RightMember w w has e.member
       right_method = record {
         definition = e.definition;
         its_body = e.its_body;
@@ -73,5 +73,5 @@ module _ (entries : List EntryPoint) (files : List SourceFile) (w : Classes) (by
         result_is = subst (λ (m : MethodName). e.definition.result ≡ call_type m.result) (sym its.named) types.1;
       }
 
-    pub right_member : (m : Member) (f : HasFunction all m) → is_built_with has f.method.definition f.method.its_body ≡ true → RightMember w has m
-    right_member m f built = subst (λ (k : Member). RightMember w has k) f.is (right_method f.method f.listed built)
+    pub right_member : (m : Member) (f : HasFunction all m) → is_built_with has f.method.definition f.method.its_body ≡ true → RightMember w w has m
+    right_member m f built = subst (λ (k : Member). RightMember w w has k) f.is (right_method f.method f.listed built)

@@ -39,7 +39,7 @@ use Rattle.sj_world.specs.Known.{Name, Classes, class_of}
 use Rattle.sj_world.specs.declared.facts.Fact.{Fact}
 
 -- a member that is written and has a method keeps the rules, of whatever members it is asked
-pub member_right : (entries : List EntryPoint) (files : List SourceFile) (w : Classes) (facts : List Fact) (all : List EmittedMethod) (live : List Name) (helpers : List Helper) (written : List Name) → ((file : SourceFile) → Contains files file → AreBytes file.bytes) → IsAccepted entries files w → AreBodies w entries all → CanRun w entries facts all live helpers written → (test : Member → Bool) (m : Member) → (test m && (is_among written m.class && has_function all m)) ≡ true → RightMember w (used_of w facts all live helpers written) m
+pub member_right : (entries : List EntryPoint) (files : List SourceFile) (w : Classes) (facts : List Fact) (all : List EmittedMethod) (live : List Name) (helpers : List Helper) (written : List Name) → ((file : SourceFile) → Contains files file → AreBytes file.bytes) → IsAccepted entries files w → AreBodies w entries all → CanRun w entries facts all live helpers written → (test : Member → Bool) (m : Member) → (test m && (is_among written m.class && has_function all m)) ≡ true → RightMember w w (used_of w facts all live helpers written) m
 member_right entries files w facts all live helpers written bytes a bodies run test m h =
     let p = and_parts (test m) (is_among written m.class && has_function all m) h in
     let q = and_parts (is_among written m.class) (has_function all m) p.1 in

@@ -32,4 +32,4 @@ AcceptedFoldersLinkRightMembers = (entries : List EntryPoint) (files : List Sour
     → IsAccepted entries files w
     → AreBodies w entries all
     → CanRun w entries facts all live helpers written
-    → (m : Member) → (used_of w facts all live helpers written).linked m ≡ true → RightMember w (used_of w facts all live helpers written) m
+    → (m : Member) → (used_of w facts all live helpers written).linked m ≡ true → RightMember w w (used_of w facts all live helpers written) m

@@ -3,4 +3,4 @@ use Rattle.agree_calls.proofs.ObjectLevels as levels
 use Rattle.agree_calls.proofs.calls_with_objects_agree.Goals as goal
 
 pub returns : goal.returns
-returns c p plain = levels.calls_agree p plain (in_world p.classes plain)
+returns c p plain typed = levels.calls_agree p plain (in_world p.typing typed)
