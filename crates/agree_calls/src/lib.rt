@@ -49,7 +49,7 @@ pub fn calls_agree()
     ensures { (p : Place) → IsPlain p.typing → NamesDiffer p → ((f : Name) (m : Member) → (p.has f).linked m ≡ true → Linked p m) → CallsAlone p → (f : Name) (m : Member) → (p.has f).linked m ≡ true → (w : World) (vs : List ir.Value) (xs : List js.Value) (env : ir.Env) (s : ir.State) (u : js.State) → SameValues w (types_referred m.method.params) vs xs → SameState p w s u → CallsAgree p m w vs xs env s u }
 {}
 
-/// The same where code makes objects and uses them, the classes of the IR being as those by which bodies are typed: let what the code of each file can use be there, each with the conditions that its kind asks for,
+/// The same where code makes objects and uses them: let none of the classes of the IR write a hijacked class or stand above `java.lang.Object` either, let what the code of each file can use be there, each with the conditions that its kind asks for,
 /// and let a call have the units that a null check and the constructors of a chain take beyond those of the IR. Then a call of a static member by
 /// the IR and a call of its function agree: the objects that they make stand for each other, and so does what they answer, throw and print.
 pub fn calls_with_objects_agree()

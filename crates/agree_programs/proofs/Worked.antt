@@ -18,6 +18,7 @@ use Rattle.agree_calls.specs.Files.{program_with}
 use Rattle.agree_soundness.proofs.Lists.{nothing_in, in_front_or_behind}
 use Rattle.agree_programs.specs.Linked.{IsRight, functions_of}
 use Rattle.agree_soundness.specs.Methods.{scene_of, KeepsRules}
+use Rattle.agree_soundness.specs.World.{World}
 use Rattle.agree_soundness.specs.SjWorldLaws.{IsPlain}
 use Rattle.agree_soundness.specs.Subtypes.{equal}
 use Rattle.agree_soundness.proofs.Plain.{plain_world}
@@ -34,12 +35,12 @@ fits n h = record { sfits = h }
 abbrev linked : Usable
 linked = functions_of worked_methods
 
-number_here : (s : Scene) (n : ℕ) → n < 2 ^ 31 → Here worked_world linked s (int_literal nowhere (pos n))
-number_here s n h = record { meets = tt; built = refl; finds = fits n h }
+number_here : (typing : World) (s : Scene) (n : ℕ) → n < 2 ^ 31 → Here typing linked s (int_literal nowhere (pos n))
+number_here typing s n h = record { meets = tt; built = refl; finds = fits n h }
 
-main_rules : KeepsRules worked_world linked object_name main_method tests_it
-main_rules = record {
-  typed = (record { meets = (equal refl, nothing_wanted refl, nothing_wanted refl); built = refl; finds = tt }, (record { meets = (equal refl, equal refl); built = refl; finds = tt }, (record { meets = (tt, refl, (equal refl, tt)); built = refl; finds = (refl, tt) }, (number_here (scene_of object_name main_method tests_it) 1 (omega arith), tt)), number_here (scene_of object_name main_method tests_it) 27 (omega arith)), (record { meets = equal refl; built = refl; finds = tt }, record { meets = tt; built = refl; finds = tt }), (record { meets = equal refl; built = refl; finds = tt }, record { meets = tt; built = refl; finds = tt }));
+main_rules : (typing : World) → KeepsRules typing linked object_name main_method tests_it
+main_rules typing = record {
+  typed = (record { meets = (equal refl, nothing_wanted refl, nothing_wanted refl); built = refl; finds = tt }, (record { meets = (equal refl, equal refl); built = refl; finds = tt }, (record { meets = (tt, refl, (equal refl, tt)); built = refl; finds = (refl, tt) }, (number_here typing (scene_of object_name main_method tests_it) 1 (omega arith), tt)), number_here typing (scene_of object_name main_method tests_it) 27 (omega arith)), (record { meets = equal refl; built = refl; finds = tt }, record { meets = tt; built = refl; finds = tt }), (record { meets = equal refl; built = refl; finds = tt }, record { meets = tt; built = refl; finds = tt }));
   yields = nothing_wanted refl;
   boxed = refl;
   result = inl refl;
@@ -53,8 +54,8 @@ p_local = record { local = record { name = codes "p"; «mutable» = true; tpe = 
 p_variable : IsVariable (scene_of object_name tripling_method triples) (codes "p") Int
 p_variable = record { local = record { name = codes "p"; «mutable» = true; tpe = Int }; is = refl; type_is = refl; «mutable» = refl }
 
-p_here : Here worked_world linked (scene_of object_name tripling_method triples) (var_ref nowhere (codes "p") Int)
-p_here = record { meets = tt; built = refl; finds = p_local }
+p_here : (typing : World) → Here typing linked (scene_of object_name tripling_method triples) (var_ref nowhere (codes "p") Int)
+p_here typing = record { meets = tt; built = refl; finds = p_local }
 
 only_parameter : (x : List ℕ) (p : ParamDef) → local_of tripling_method.params x ≡ Some p → HasValue p.tpe
 only_parameter x p e = go (pointwise nat_eq x (codes "p")) e
@@ -66,9 +67,9 @@ only_parameter x p e = go (pointwise nat_eq x (codes "p")) e
 no_local : (x : List ℕ) → Own triples x → ⊥
 no_local x o = ⊎_elim (λ i. ⊎_elim (λ j. ⊎_elim (λ k. k) (λ k. k) j) (λ j. ⊎_elim (λ k. k) (λ k. k) j) i) (λ i. ⊎_elim (λ k. k) (λ k. k) i) o
 
-tripling_rules : KeepsRules worked_world linked object_name tripling_method triples
-tripling_rules = record {
-  typed = ((record { meets = equal refl; built = refl; finds = tt }, (record { meets = (equal refl, equal refl); built = refl; finds = tt }, p_here, number_here (scene_of object_name tripling_method triples) 10 (omega arith)), (record { meets = (tt, equal refl); built = refl; finds = p_variable }, (record { meets = (equal refl, equal refl); built = refl; finds = tt }, p_here, number_here (scene_of object_name tripling_method triples) 3 (omega arith)))), (λ x d o. d), p_here);
+tripling_rules : (typing : World) → KeepsRules typing linked object_name tripling_method triples
+tripling_rules typing = record {
+  typed = ((record { meets = equal refl; built = refl; finds = tt }, (record { meets = (equal refl, equal refl); built = refl; finds = tt }, p_here typing, number_here typing (scene_of object_name tripling_method triples) 10 (omega arith)), (record { meets = (tt, equal refl); built = refl; finds = p_variable }, (record { meets = (equal refl, equal refl); built = refl; finds = tt }, p_here typing, number_here typing (scene_of object_name tripling_method triples) 3 (omega arith)))), (λ x d o. d), p_here typing);
   yields = fitting (equal refl);
   boxed = refl;
   result = inr refl;
@@ -76,14 +77,14 @@ tripling_rules = record {
   once = record { once = (((tt, tt, λ x o k. k), ((tt, tt, λ x o k. k)), λ x o k. ⊎_elim (λ i. i) (λ i. i) k), (tt, tt, λ x o k. k), λ x o k. ⊎_elim (λ i. i) (λ i. i) k); parameters = ((λ i. i), tt); fresh = λ x o i. no_local x o };
 }
 
-pub main_right : IsRight worked_world worked_world worked_methods (emitted main_method tests_it)
-main_right = record { found = refl; has_body = refl; parameters = tt; result_is = refl; rules = main_rules; names = record { once = tt; fresh = λ x n i. n } }
+pub main_right : (typing : World) → IsRight worked_world typing worked_methods (emitted main_method tests_it)
+main_right typing = record { found = refl; has_body = refl; parameters = tt; result_is = refl; rules = main_rules typing; names = record { once = tt; fresh = λ x n i. n } }
 
-pub tripling_right : IsRight worked_world worked_world worked_methods (emitted tripling_method triples)
-tripling_right = record { found = refl; has_body = refl; parameters = (refl, tt); result_is = refl; rules = tripling_rules; names = record { once = tt; fresh = λ x n i. n } }
+pub tripling_right : (typing : World) → IsRight worked_world typing worked_methods (emitted tripling_method triples)
+tripling_right typing = record { found = refl; has_body = refl; parameters = (refl, tt); result_is = refl; rules = tripling_rules typing; names = record { once = tt; fresh = λ x n i. n } }
 
-each_right : (e : EmittedMethod) → Contains worked_methods e → IsRight worked_world worked_world worked_methods e
-each_right e h = ⊎_elim (λ same. subst (IsRight worked_world worked_world worked_methods) same main_right) (λ later. ⊎_elim (λ same. subst (IsRight worked_world worked_world worked_methods) same tripling_right) (λ none. nothing_in e none) (in_front_or_behind (emitted tripling_method triples) [] e later)) (in_front_or_behind (emitted main_method tests_it) (emitted tripling_method triples ∷ []) e h)
+each_right : (typing : World) (e : EmittedMethod) → Contains worked_methods e → IsRight worked_world typing worked_methods e
+each_right typing e h = ⊎_elim (λ same. subst (IsRight worked_world typing worked_methods) same (main_right typing)) (λ later. ⊎_elim (λ same. subst (IsRight worked_world typing worked_methods) same (tripling_right typing)) (λ none. nothing_in e none) (in_front_or_behind (emitted tripling_method triples) [] e later)) (in_front_or_behind (emitted main_method tests_it) (emitted tripling_method triples ∷ []) e h)
 
 pub worked_plain : IsPlain worked_world
 worked_plain = plain_world worked_world (λ c i. only c (λ (d : ClassDef). keeps_superclass d ≡ true) refl i) (λ c i. only c (λ (d : ClassDef). keeps_hijacked d ≡ true) refl i)
@@ -92,4 +93,4 @@ worked_plain = plain_world worked_world (λ c i. only c (λ (d : ClassDef). keep
     only c P h i = ⊎_elim (λ same. subst P same h) (λ none. nothing_in c none) (in_front_or_behind (object_with (main_method ∷ tripling_method ∷ [])) [] c i)
 
 pub worked_agrees : Agree (ir_shows worked_world once (codes "main")) (js_shows (program_with (codes "main") worked_methods once) (codes "main"))
-worked_agrees = program_agrees worked_world worked_world worked_plain once (codes "main") worked_methods refl each_right refl
+worked_agrees = program_agrees worked_world worked_world worked_plain once (codes "main") worked_methods refl (each_right worked_world) refl

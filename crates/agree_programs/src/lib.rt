@@ -59,3 +59,8 @@ pub fn bodies_without_classes_agree()
 pub fn worked_bodies_agree()
     ensures { Agree (ir_shows worked_world once (codes "main")) (js_shows (program_with (codes "main") worked_methods once) (codes "main")) }
 {}
+
+/// And so can those of the theorem for bodies without classes: the same two methods keep the rules by none.
+pub fn worked_bodies_need_no_classes()
+    ensures { (e : EmittedMethod) → Contains worked_methods e → IsWhole worked_world [] worked_methods e }
+{}

@@ -5,7 +5,7 @@ use Rattle.agree_early_errors.proofs.Lists.{at_front, further_on}
 use Rattle.agree_early_errors.proofs.RulesGive.{no_division}
 use Rattle.agree_soundness.proofs.Right.{Comes, comes_then, CameRight, gave, left, threw, ObjectTyped, typed_object, ArrayTyped, typed_array, HoldsType, holds_type, zero_type, null_type, HeapTyped, call_right, bodies_right, none_left, nothing_there, no_label, no_object, Ready}
 use Rattle.agree_soundness.proofs.Values.{Classes, HasType, has_type, of_undefined, of_null, of_boolean, of_char, of_long, of_byte, of_short, of_int, of_text, of_object, of_array, of_any_array}
-use Rattle.agree_soundness.specs.Laws.{TellsClasses, by_cast, by_item, by_call, ObjectLaws}
+use Rattle.agree_soundness.specs.Laws.{NeedsClasses, by_cast, by_item, by_call, ObjectLaws}
 use Rattle.agree_soundness.specs.Rules.{RightMember}
 use Rattle.agree_early_errors.specs.Typing.{Scene}
 use Rattle.agree_early_errors.specs.Built.{Usable, members_alone}
@@ -89,14 +89,14 @@ module _ (w typing : World) (plain : IsPlain typing) (has : Usable) (laws : Obje
   never_wrong entries id l n = fine-not_wrong (ir_showing.ir_shows w entries id n).end (all_fine n (ir_showing.initializers entries id) l no_classes (opening w) (record { stored = λ i t e. absurd (no_class t e); made = λ i t e. absurd (no_class t e); statics = λ c f t h. let its = laws.statics c f t h in subst (λ o. HoldsType w typing (in_world typing plain) has no_classes o t) (sym its.1) (holds_type (zero_of t) t (zero_type w typing (in_world typing plain) has no_classes t its.0)); cells = λ c h. null_type w typing (in_world typing plain) has no_classes c }))
 
 -- where nothing but static members is used, nothing is asked of the world
-nothing_told : (w typing : World) (linked : Member → Bool) → TellsClasses (members_alone linked) → typing ≡ w
-nothing_told w typing linked (by_cast t h) = impossible h
-nothing_told w typing linked (by_item t h) = impossible h
-nothing_told w typing linked (by_call m h) = impossible h
+nothing_needed : (w typing : World) (linked : Member → Bool) → NeedsClasses (members_alone linked) → typing ≡ w
+nothing_needed w typing linked (by_cast t h) = impossible h
+nothing_needed w typing linked (by_item t h) = impossible h
+nothing_needed w typing linked (by_call m h) = impossible h
 
 pub nothing_asked : (w typing : World) (linked : Member → Bool) → ObjectLaws w typing (members_alone linked)
 nothing_asked w typing linked = record {
-  typed = nothing_told w typing linked;
+  typed = nothing_needed w typing linked;
   received = λ m h. impossible h;
   targets = λ m h. impossible h;
   looked = λ c m h d b. impossible h;

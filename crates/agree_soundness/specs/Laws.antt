@@ -68,13 +68,13 @@ negative_size = codes "java.lang.NegativeArraySizeException"
 abbrev pub CanRaise : Usable → List ℕ → Type 0
 CanRaise has c = (has.made c ≡ true) × (has.built (member c Constructor with_message) ≡ true)
 
--- the code casts values, writes items of arrays, or calls members on receivers
-pub data TellsClasses (has : Usable) : Type 0 where
-  by_cast : (t : IrType) → has.casts t ≡ true → TellsClasses has
-  by_item : (t : IrType) → can_put has t ≡ true → TellsClasses has
-  by_call : (m : Member) → has.received m ≡ true → TellsClasses has
+-- the code casts values, writes items of arrays, or calls members on receivers: what it does rests on which class is below which
+pub data NeedsClasses (has : Usable) : Type 0 where
+  by_cast : (t : IrType) → has.casts t ≡ true → NeedsClasses has
+  by_item : (t : IrType) → can_put has t ≡ true → NeedsClasses has
+  by_call : (m : Member) → has.received m ≡ true → NeedsClasses has
 
--- Bodies are typed by the classes of the program where the code tells classes, and by any others where it doesn't. Members that run on an object and constructors keep the rules, and what a call of a member runs is its target; a method that can be looked up on the objects of a class has a
+-- Bodies are typed by the classes of the program where the code needs them, and by any others where it doesn't. Members that run on an object and constructors keep the rules, and what a call of a member runs is its target; a method that can be looked up on the objects of a class has a
 -- target in each class below it, one that can be called on arrays in the class of all objects, where that is made, and a reflective name by which receivers can be called an answer in each class; no class
 -- that is made is hijacked. A field that can be read has one type, with values, and is an instance field of its class, which stands on the chain of
 -- superclasses of each class that is made below it; no primitive type is below it, nor that of all objects. A static field that can be used has one type, with values, and is one of its class. A class whose one object can be loaded is made,
@@ -82,7 +82,7 @@ pub data TellsClasses (has : Usable) : Type 0 where
 -- made, and so are that of a division whose helper can be used, that of a cast that can be used, and those of the helpers of arrays that can be used. Where arrays can be made,
 -- so is their class by the IR, that of all objects.
 pub record ObjectLaws (w typing : World) (has : Usable) : Type 0 where
-  pub typed : TellsClasses has → typing ≡ w
+  pub typed : NeedsClasses has → typing ≡ w
   pub received : (m : Member) → has.received m ≡ true → RightMember w typing has m
   pub targets : (m : Member) → has.received (has.lookup.target m) ≡ true → IsTargetOf w m (has.lookup.target m)
   pub looked : (c : List ℕ) (m : MethodName) → has.looked_up c m ≡ true → (d : List ℕ) → IsClassBelow typing has c d → Answers w has c d m

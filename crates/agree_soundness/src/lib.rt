@@ -35,7 +35,7 @@ ghost use Rattle.dispatch_laws.specs.Refusals.{HasNoCycle};
 ghost use Rattle.dispatch_laws.specs.Subtypes.{hijacked_class, IsSub};
 
 /// Where the members that can be called keep the rules, by classes of which none writes a hijacked class and none stands above `java.lang.Object`, and the world has what the laws on objects ask, what a public module
-/// shows whose initializers can be called is wrong at no bound. The laws ask that these are the classes of the world where casts, items of arrays or calls on receivers tell classes.
+/// shows whose initializers can be called is wrong at no bound. The laws ask that these are the classes of the world where code casts, writes items of arrays or calls members on receivers.
 pub fn modules_are_never_wrong()
     ensures { (w typing : World) → IsPlain typing → (has : Usable) → ObjectLaws w typing has → ((m : Member) → has.linked m ≡ true → RightMember w typing has m) → (entries : List EntryPoint) (id : List ℕ) → ((e : EntryPoint) → Contains (initializers entries id) e → has.linked (initializer_member e) ≡ true) → (n : ℕ) → IsNotWrong (ir_shows w entries id n).end }
 {}
