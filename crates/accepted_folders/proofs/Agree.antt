@@ -6,7 +6,7 @@ use Rattle.accepted_folders.proofs.Members.{defined}
 use Rattle.accepted_folders.proofs.Worlds.{judged}
 
 pub agree : AcceptedFilesAgree
-agree entries files w fs id bytes are_bytes a bodies built spelled = files_agree w entries id fs bytes (judged entries files w are_bytes a) (λ e i. record {
+agree entries files w fs id bytes a bodies built spelled = files_agree w entries id fs bytes (judged entries files w a) (λ e i. record {
   found = (bodies.found e i).found;
   has_body = (bodies.found e i).has_body;
   typed = a.typed e.member e.definition (needed w entries fs bodies e i) (defined w e.member e.definition (bodies.found e i).found);

@@ -23,9 +23,9 @@ use Rattle.accepted_folders.specs.Objects.{AcceptedWorldsAreKept, AcceptedWorlds
 use Rattle.accepted_folders.proofs.Worlds.{judged}
 
 pub kept : AcceptedWorldsAreKept
-kept entries files w bytes a = record {
-  superclass = λ c i. keeps-superclass c (judged entries files w bytes a c i).unbroken;
-  hijacked = λ c i. keeps-hijacked c (judged entries files w bytes a c i).unbroken;
+kept entries files w a = record {
+  superclass = λ c i. keeps-superclass c (judged entries files w a c i).unbroken;
+  hijacked = λ c i. keeps-hijacked c (judged entries files w a c i).unbroken;
 }
 
 no_interface : (k : ClassKind) → is_interface k ≡ false → k ≡ Interface → ⊥

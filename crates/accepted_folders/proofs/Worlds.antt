@@ -5,12 +5,10 @@ use Rattle.std.proofs.Math.Dec.{ltb}
 use Rattle.std.proofs.lemmas.Bool.{ltb-true, ltb-false}
 use Rattle.std.proofs.lemmas.Option.{slice_get-get_or, slice_get-map}
 use Rattle.std.specs.Prelude.{option_map}
-use Rattle.agree_classes.specs.Listed.{AreBytes}
 use Rattle.sj_names.specs.declared.entry_points.EntryPoint.{EntryPoint}
 use Rattle.sj_names.specs.declared.folders.SourceFile.{SourceFile}
 use Rattle.sj_trees.specs.declared.classes.ClassDef.{ClassDef}
 use Rattle.agree_classes.specs.Judged.{IsJudgedClass}
-use Rattle.sj_world.proofs.Searches.{contains_at}
 use Rattle.sj_world.specs.Known.{Classes}
 use Rattle.sj_world.specs.Refusals.{IsWorldOf}
 use Rattle.folder_judging_spec.specs.Reachable.{Unresolved}
@@ -61,12 +59,12 @@ pub have_worlds : AcceptedFoldersHaveAWorld
 have_worlds entries files = (by_verdict entries files accepted refl, λ h. from_world entries files h.0 h.1)
 
 -- each class of an accepted folder was read from a file, and breaks none of the local rules
-pub judged : (entries : List EntryPoint) (files : List SourceFile) (w : Classes) → ((file : SourceFile) → Contains files file → AreBytes file.bytes) → IsAccepted entries files w → (c : ClassDef) → Contains w c → IsJudgedClass c
-judged entries files w bytes a c h =
+pub judged : (entries : List EntryPoint) (files : List SourceFile) (w : Classes) → IsAccepted entries files w → (c : ClassDef) → Contains w c → IsJudgedClass c
+judged entries files w a c h =
     let among : Contains a.classes c = Contains-permutation w a.classes c (IsPermutation-sym a.classes w a.world.sorted.same) h in
     let at : slice_get a.classes among.0 ≡ Some c = slice_get-get_or a.classes among.0 c among.1 ∙ ap Some among.2 in
     let s = standing files a.classes among.0 c (sym a.read.whole) at in
-    record { bytes = s.item.bytes; are_bytes = bytes s.item (contains_at files among.0 s.item s.at); read = a.read.each among.0 s.item c s.at at; unbroken = a.kept c among }
+    record { bytes = s.item.bytes; read = a.read.each among.0 s.item c s.at at; unbroken = a.kept c among }
 
 -- and its file has at most 16 MiB
 pub record IsSmall (c : ClassDef) : Type 0 where

@@ -1,7 +1,6 @@
 -- Laws of folders that are accepted.
 use Rattle.std.specs.Prelude.{◌≡◌, ◌↔◌, ℕ, true, List, [], ◌∷◌}
 use Rattle.std.specs.List.{Contains}
-use Rattle.agree_classes.specs.Listed.{AreBytes}
 use Rattle.ir_mean.specs.Shows.{initializers}
 use Rattle.js_mean.specs.Shows.{file_of}
 use Rattle.js_tree.specs.Spelling.{Spells}
@@ -38,7 +37,6 @@ InitializersAreAmongBodies = (w : Classes) (entries : List EntryPoint) (fs : Lis
 -- folder what the folder's classes show
 abbrev pub AcceptedFilesAgree : Type 0
 AcceptedFilesAgree = (entries : List EntryPoint) (files : List SourceFile) (w : Classes) (fs : List EmittedMethod) (id bytes : List ℕ)
-    → ((file : SourceFile) → Contains files file → AreBytes file.bytes)
     → IsAccepted entries files w
     → AreBodies w entries fs
     → ((e : EmittedMethod) → Contains fs e → is_built_body e.definition e.its_body ≡ true)

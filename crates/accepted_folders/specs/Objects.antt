@@ -1,8 +1,6 @@
 -- What the laws on objects ask of a world, in the world of an accepted folder.
 use Rattle.std.specs.Prelude.{List}
-use Rattle.std.specs.List.{Contains}
 use Rattle.agree_classes.specs.Worlds.{AreClassesKept, WritesInterfaces}
-use Rattle.agree_classes.specs.Listed.{AreBytes}
 use Rattle.folder_judging_spec.specs.Reachable.{Reachable}
 use Rattle.folder_judging_spec.specs.Refusals.{HasNeededParents}
 use Rattle.sj_names.specs.declared.entry_points.EntryPoint.{EntryPoint}
@@ -12,7 +10,7 @@ use Rattle.accepted_folders.specs.Accepted.{IsAccepted}
 
 -- each class of an accepted folder of bytes keeps the rules on superclasses and on hijacked classes
 abbrev pub AcceptedWorldsAreKept : Type 0
-AcceptedWorldsAreKept = (entries : List EntryPoint) (files : List SourceFile) (w : Classes) → ((file : SourceFile) → Contains files file → AreBytes file.bytes) → IsAccepted entries files w → AreClassesKept w
+AcceptedWorldsAreKept = (entries : List EntryPoint) (files : List SourceFile) (w : Classes) → IsAccepted entries files w → AreClassesKept w
 
 -- whatever is written as an interface by a class that is needed, by a hijacked class, or by one above it, is one
 abbrev pub AcceptedWorldsWriteInterfaces : Type 0

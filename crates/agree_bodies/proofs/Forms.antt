@@ -130,10 +130,6 @@ module _ (z : Setting) (lawful : Lawful z) where
       go true e = let same : y ≡ x = is-equal y x e in inl (same, sound.alone x i t (subst (λ n. c.scope n i) same h) inside)
       go false e = inr ((λ k. impossible (sym (subst (λ n. pointwise nat_eq y n ≡ false) (sym k) e) ∙ equals y)), h)
 
-  -- what is done with the value of an expression, and nothing more
-  define_is : (x : List ℕ) (v : ir.Value) (env : ir.Env) (s : ir.State) → ir_meaning.define x (v ∷ []) env s ≡ done (ir.ends (ir.gives ir.undefined) (ir_meaning.set_local x v env) s)
-  define_is x v env s = refl
-
   -- one expression, of whose value something is made, and then a statement of it
   act_once : (F : ir.Ended → js.StatementEnd → Type 0) (w : World) (env : ir.Env) (s : ir.State) (sc : js.Scope) (u : js.State) (own : IrType) (r : ir.Run) (e : core.Expression) (act : List ir.Value → ir.Run) (g : js.Value → js.State → Out js.StatementEnd) → OperandAlike z w env sc own r (shown z e) → SameState z.place w s u → ThrowsOn z lawful F w env sc → ((y : World) (v : ir.Value) (x : js.Value) (s : ir.State) (u : js.State) → Grows w y → SameValue y own v x → SameState z.place y s u → Sim z.direction F (act (v ∷ []) env s) (g x u)) → Sim z.direction F (ir_meaning.in_order (r ∷ []) act env s) (then_do (shown z e sc u) (js.in_statement sc g))
   act_once F w env s sc u own r e act g operand same through goes = sim_then z.direction (Valued z.place w env own) F (r env s) (shown z e sc u) (ir.onward (λ v. ir_meaning.in_order [] (λ vs. act (v ∷ vs)))) (js.in_statement sc g) (operand w s u (grows-refl w) same) (valued_then z lawful F w env own sc (λ v. ir_meaning.in_order [] (λ vs. act (v ∷ vs))) g through goes)

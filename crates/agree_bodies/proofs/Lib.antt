@@ -25,7 +25,7 @@ pub use Rattle.agree_early_errors.proofs.Lists
 pub use Rattle.agree_early_errors.proofs.Mutable
 pub use Rattle.agree_early_errors.proofs.RulesGive
 pub use Rattle.agree_early_errors.proofs.Topped
-pub use Rattle.agree_early_errors.proofs.AgreeBodyFormsStatics as Statics
+pub use Rattle.agree_early_errors.proofs.Statics
 pub use Rattle.agree_plain_trees.proofs.Boxes
 pub use Rattle.agree_plain_trees.proofs.Classes
 pub use Rattle.agree_plain_trees.proofs.Divisions

@@ -87,9 +87,6 @@ module _ (z : Setting) (lawful : Lawful z) (low : LowAlike z) where
       abbrev rest_run : ir.Value → ir.Run
       rest_run v = ir_meaning.in_order (runs z lawful others) (λ vs. act (v ∷ vs))
 
-      abbrev Goal : ir.Run → core.Statements → Type 0
-      Goal run ss = Ends z lawful c c.scope k w sc (run env s) ss sc u
-
       plainly : all_plain (operands_in z lawful (first ∷ others)) ≡ true → Ends z lawful c c.scope k w sc (ir_meaning.in_order (as_instances z d first.run ∷ runs z lawful others) act env s) (made (texts (operands_in z lawful (first ∷ others))) j).statements sc u
       plainly h = finish_alike z lawful c k p (call_type m.result) (text (texts (operands_in z lawful (first ∷ others)))) j sound wr fits w w sc env (ir_meaning.in_order (as_instances z d first.run ∷ runs z lawful others) act env s) sc u (grows-refl w) (keeps-refl z c.kept sc) r s same (given first.run (runs z lawful others) first.here.text (texts (operands_in z lawful others)) w env s sc u r.sees.inside (all_plain_alike z lawful c j (first ∷ others) h ds w env sc r.sees) same)
 

@@ -32,7 +32,7 @@ use Rattle.agree_bodies.proofs.Contexts.{around, Context, Writes, Sound, Ahead, 
 use Rattle.agree_bodies.specs.Fine.{IsDiscard, is_discard, FitsIn, FineOperand, Amid, Asks}
 use Rattle.agree_plain_trees.proofs.Boxes.{StandsFor, stood, stood-fits, operand_stood, stands-for, stand-for-all, StandForAll}
 use Rattle.agree_plain_trees.proofs.Received.{may_be_checked, value_or_nothing, Received, received, Constructed, constructed, with_value}
-use Rattle.agree_early_errors.proofs.AgreeBodyFormsStatics.{read_static, set_static}
+use Rattle.agree_early_errors.proofs.Statics.{read_static, set_static}
 use Rattle.agree_early_errors.proofs.Targets.{target_goal}
 use Rattle.agree_early_errors.specs.Finalizers.{finalizer_code}
 use Rattle.agree_early_errors.proofs.Good.{finalizer-good}

@@ -93,9 +93,6 @@ module _ (z : Setting) (lawful : Lawful z) (low : LowAlike z) where
     while_by c _ j sound ahead out wr fine (is_discard, inr h) w env s sc u r same = subst (λ code. Ends z lawful c c.scope discard w sc (ir_meaning.step z.place.classes z.low (while_loop p cond b) env s) code.statements sc u) (sym (other_code c discard j h.0)) (forever_alike z lawful c discard p (ir_meaning.in_order (ir_meaning.step z.place.classes z.low cond ∷ []) (ir_meaning.branch (ir_meaning.step z.place.classes z.low b) stop)) (z.low (while_loop p cond b)) (spilled_code c j) (core.while_of (Some p) (core.boolean_value true) (spilled_code c j).statements) sound (free_spilled c j ahead out fine.around fine.once) (λ w env s sc u ready same. of_operands z lawful (in_turn c discard) discard (piece z lawful low c.targets cond ∷ []) j (ir_meaning.branch (ir_meaning.step z.place.classes z.low b) stop) (λ es i. put_first (break_unless (first_of es)) (body_code c i)) (sound-turn z lawful c discard sound) (ahead-turn z lawful c discard j ahead) (operand_does z lawful low (in_turn c discard) j cond does_cond (outside-turn c discard (Own cond) (outside-part c (Own (while_loop p cond b)) (Own cond) (λ x o. inl o) out)) (inr h), tt) (one_final z lawful (in_turn c discard) discard j (type_of_term cond) (ir_meaning.branch (ir_meaning.step z.place.classes z.low b) stop) (λ es i. put_first (break_unless (first_of es)) (body_code c i)) (test_final z lawful c discard (ir_meaning.step z.place.classes z.low b) (body_code c) j sound is_discard (λ i l ah. body_alike b does_b c discard i sound ah (out_b c out) (while_body p cond b c discard fine)) (type_of_term cond))) w env s sc u ready same) (λ w env s sc u ready same. subst (λ code. Sim z.direction (Came z.place z.code c c.scope discard w sc) (z.low (while_loop p cond b) env s) (z.js_low (statement_templates z.place.name z.place.label (usable z).lookup code.statements) sc u)) (other_code c discard j h.0) (next_turns c discard j sound ahead out tt fine w env s sc u ready same)) (λ sc u. refl) w env s sc u r same)
 
   module _ (p : Position) (b cond : Term) (does_b : TreeDoes z lawful low b) (does_cond : TreeDoes z lawful low cond) where
-    abbrev do_code : Context → Destination → ℕ → Code
-    do_code c k j = into z.is_mutable z.code.sure c.targets k j (do_while p b cond)
-
     abbrev test_code : Context → ℕ → Code
     test_code c j = then_use (spill (operand z.is_mutable z.code.sure cond (λ k j. into z.is_mutable z.code.sure c.targets k j cond) ∷ []) j) (λ es. one (break_unless (first_of es)))
 

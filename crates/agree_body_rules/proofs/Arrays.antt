@@ -1,5 +1,5 @@
 -- When the items of one array may stand where those of another are expected, as far as their kind tells.
-use Rattle.std.proofs.Common.{◌≡◌, ℕ, zero, suc, arith, Bool, true, false, List, codes, refl, sym, ap, ◌∙◌, subst, if◌then◌else◌}
+use Rattle.std.proofs.Common.{◌≡◌, ℕ, zero, suc, arith, Bool, true, false, List, codes, refl, sym, ap, subst, if◌then◌else◌}
 use Rattle.std.specs.Prelude.{◌-◌, ◌==◌, ◌≤◌, ◌<◌, nat_eq, nat_lt, not, ◌||◌}
 use Rattle.std.specs.Cmp.Lexicographic.{pointwise}
 use Rattle.agree_body_rules.specs.Standing.{is_bare, Fits, base_fits, may_hold_arrays, array_fits}
@@ -15,10 +15,6 @@ use Rattle.sj_emit_expr_spec.specs.Subtypes.{IsSub, to_any}
 use Rattle.sj_trees.specs.Types.{class_type, base_type, nested_type, element_type}
 use Rattle.sj_trees.specs.declared.types.IrType.{IrType}
 use Rattle.sj_trees.specs.declared.types.IrType.TheVariants.{Any, Class, Array}
-
-either-open : (a b : Bool) → (not a || b) ≡ true → b ≡ false → not a ≡ true
-either-open true b h k = impossible (sym k ∙ h)
-either-open false b h k = refl
 
 chained : (a b c : Bool) → (not a || b) ≡ true → (not b || c) ≡ true → (not a || c) ≡ true
 chained false b c h k = refl

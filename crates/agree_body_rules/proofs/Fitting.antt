@@ -121,10 +121,6 @@ text_joined (Array r) h = absurd h
 text_joined (Class c) h = subst (λ (n : List ℕ). is_same_text n (codes "java.lang.String") ≡ true) (sym h) (text-refl (codes "java.lang.String"))
 text_joined _ h = refl
 
-not-false : (b : Bool) → not b ≡ true → b ≡ false
-not-false true h = impossible h
-not-false false h = refl
-
 pub true-or-none : (c : Term) → (loop_type c ≡ NoType) ⊎ IsTrueLiteral c
 true-or-none (boolean_literal p true) = inr (true_literal p)
 true-or-none (boolean_literal p false) = inl refl

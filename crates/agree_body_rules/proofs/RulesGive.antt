@@ -4,7 +4,7 @@ use Rattle.std.specs.Prelude.{◌⊎◌, ◌≢◌, ◌||◌, ℤ, pos, not, nat
 use Rattle.std.specs.Cmp.Lexicographic.{pointwise}
 use Rattle.std.specs.Ordering.{int_eq}
 use Rattle.agree_body_forms.specs.Boxes.{is_boxed, any_is_boxed}
-use Rattle.agree_body_forms.specs.Built.{Usable, can_box, may_make, is_nonzero_int, is_nonzero_long, divides, compares, can_cast, is_operation, members_alone}
+use Rattle.agree_body_forms.specs.Built.{Usable, can_box, may_make, is_nonzero_int, is_nonzero_long, divides, compares, is_operation, members_alone}
 use Rattle.sj_emit_expr_spec.specs.Desugar.{has_no_value}
 use Rattle.sj_names.proofs.Same.{impossible}
 use Rattle.sj_names.specs.declared.method_names.Member.{Member}
@@ -95,11 +95,6 @@ operation_kept linked has IntRemainder d h = or_true (has.helper (codes "$im")) 
 operation_kept linked has LongDivide d h = or_true (has.helper (codes "$ld")) (is_nonzero_long d) h
 operation_kept linked has LongRemainder d h = or_true (has.helper (codes "$lm")) (is_nonzero_long d) h
 operation_kept linked has _ d h = refl
-
--- and what is a cast for it is one for other code
-pub cast_kept : (linked : Member → Bool) (has : Usable) (t : IrType) → can_cast (members_alone linked) t ≡ true → can_cast has t ≡ true
-cast_kept linked has Any h = refl
-cast_kept linked has _ h = impossible h
 
 module _ (w : Classes) (has : Usable) where
   -- the tree stands where the type is expected, as an object that holds a char where it has to

@@ -38,7 +38,7 @@ module _ (w : World) (fs : List EmittedMethod) (classes : (c : ClassDef) → Con
   judged = classes its.owner its.in_world
 
   listing : HasListing its.owner
-  listing = file_is_listed judged.bytes its.owner judged.are_bytes judged.read
+  listing = file_is_listed judged.bytes its.owner judged.read
 
   method : IsListedMethod e.definition
   method = All-contains IsListedMethod its.owner.methods e.definition listing.methods its.listed

@@ -1,7 +1,6 @@
 -- What is judged of classes and of their methods before they are linked.
 use Rattle.std.specs.Prelude.{◌≡◌, ℕ, true, List, Some, None}
 use Rattle.sj_agree.specs.World.{World, member_of}
-use Rattle.sj_text_files.specs.Listed.{AreBytes}
 use Rattle.sj_read_spec.specs.Files.{FileIs}
 use Rattle.sj_local.specs.Broken.{FirstBroken}
 use Rattle.sj_trees.specs.declared.classes.ClassDef.{ClassDef}
@@ -13,7 +12,6 @@ use Rattle.agree_programs.specs.Typing.{is_built_with}
 -- the class was read from a file, and breaks none of the local rules
 pub record IsJudgedClass (c : ClassDef) : Type 0 where
   pub bytes : List ℕ
-  pub are_bytes : AreBytes bytes
   pub read : FileIs bytes c
   pub unbroken : FirstBroken c None
 

@@ -2,7 +2,6 @@
 use Rattle.std.proofs.Common.{◌≡◌, ◌≤◌, ◌<◌, ℕ, suc, Bool, true, false, ◌&&◌, List, [], ◌∷◌, Some, None, refl, sym, subst, arith, ⊎_elim}
 use Rattle.std.specs.Prelude.{ℤ}
 use Rattle.agree_body_rules.specs.Terms as core
-use Rattle.agree_body_rules.specs.Terms.{followed}
 use Rattle.agree_body_rules.specs.Coercions.{coerced}
 use Rattle.agree_body_rules.specs.Desugar.{finish, has_no_value, branches, tries, finishes, break_unless, Branches, one_case, switch_code}
 use Rattle.agree_body_rules.specs.Spill.{Destination, discard, to_variable, to_result, Code, no_code, one, put_first, joined, Operand, all_plain, Spilled, spill, spill_case, then_use}
@@ -154,9 +153,6 @@ break-good own ls j e c g = good-front own ls true j (break_unless e) c (λ y d.
 pub record GoodCases (ls : List (List ℕ)) (j : ℕ) (bs : Branches) : Type 0 where
   pub onward : j ≤ bs.next
   pub proper : ProperCases ls bs.cases
-
-with_break : core.Statements → core.Statements
-with_break ss = followed ss (core.statement (core.break_nearest None) core.no_statements)
 
 pub case-good-in : (own : List ℕ → Type 0) (ls : List (List ℕ)) (j : ℕ) (ks : List ℤ) (c : Code) (rest : ℕ → Branches) → Good own ls true j c → GoodCases ls c.next (rest c.next) → GoodCases ls j (one_case ks c rest)
 case-good-in own ls j ks c rest g h = record {

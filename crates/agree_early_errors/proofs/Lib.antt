@@ -3,7 +3,6 @@ pub mod Declared
 pub mod Good
 pub mod Modules
 pub mod Names
-pub mod Statics
 pub mod Trees
 pub use Rattle.agree_body_rules.proofs.Arrays
 pub use Rattle.agree_body_rules.proofs.Direct
@@ -16,7 +15,7 @@ pub use Rattle.agree_body_rules.proofs.Plain
 pub use Rattle.agree_body_rules.proofs.RulesGive
 pub use Rattle.agree_body_rules.proofs.Topped
 pub use Rattle.agree_body_rules.proofs.Around
-pub use Rattle.agree_body_rules.proofs.Statics as AgreeBodyFormsStatics
+pub use Rattle.agree_body_rules.proofs.Statics
 pub use Rattle.agree_body_rules.proofs.Mutable
 pub use Rattle.agree_body_rules.proofs.Standing
 pub use Rattle.agree_body_rules.proofs.Targets

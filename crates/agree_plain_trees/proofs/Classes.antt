@@ -48,7 +48,3 @@ module _ (p : Place) (w : World) (s : ir.State) (u : js.State) (same : SameState
 -- the classes of a world that has grown are those that it had
 pub same_class : (w y : World) (i a : ℕ) (c d : List ℕ) → Grows w y → w.place i ≡ Some a → w.classes i ≡ Some c → y.classes i ≡ Some d → c ≡ d
 same_class w y i a c d g there told later = classes-same c d (sym (g.classes i a c there told) ∙ later)
-
--- and so is the object that stands there later
-pub object_later : (p : Place) (w y : World) (s : ir.State) (u : js.State) → Grows w y → SameState p y s u → (i a : ℕ) → w.place i ≡ Some a → (c : List ℕ) → w.classes i ≡ Some c → IsObject p y c (slice_get s.heap i) (slice_get u.heap a)
-object_later p w y s u g same i a there c told = object_there p y s u same i a (g.places i a there) c (g.classes i a c there told)

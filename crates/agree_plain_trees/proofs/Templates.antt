@@ -99,9 +99,6 @@ module _ (p : js.Program) (low : js_meaning.Low) where
   pub wrapped_shown : (inner : tree.Expression) (es : List js.Evaluation) (f : js.Value → js.Value → Option js.Value) (sc : js.Scope) (u : js.State) → js_meaning.evaluate p low inner sc u ≡ js_meaning.in_order es (by_value f) sc u → js_meaning.evaluate p low (wrapped inner) sc u ≡ js_meaning.in_order es (by_value (λ v w. wrapped_value (f v w))) sc u
   wrapped_shown inner es f sc u h = ap (λ o. then_do o (js.with_value (λ v. js_meaning.value_or_wrong (js_operators.as_signed_value (js.number (pos 64)) v) sc))) h ∙ in_order-then es (by_value f) (λ v. js_meaning.value_or_wrong (js_operators.as_signed_value (js.number (pos 64)) v) sc) sc u ∙ same_act es (λ xs sc' u. then_do (by_value f xs sc' u) (js.with_value (λ v. js_meaning.value_or_wrong (js_operators.as_signed_value (js.number (pos 64)) v) sc))) (by_value (λ v w. wrapped_value (f v w))) sc u (wrapped_act f sc)
 
-  abbrev not_twice : js.Scope → js.Value → js.State → Out js.ExpressionEnd
-  not_twice sc v u = then_do (js_meaning.negated (v ∷ []) sc u) (js.with_value (λ w. js_meaning.negated (w ∷ []) sc))
-
   negated_next : (o : Option js.Value) (sc sc' : js.Scope) (u : js.State) → then_do (then_do (js_meaning.value_or_wrong o sc u) (js.with_value (λ v. js_meaning.negated (v ∷ []) sc'))) (js.with_value (λ w. js_meaning.negated (w ∷ []) sc')) ≡ js_meaning.value_or_wrong (boolean_of o) sc u
   negated_next None sc sc' u = refl
   negated_next (Some v) sc sc' u = refl

@@ -62,10 +62,6 @@ value-carry u w t v x g a = record { stands = stands-carry u w (is_char t) v x g
 pub value-lift : (u w : World) (t : IrType) (v : ir.Value) (x : js.Value) → Grows u w → SameValue u t v x → SameValue w t v x
 value-lift u w t v x g a = value-carry u w t v x (grown-keeps u w g) a
 
-pub values-lift : (u w : World) (ts : List IrType) (vs : List ir.Value) (xs : List js.Value) → Grows u w → SameValues u ts vs xs → SameValues w ts vs xs
-values-lift u w _ _ _ g no_values = no_values
-values-lift u w _ _ _ g (one_more t v x ts vs xs s ss) = one_more t v x ts vs xs (value-lift u w t v x g s) (values-lift u w ts vs xs g ss)
-
 -- an array is one of each type for which that of its type may stand
 shaped-array : (w : World) (expected : IrType) (i : ℕ) (q : ArrayRef) → Fits expected (Array q) → IsArrayAt w i q → Shaped w (ir.reference i) expected
 shaped-array w (Array r) i q f h = record { at = h.at; told = h.told; fits = arrays-fit r q h.at.kind f h.fits }

@@ -1,10 +1,7 @@
 -- Classes as they were recorded have what the theorem on judged classes asks: one with a call, one with a loop, one with parameters and a label.
-use Rattle.std.proofs.Common.{◌≡◌, ◌<◌, ◌&&◌, ℕ, Bool, true, List, [], ◌∷◌, codes, None, Ok, refl, arith}
-use Rattle.std.specs.Prelude.{nat_lt}
+use Rattle.std.proofs.Common.{◌≡◌, ℕ, List, [], ◌∷◌, codes, None, Ok, refl}
 use Rattle.std.specs.List.{All}
-use Rattle.std.proofs.lemmas.Bool.{and_parts}
 use Rattle.std.proofs.lemmas.List.Elements.{All-nil, All-cons}
-use Rattle.sj_text_files.specs.Listed.{AreBytes}
 use Rattle.outcomes.specs.Agreement.{Agree}
 use Rattle.ir_mean.specs.Rows.{once}
 use Rattle.sj_read_spec.specs.Files.{file_of}
@@ -28,16 +25,8 @@ use Rattle.agree_recorded.proofs.Classes as classes
 use Rattle.agree_recorded.proofs.Computing.{reading}
 use Rattle.agree_recorded.proofs.Premises.{body_in, each_of, own, recorded_unbroken}
 
-abbrev are_below : List ℕ → Bool
-are_below [] = true
-are_below (b ∷ bs) = nat_lt b 256 && are_below bs
-
-bytes-are : (x : List ℕ) → are_below x ≡ true → AreBytes x
-bytes-are [] h = All-nil (λ b. b < 256)
-bytes-are (b ∷ bs) h = let k = and_parts (nat_lt b 256) (are_below bs) h in let small : nat_lt b 256 ≡ true = k.0 in All-cons (λ b. b < 256) b bs (grind arith) (bytes-are bs k.1)
-
-read_class : (bytes : List ℕ) (c : ClassDef) → are_below bytes ≡ true → file_of bytes ≡ Ok c → FirstBroken c None → IsJudgedClass c
-read_class bytes c small is unbroken = record { bytes = bytes; are_bytes = bytes-are bytes small; read = file_found bytes c is; unbroken = unbroken }
+read_class : (bytes : List ℕ) (c : ClassDef) → file_of bytes ≡ Ok c → FirstBroken c None → IsJudgedClass c
+read_class bytes c is unbroken = record { bytes = bytes; read = file_found bytes c is; unbroken = unbroken }
 
 -- each tree meets the rule of its form
 abbrev AllMet : Classes → Namespace → List Node → Type 0
@@ -61,7 +50,7 @@ hi_main = record { body = body_in whole.logs_hi_main; has_body = refl; met = all
 
 pub logs_hi_judged : IsJudged whole.logs_hi_class
 logs_hi_judged = record {
-  class = read_class files.logs_hi whole.logs_hi_class refl hi_read (recorded_unbroken whole.logs_hi_class classes.logs_hi);
+  class = read_class files.logs_hi whole.logs_hi_class hi_read (recorded_unbroken whole.logs_hi_class classes.logs_hi);
   methods = each_of (IsJudgedMethod hi (all_emitted whole.logs_hi_class.methods)) (all_emitted whole.logs_hi_class.methods) (record { found = refl; has_body = refl; typed = hi_main; built = refl }, tt);
   own_members = own (all_emitted whole.logs_hi_class.methods) refl;
   called = refl;
@@ -83,7 +72,7 @@ again_again = record { body = body_in whole.calls_itself_again; has_body = refl;
 
 pub calls_itself_judged : IsJudged whole.calls_itself_class
 calls_itself_judged = record {
-  class = read_class files.calls_itself whole.calls_itself_class refl again_read (recorded_unbroken whole.calls_itself_class classes.calls_itself);
+  class = read_class files.calls_itself whole.calls_itself_class again_read (recorded_unbroken whole.calls_itself_class classes.calls_itself);
   methods = each_of (IsJudgedMethod again (all_emitted whole.calls_itself_class.methods)) (all_emitted whole.calls_itself_class.methods) (record { found = refl; has_body = refl; typed = again_main; built = refl }, (record { found = refl; has_body = refl; typed = again_again; built = refl }, tt));
   own_members = own (all_emitted whole.calls_itself_class.methods) refl;
   called = refl;
@@ -102,7 +91,7 @@ turn_main = record { body = body_in whole.one_turn_main; has_body = refl; met = 
 
 pub one_turn_judged : IsJudged whole.one_turn_class
 one_turn_judged = record {
-  class = read_class files.one_turn whole.one_turn_class refl turn_read (recorded_unbroken whole.one_turn_class classes.one_turn);
+  class = read_class files.one_turn whole.one_turn_class turn_read (recorded_unbroken whole.one_turn_class classes.one_turn);
   methods = each_of (IsJudgedMethod turn (all_emitted whole.one_turn_class.methods)) (all_emitted whole.one_turn_class.methods) (record { found = refl; has_body = refl; typed = turn_main; built = refl }, tt);
   own_members = own (all_emitted whole.one_turn_class.methods) refl;
   called = refl;
@@ -124,7 +113,7 @@ value_main = record { body = body_in whole.block_value_main; has_body = refl; me
 
 pub block_value_judged : IsJudged whole.block_value_class
 block_value_judged = record {
-  class = read_class files.block_value whole.block_value_class refl value_read (recorded_unbroken whole.block_value_class classes.block_value);
+  class = read_class files.block_value whole.block_value_class value_read (recorded_unbroken whole.block_value_class classes.block_value);
   methods = each_of (IsJudgedMethod value (all_emitted whole.block_value_class.methods)) (all_emitted whole.block_value_class.methods) (record { found = refl; has_body = refl; typed = value_first; built = refl }, (record { found = refl; has_body = refl; typed = value_main; built = refl }, tt));
   own_members = own (all_emitted whole.block_value_class.methods) refl;
   called = refl;

@@ -45,7 +45,7 @@ use Rattle.sj_trees.specs.declared.types.IrType.{IrType}
 use Rattle.sj_trees.specs.declared.types.IrType.TheVariants.{Any, Class, Array, Undefined, Null, Boolean, Byte, Short, Int, String, NoType, Nothing, Char, Long}
 use Rattle.agree_early_errors.specs.Rules.{AllFit, IsArray, IsStatic, IsReceiver, ArgumentsFit, Yields, nothing_wanted, fitting, unary_operand, left_operand, right_operand, IsText as IsJoined}
 use Rattle.agree_early_errors.specs.Operators.{IsDivision, a_quotient, a_remainder, IsLongDivision, a_long_quotient, a_long_remainder, DividesBy, by_int, by_long}
-use Rattle.agree_early_errors.proofs.AgreeBodyFormsStatics.{read_static, set_static, load_cell}
+use Rattle.agree_early_errors.proofs.Statics.{read_static, set_static, load_cell}
 use Rattle.agree_early_errors.specs.Built.{Usable, has_static, has_cell, has_base, is_based, can_cast, can_put, are_countable}
 use Rattle.agree_early_errors.proofs.Arrays.{items-of, element-value}
 use Rattle.agree_soundness.proofs.Arrays.{is_open, setter_kind, stored_lowest, elements_below, elements_same}
@@ -104,9 +104,6 @@ not_bare c free = go (is_bare (Class c)) refl
 
 some_same : (v a : ir.Value) → ◌≡◌ {A = Option ir.Value} (Some v) (Some a) → v ≡ a
 some_same v a e = cc
-
-some_text : (c d : List ℕ) → ◌≡◌ {A = Option (List ℕ)} (Some c) (Some d) → c ≡ d
-some_text c d e = cc
 
 result-same : (t : IrType) (v : ir.Value) → is_no_type t ≡ false → ir_meaning.result_value t v ≡ v
 result-same NoType v h = impossible (sym h)

@@ -3,7 +3,6 @@ use Rattle.std.proofs.Common.{arith, ◌≡◌, ◌≤◌, ◌^◌, length, Bool
 use Rattle.std.specs.List.{All}
 use Rattle.std.proofs.lemmas.Bool.{and_from, lt-ltb}
 use Rattle.std.proofs.lemmas.List.Elements.{All-head, All-tail}
-use Rattle.sj_text_files.specs.Listed.{AreBytes}
 use Rattle.body_uses.proofs.Given.{all_from}
 use Rattle.body_uses.proofs.Standing.{Stands}
 use Rattle.body_uses.proofs.Uses.{ahead, after}
@@ -206,7 +205,7 @@ received p e c Constructor m ts t r is = by (is_no_type t) refl
     by true none = subst (λ (b : Bool). (if b then has_no_value m.result else true) ≡ true) (sym none) (none_named m.result (sym (ap is_no_type is) ∙ none))
     by false value = subst (λ (b : Bool). (if b then has_no_value m.result else true) ≡ true) (sym value) refl
 
-module _ (entries : List EntryPoint) (files : List SourceFile) (w : Classes) (bytes : (file : SourceFile) → Contains files file → AreBytes file.bytes) (accepted : IsAccepted entries files w) (all : List EmittedMethod) (bodies : AreBodies w entries all) where
+module _ (entries : List EntryPoint) (files : List SourceFile) (w : Classes) (accepted : IsAccepted entries files w) (all : List EmittedMethod) (bodies : AreBodies w entries all) where
   -- what `new` calls is a constructor without a value
   module _ (e : EmittedMethod) (i : Contains all e) where
     reads : (o : Info) → Contains (asked_in e.its_body) o → Reads w entries (Reachable w entries) o
@@ -227,13 +226,13 @@ module _ (entries : List EntryPoint) (files : List SourceFile) (w : Classes) (by
         let its = owner_of w f.method.member f.method.definition found in
         let name : f.method.definition.name ≡ m = (defined w f.method.member f.method.definition found).first.has.name_is ∙ ap (λ (x : Member). x.method) f.is in
         let is_named : is_init f.method.definition.name.simple ≡ true = subst (λ (x : Name). is_init x ≡ true) (sym (ap (λ (x : MethodName). x.simple) name ∙ named)) refl in
-        void_named m.result (subst (λ (x : MethodName). is_void x.result ≡ true) name (init-keeps its.owner (judged entries files w bytes accepted its.owner its.in_world).unbroken f.method.definition its.listed is_named))
+        void_named m.result (subst (λ (x : MethodName). is_void x.result ≡ true) name (init-keeps its.owner (judged entries files w accepted its.owner its.in_world).unbroken f.method.definition its.listed is_named))
 
     its_owner : OwnerOf w e.member e.definition
     its_owner = owner_of w e.member e.definition (bodies.found e i).found
 
     kept : KeepsTreeRules its_owner.owner e.definition
-    kept = class-keeps its_owner.owner (judged entries files w bytes accepted its_owner.owner its_owner.in_world).unbroken e.definition its_owner.listed
+    kept = class-keeps its_owner.owner (judged entries files w accepted its_owner.owner its_owner.in_world).unbroken e.definition its_owner.listed
 
     -- and no array is given more items than its file has bytes
     countable : (p : Position) (r : ArrayRef) (ts : Terms) → Contains (trees e.its_body) (array_value p r ts) → are_countable ts ≡ true
@@ -261,5 +260,5 @@ module _ (entries : List EntryPoint) (files : List SourceFile) (w : Classes) (by
     body_is_built = built e.its_body (all_from Here (trees e.its_body) (λ t among. stands_here t among (tree_stands entries files w all accepted bodies e i t among)))
 
 pub accepted_bodies : AcceptedBodiesUseWhatIsWritten
-accepted_bodies entries files w facts all live helpers written bytes accepted bodies uses e i here_written =
-    body_built entries files w facts all live helpers written accepted bodies uses e i here_written (body_is_built entries files w bytes accepted all bodies e i)
+accepted_bodies entries files w facts all live helpers written accepted bodies uses e i here_written =
+    body_built entries files w facts all live helpers written accepted bodies uses e i here_written (body_is_built entries files w accepted all bodies e i)

@@ -4,7 +4,6 @@ pub mod Given
 pub mod Hijacked
 pub mod Sizes
 pub mod Standing
-pub mod Statics
 pub mod Tested
 pub mod Uses
 pub mod Written
@@ -35,7 +34,7 @@ pub use Rattle.object_folders.proofs.Objects
 pub use Rattle.object_folders.proofs.One
 pub use Rattle.object_folders.proofs.Plain
 pub use Rattle.object_folders.proofs.Same
-pub use Rattle.object_folders.proofs.Statics as LinkedPiecesStatics
+pub use Rattle.object_folders.proofs.Statics
 pub use Rattle.object_folders.proofs.Throwing
 pub use Rattle.object_folders.proofs.Verdict
 pub use Rattle.object_folders.proofs.Worlds as ObjectFoldersWorlds

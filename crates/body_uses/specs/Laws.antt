@@ -1,7 +1,6 @@
 -- Laws of what bodies use.
 use Rattle.sj_core.specs.Lookup.{Lookup}
 use Rattle.std.specs.Prelude.{◌≡◌, true, List, Contains}
-use Rattle.sj_text_files.specs.Listed.{AreBytes}
 use Rattle.object_folders.specs.Accepted.{IsAccepted}
 use Rattle.object_folders.specs.Bodies.{AreBodies}
 use Rattle.object_folders.specs.Typing.{is_built_with}
@@ -38,7 +37,6 @@ BodiesUseWhatIsGiven = (has : Usable) (d : MethodDef) (e : Term)
 -- a body that is needed in an accepted folder of bytes, of a class whose pieces are written, is built with what is written
 abbrev pub AcceptedBodiesUseWhatIsWritten : Type 0
 AcceptedBodiesUseWhatIsWritten = (entries : List EntryPoint) (files : List SourceFile) (w : Classes) (facts : List Fact) (all : List EmittedMethod) (live : List Name) (helpers : List Helper) (written : List Name)
-    → ((file : SourceFile) → Contains files file → AreBytes file.bytes)
     → IsAccepted entries files w
     → AreBodies w entries all
     → AreWrittenWith w entries facts all live helpers written
@@ -50,7 +48,6 @@ AcceptedBodiesUseWhatIsWritten = (entries : List EntryPoint) (files : List Sourc
 -- each body that is needed in an accepted folder of bytes is of the forms that are built
 abbrev pub NeededBodiesAreBuilt : Type 0
 NeededBodiesAreBuilt = (entries : List EntryPoint) (files : List SourceFile) (w : Classes) (all : List EmittedMethod)
-    → ((file : SourceFile) → Contains files file → AreBytes file.bytes)
     → IsAccepted entries files w
     → AreBodies w entries all
     → (e : EmittedMethod)

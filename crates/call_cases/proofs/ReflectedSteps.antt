@@ -12,7 +12,7 @@ use Rattle.proxy_targets.specs.Proxies.{IsTargetName}
 use Rattle.sj_names.specs.declared.method_names.MethodName.{MethodName}
 use Rattle.sj_world.specs.Known.{Name, Classes}
 use Rattle.sj_world.specs.declared.facts.Fact.{Fact}
-use Rattle.sj_world.proofs.Searches.{NoneYet, none_more, none_whole, none_among, contains_at}
+use Rattle.sj_world.proofs.Searches.{NoneYet, none_more, none_whole, none_among}
 
 -- a call of the method has a reached target
 pub record SomeReached (w : Classes) (known : List Fact) (c : Name) (m : MethodName) : Type 0 where
@@ -25,9 +25,6 @@ module _ (w : Classes) (known : List Fact) (c : Name) where
 
   pub none_reached : (names : List MethodName) (n : ℕ) → NoneYet (SomeReached w known c) names n → length names ≤ n → HasNoneReached w known c names
   none_reached names n before all = record { none = λ m owner h. none_among (SomeReached w known c) names m (none_whole (SomeReached w known c) names n before all) h.among (record { owner = owner; reached = h.reached }) }
-
-  pub among_reached : (names : List MethodName) (n : ℕ) (m copy : MethodName) (owner : Name) → slice_get names n ≡ Some m → copy ≡ m → IsReachedTarget w known c m owner → IsReachedAmong w known c names copy owner
-  among_reached names n m copy owner at is reached = subst (λ (z : MethodName). IsReachedAmong w known c names z owner) (sym is) (record { among = contains_at names n m at; reached = reached })
 
   module _ (p : MethodName) where
     abbrev pub None_reflected : Type 0

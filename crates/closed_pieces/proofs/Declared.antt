@@ -28,7 +28,6 @@ use Rattle.linked_folders.specs.Pieces.{piece_of_member, pieces_of_block, AreLin
 use Rattle.linked_folders.specs.Reachable.{Reachable}
 use Rattle.linked_folders.specs.SjReachSpecRules.{the_object}
 use Rattle.linked_folders.specs.Rules.{HasFieldType}
-use Rattle.sj_text_files.specs.Listed.{AreBytes}
 use Rattle.sj_emit_help_spec.specs.Helpers.{helper_name, helper_piece}
 use Rattle.sj_emit_help_spec.specs.Words.{bound, helper, all_kinds, class_name, constants_name}
 use Rattle.sj_emit_help_spec.specs.declared.kinds.Helper.{Helper}
@@ -76,7 +75,7 @@ pub record Declares (entries : List EntryPoint) (l : Linked) (having : List Help
 some_class : (a b : ClassDef) → ◌≡◌ {A = Option ClassDef} (Some a) (Some b) → a ≡ b
 some_class a b e = cc
 
-module _ (entries : List EntryPoint) (files : List SourceFile) (l : Linked) (all : List EmittedMethod) (ps : List Piece) (bytes : (file : SourceFile) → Contains files file → AreBytes file.bytes) (a : IsAccepted entries files l.world) (bodies : AreBodies l.world entries all) (exact : (f : Fact) → Contains l.facts f ↔ Reachable l.world entries f) (p : AreLinkedPieces l all ps) where
+module _ (entries : List EntryPoint) (files : List SourceFile) (l : Linked) (all : List EmittedMethod) (ps : List Piece) (a : IsAccepted entries files l.world) (bodies : AreBodies l.world entries all) (exact : (f : Fact) → Contains l.facts f ↔ Reachable l.world entries f) (p : AreLinkedPieces l all ps) where
   abbrev w : Classes
   w = l.world
 
@@ -91,7 +90,7 @@ module _ (entries : List EntryPoint) (files : List SourceFile) (l : Linked) (all
 
   class : (c : Name) → IsLive w l.facts c → IsDeclared ps (class_use c)
   class c live =
-      let k = live_there entries files w bytes a l.facts (λ f. (exact f).0) c live in
+      let k = live_there entries files w a l.facts (λ f. (exact f).0) c live in
       let own = own_pieces l all ps p c k.0 k.1 in
       let its = own.parts in
       let its_class : Piece = class_piece its.class.name its.class.superclass its.entries its.fields in
@@ -123,7 +122,7 @@ module _ (entries : List EntryPoint) (files : List SourceFile) (l : Linked) (all
     its_static = (record { piece = variable_piece its.class.name d; among = own.there (variable_piece its.class.name d) (statics_among its (variable_piece its.class.name d) there.0); owned = named c own; named = ap (λ (n : Name). static_name n d.name) (named c own) ∙ ap (static_name c) name_is }, record { piece = setter_piece its.class.name d; among = own.there (setter_piece its.class.name d) (statics_among its (setter_piece its.class.name d) there.1); owned = named c own; named = ap (λ (n : Name). setter_name n d.name) (named c own) ∙ ap (setter_name c) name_is })
 
   own_of : (c : Name) → Reachable w entries (Needed c) → OwnPieces l all ps p c
-  own_of c r = let k = made.present w entries a.resolved (classes_kept entries files w bytes a) c r in own_pieces l all ps p c k.0 k.1
+  own_of c r = let k = made.present w entries a.resolved (classes_kept entries files w a) c r in own_pieces l all ps p c k.0 k.1
 
   its_test : (c : Name) → HasForm w l.facts (forms.Test c) → Reachable w entries (Needed c) → IsDeclared ps (bound c (class_binding IsInstance c))
   its_test c form r =
@@ -159,7 +158,7 @@ module _ (entries : List EntryPoint) (files : List SourceFile) (l : Linked) (all
   a_storer e i place c x among =
       let found = (bodies.found e i).found in
       let owner = owner_of w e.member e.definition found in
-      let kept = class-keeps owner.owner (judged entries files w bytes a owner.owner owner.in_world).unbroken e.definition owner.listed in
+      let kept = class-keeps owner.owner (judged entries files w a owner.owner owner.in_world).unbroken e.definition owner.listed in
       let same : c ≡ e.member.class = stores_own owner.owner e.definition e.its_body (bodies.found e i).has_body kept place c x among ∙ sym owner.class_is in
       let d = defined w e.member e.definition found in
       let own = own_pieces l all ps p c d.class (ap (class_of w) same ∙ d.is_class) in
@@ -176,7 +175,7 @@ module _ (entries : List EntryPoint) (files : List SourceFile) (l : Linked) (all
 
   a_helper : (h : Helper) → Contains p.helpers h → IsDeclared ps (helper (helper_name h))
   a_helper h i =
-      let k = made.present w entries a.resolved (classes_kept entries files w bytes a) object (closed w entries (Needed object) the_object) in
+      let k = made.present w entries a.resolved (classes_kept entries files w a) object (closed w entries (Needed object) the_object) in
       record { piece = helper_piece p.above h; among = helper_there l all ps p k.0 k.1 h i; owned = refl; named = refl }
 
   -- a function that tells receivers apart, of which a class's own piece or a function uses the name
@@ -184,7 +183,7 @@ module _ (entries : List EntryPoint) (files : List SourceFile) (l : Linked) (all
   a_told m d =
       let h = p.are_told.are_methods.each m d in
       let in_told = subst (λ (qs : List Piece). Contains qs h.piece) (sym p.are_told.told_are) (Contains-append_left p.are_told.methods p.are_told.names h.piece h.among) in
-      let k = made.present w entries a.resolved (classes_kept entries files w bytes a) object (closed w entries (Needed object) the_object) in
+      let k = made.present w entries a.resolved (classes_kept entries files w a) object (closed w entries (Needed object) the_object) in
       record { piece = h.piece; among = told_there l all ps p k.0 k.1 h.piece in_told; owned = ap (λ (q : Piece). q.owner) h.is_piece.piece_is; named = ap (λ (q : Piece). q.name) h.is_piece.piece_is }
 
   -- and one of a reflective name
@@ -192,7 +191,7 @@ module _ (entries : List EntryPoint) (files : List SourceFile) (l : Linked) (all
   a_name m d =
       let h = p.are_told.are_names.each m d in
       let in_told = subst (λ (qs : List Piece). Contains qs h.piece) (sym p.are_told.told_are) (Contains-append_right p.are_told.methods p.are_told.names h.piece h.among) in
-      let k = made.present w entries a.resolved (classes_kept entries files w bytes a) object (closed w entries (Needed object) the_object) in
+      let k = made.present w entries a.resolved (classes_kept entries files w a) object (closed w entries (Needed object) the_object) in
       record { piece = h.piece; among = told_there l all ps p k.0 k.1 h.piece in_told; owned = ap (λ (q : Piece). q.owner) h.is_piece.piece_is; named = ap (λ (q : Piece). q.name) h.is_piece.piece_is }
 
   pub declares : Declares entries l p.helpers ps

@@ -3,7 +3,6 @@ use Rattle.std.proofs.Common.{List, [], ◌∷◌, inl, inr, subst, map, Contain
 use Rattle.std.proofs.lemmas.List.Elements.{Contains-append_cases}
 use Rattle.linked_folders.specs.Accepted.{IsAccepted}
 use Rattle.linked_folders.specs.Bodies.{AreBodies}
-use Rattle.sj_text_files.specs.Listed.{AreBytes}
 use Rattle.linked_folders.specs.EmittedMethods.{EmittedMethod}
 use Rattle.linked_folders.specs.Pieces.{by_helper, AreLinkedPieces}
 use Rattle.linked_folders.specs.Reachable.{Reachable}
@@ -26,7 +25,7 @@ use Rattle.sj_world.specs.declared.facts.Fact.{Fact}
 use Rattle.worklist.proofs.Inserted.{nothing_in, only_one}
 use Rattle.closed_pieces.proofs.Declared.{Declares}
 
-module _ (entries : List EntryPoint) (files : List SourceFile) (l : Linked) (all : List EmittedMethod) (ps : List Piece) (a : IsAccepted entries files l.world) (bodies : AreBodies l.world entries all) (holds : (f : Fact) → Contains l.facts f → Reachable l.world entries f) (bytes : (file : SourceFile) → Contains files file → AreBytes file.bytes) (p : AreLinkedPieces l all ps) (d : Declares entries l p.helpers ps) where
+module _ (entries : List EntryPoint) (files : List SourceFile) (l : Linked) (all : List EmittedMethod) (ps : List Piece) (a : IsAccepted entries files l.world) (bodies : AreBodies l.world entries all) (holds : (f : Fact) → Contains l.facts f → Reachable l.world entries f) (p : AreLinkedPieces l all ps) (d : Declares entries l p.helpers ps) where
   of_classes : (h : Helper) → Contains p.helpers h → (b : Binding) → Contains (used_of_classes h) b → IsDeclared ps b
   of_classes (helpers.Throws f) i b u =
       let c = failure_class f in
@@ -35,7 +34,7 @@ module _ (entries : List EntryPoint) (files : List SourceFile) (l : Linked) (all
         | inl same ↦ subst (IsDeclared ps) same (d.functions (message_constructor c) r.1)
         | inr j ↦ subst (IsDeclared ps) (only_one (bound c (class_name c)) b j) (d.made c r.0)
       ]
-  of_classes helpers.ArrayClass i b u = subst (IsDeclared ps) (only_one (bound object (class_name object)) b u) (d.classes object (arrays_extend entries files l all ps bytes a bodies (λ f. (holds f, d.listed f)) p i))
+  of_classes helpers.ArrayClass i b u = subst (IsDeclared ps) (only_one (bound object (class_name object)) b u) (d.classes object (arrays_extend entries files l all ps a bodies (λ f. (holds f, d.listed f)) p i))
   of_classes _ i b u = nothing_in b u
 
   pub helper_uses_declared : (h : Helper) → Contains p.helpers h → (b : Binding) → Contains (helper_uses h) b → IsDeclared ps b

@@ -12,7 +12,6 @@ use Rattle.linked_folders.specs.EmittedMethods.{EmittedMethod}
 use Rattle.linked_folders.specs.Entries.{IsLive, IsReflective, AreEntries}
 use Rattle.linked_folders.specs.Pieces.{piece_of_member, by_piece, AreLinkedPieces}
 use Rattle.linked_folders.specs.Reachable.{Reachable}
-use Rattle.sj_text_files.specs.Listed.{AreBytes}
 use Rattle.sj_emit_help_spec.specs.Helpers.{helper_name}
 use Rattle.sj_emit_help_spec.specs.Words.{helper}
 use Rattle.sj_emit_help_spec.specs.declared.kinds.Helper.{Helper}
@@ -37,19 +36,19 @@ use Rattle.closed_pieces.proofs.Places.{in_blocks, from_blocks, Stands, own, met
 use Rattle.closed_pieces.proofs.Told.{told_uses_declared, name_uses_declared}
 use Rattle.closed_pieces.specs.Laws.{UsesAreDeclared}
 
-module _ (entries : List EntryPoint) (files : List SourceFile) (l : Linked) (all : List EmittedMethod) (ps : List Piece) (bytes : (file : SourceFile) → Contains files file → AreBytes file.bytes) (a : IsAccepted entries files l.world) (bodies : AreBodies l.world entries all) (exact : (f : Fact) → Contains l.facts f ↔ Reachable l.world entries f) (methods : AreEntries l.world l.facts l.entries) (p : AreLinkedPieces l all ps) where
+module _ (entries : List EntryPoint) (files : List SourceFile) (l : Linked) (all : List EmittedMethod) (ps : List Piece) (a : IsAccepted entries files l.world) (bodies : AreBodies l.world entries all) (exact : (f : Fact) → Contains l.facts f ↔ Reachable l.world entries f) (methods : AreEntries l.world l.facts l.entries) (p : AreLinkedPieces l all ps) where
   d : Declares entries l p.helpers ps
-  d = declares entries files l all ps bytes a bodies exact p
+  d = declares entries files l all ps a bodies exact p
 
   holds : (f : Fact) → Contains l.facts f → Reachable l.world entries f
   holds f = (exact f).0
 
   objects : (e : EmittedMethod) → Contains all e → is_object_body e.definition e.its_body ≡ true
-  objects = body_is_built entries files l.world bytes a all bodies
+  objects = body_is_built entries files l.world a all bodies
 
   -- what a live class extends is live
   superclasses : (c s : Name) (parts : Parts) → AreParts l c parts → IsLive l.world l.facts c → parts.class.superclass ≡ Some s → IsLive l.world l.facts s
-  superclasses c s parts are live super = live_next l.world l.facts c s live (next_is l.world c parts.class are.class_is (live_free entries files l.world bytes a l.facts holds c live) ∙ super)
+  superclasses c s parts are live super = live_next l.world l.facts c s live (next_is l.world c parts.class are.class_is (live_free entries files l.world a l.facts holds c live) ∙ super)
 
   helped : (q : Piece) → Contains (in_blocks l all ps p) q → (h : Helper) → Contains q.uses (helper (helper_name h)) → IsDeclared ps (helper (helper_name h))
   helped q i h u = d.helpers h ((p.are_helpers.exact h).1 (by_piece q h (Contains-append_left (in_blocks l all ps p) p.told q i) u))
@@ -59,16 +58,16 @@ module _ (entries : List EntryPoint) (files : List SourceFile) (l : Linked) (all
 
   -- a function that tells the receivers of a method apart, which the function of a method uses
   apart : (e : EmittedMethod) → Contains (in_blocks l all ps p) (piece_of_member l.world e) → (c : Name) (m : MethodName) → Reachable l.world entries (Called c m) → Contains (piece_of_member l.world e).uses (helper (dispatch_name m)) → IsDeclared ps (helper (dispatch_name m))
-  apart e i c m r u = a_told entries files l all ps bytes a bodies exact p m (record { named = called_name entries files l.world bytes a c m r; receiver = c; called = (exact (Called c m)).1 r; user = piece_of_member l.world e; among = i; uses = u })
+  apart e i c m r u = a_told entries files l all ps a bodies exact p m (record { named = called_name entries files l.world a c m r; receiver = c; called = (exact (Called c m)).1 r; user = piece_of_member l.world e; among = i; uses = u })
 
   -- one of a reflective name
   by_name : (e : EmittedMethod) → Contains (in_blocks l all ps p) (piece_of_member l.world e) → (m : MethodName) → IsReflective l.world l.facts m → Contains (piece_of_member l.world e).uses (helper (reflective_name m)) → IsDeclared ps (helper (reflective_name m))
-  by_name e i m r u = a_name entries files l all ps bytes a bodies exact p m (record { named = reflective_name_is entries files l.world bytes a l.facts m r; called = r; user = piece_of_member l.world e; among = i; uses = u })
+  by_name e i m r u = a_name entries files l all ps a bodies exact p m (record { named = reflective_name_is entries files l.world a l.facts m r; called = r; user = piece_of_member l.world e; among = i; uses = u })
 
   declared : (q : Piece) → Stands l all ps p q → (b : Binding) → Contains q.uses b → IsDeclared ps b
   declared q (own c parts are there i) b u = class_uses_declared entries l p.helpers ps d holds methods superclasses c parts (class_found l.world c parts.class are.class_is).1 are (λ r j. from_blocks l all ps p r (there r j)) q i (helped q (there q i)) b u
-  declared q (method e i j same) b u = function_uses entries files l all p.helpers ps a bodies objects d e i (helped (piece_of_member l.world e) (subst (Contains (in_blocks l all ps p)) (sym same) j)) (apart e (subst (Contains (in_blocks l all ps p)) (sym same) j)) (by_name e (subst (Contains (in_blocks l all ps p)) (sym same) j)) (a_storer entries files l all ps bytes a bodies exact p e i) b (subst (λ (r : Piece). Contains r.uses b) (sym same) u)
-  declared q (helps h i same) b u = helper_uses_declared entries files l all ps a bodies holds bytes p d h i b (subst (λ (r : Piece). Contains r.uses b) (sym same) u)
+  declared q (method e i j same) b u = function_uses entries files l all p.helpers ps a bodies objects d e i (helped (piece_of_member l.world e) (subst (Contains (in_blocks l all ps p)) (sym same) j)) (apart e (subst (Contains (in_blocks l all ps p)) (sym same) j)) (by_name e (subst (Contains (in_blocks l all ps p)) (sym same) j)) (a_storer entries files l all ps a bodies exact p e i) b (subst (λ (r : Piece). Contains r.uses b) (sym same) u)
+  declared q (helps h i same) b u = helper_uses_declared entries files l all ps a bodies holds p d h i b (subst (λ (r : Piece). Contains r.uses b) (sym same) u)
   declared q (tells i o) b u = told_uses_declared entries l p.helpers ps d holds o.method q o.is_piece (telling q i) b u
   declared q (names i o) b u = name_uses_declared entries l p.helpers ps d holds o.method q o.is_piece (telling q i) b u
 
@@ -76,7 +75,7 @@ module _ (entries : List EntryPoint) (files : List SourceFile) (l : Linked) (all
   all_declared q i = declared q (stands l all ps p q i)
 
 pub uses_are_declared : UsesAreDeclared
-uses_are_declared entries files w ps bytes a its = all_declared entries files its.linked its.all ps bytes accepted bodies exact methods its.are
+uses_are_declared entries files w ps a its = all_declared entries files its.linked its.all ps accepted bodies exact methods its.are
   where
     to_world : w ≡ its.linked.world
     to_world = sym its.is_linked.world

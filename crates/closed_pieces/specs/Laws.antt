@@ -2,7 +2,6 @@
 use Rattle.std.specs.Prelude.{List}
 use Rattle.std.specs.List.{Contains}
 use Rattle.linked_folders.specs.Accepted.{IsAccepted}
-use Rattle.sj_text_files.specs.Listed.{AreBytes}
 use Rattle.js_tree.specs.Terms.{Piece}
 use Rattle.js_tree.specs.declared.items.Binding.{Binding}
 use Rattle.linked_folders.specs.Link.{ArePieces}
@@ -14,7 +13,6 @@ use Rattle.sj_world.specs.Known.{Classes}
 -- in an accepted folder, each binding that a piece uses is the name of a piece that the binding's owner owns
 abbrev pub UsesAreDeclared : Type 0
 UsesAreDeclared = (entries : List EntryPoint) (files : List SourceFile) (w : Classes) (ps : List Piece)
-    → ((file : SourceFile) → Contains files file → AreBytes file.bytes)
     → IsAccepted entries files w
     → ArePieces w entries ps
     → (p : Piece)

@@ -44,7 +44,6 @@ use Rattle.module_uses.specs.Pieces.{Parts, members, class_piece, constants_piec
 use Rattle.module_uses.specs.LinkedPiecesPieces.{piece_of_member, AreLinkedPieces}
 use Rattle.module_uses.specs.Running.{CanRun}
 use Rattle.module_uses.specs.LinkedPiecesUsed.{used_of, makes, calls_on, tells_apart, is_among, is_received, is_constructor, is_constructor_without_value, uses_static, uses_helper as written_helper, uses_test, uses_cast, is_tested, is_cast, is_loaded}
-use Rattle.sj_text_files.specs.Listed.{AreBytes}
 use Rattle.sj_emit_help_spec.specs.Helpers.{helper_name, helper_item, helper_piece, used_helpers, used_of_classes, failure_class, of}
 use Rattle.sj_emit_help_spec.specs.Words.{kind_class, object_class, all_kinds, is_name, bound, public_function, helper as helper_binding}
 use Rattle.sj_emit_help_spec.specs.declared.kinds.Failure.{Failure}
@@ -152,7 +151,7 @@ named_used has uses tests casts (a_test k) h = let q = and_parts (has.tests k) (
 named_used has uses tests casts (a_cast k) h = let q = and_parts (has.casts k) (list_all uses (cast_uses k)) h in casts k q.0 q.1
 named_used has uses tests casts (a_helper x) h = (and_parts (has.helper (helper_name x)) (uses (object_binding (helper_name x))) h).1
 
-module _ (entries : List EntryPoint) (files : List SourceFile) (l : Linked) (all : List EmittedMethod) (live written : List Name) (modules : List PlannedModule) (ps : List Piece) (front : List Name) (last : Name) (declared : List Item) (bytes : (file : SourceFile) → Contains files file → AreBytes file.bytes) (a : IsAccepted entries files l.world) (bodies : AreBodies l.world entries all) (p : AreLinkedPieces l all ps) (are : AreEntries l.world l.facts l.entries) (are_live : (c : Name) → Contains live c ↔ IsLive l.world l.facts c) (run : CanRun l.world entries l.facts all live p.helpers written) (owned : IsClosed ps written) (extends : Contains p.helpers helpers.ArrayClass → IsLive l.world l.facts object_class) (together : StandTogether modules ps) (whole : AreWhole modules ps) (stand : AllStand modules ps written (spread_of modules ps l.world (used_of l.world l.facts all live p.helpers written) front last declared)) (marks : DeclaresConstants (spread_of modules ps l.world (used_of l.world l.facts all live p.helpers written) front last declared)) where
+module _ (entries : List EntryPoint) (files : List SourceFile) (l : Linked) (all : List EmittedMethod) (live written : List Name) (modules : List PlannedModule) (ps : List Piece) (front : List Name) (last : Name) (declared : List Item) (a : IsAccepted entries files l.world) (bodies : AreBodies l.world entries all) (p : AreLinkedPieces l all ps) (are : AreEntries l.world l.facts l.entries) (are_live : (c : Name) → Contains live c ↔ IsLive l.world l.facts c) (run : CanRun l.world entries l.facts all live p.helpers written) (owned : IsClosed ps written) (extends : Contains p.helpers helpers.ArrayClass → IsLive l.world l.facts object_class) (together : StandTogether modules ps) (whole : AreWhole modules ps) (stand : AllStand modules ps written (spread_of modules ps l.world (used_of l.world l.facts all live p.helpers written) front last declared)) (marks : DeclaresConstants (spread_of modules ps l.world (used_of l.world l.facts all live p.helpers written) front last declared)) where
   abbrev w : Classes
   w = l.world
 
@@ -209,7 +208,7 @@ module _ (entries : List EntryPoint) (files : List SourceFile) (l : Linked) (all
       let home = home_of e.member.class in
       let built = built_here there (uses_in modules ps home) e.definition e.its_body (run.are_built e i here) (divisors_fit entries files w all a bodies e i) (used_at_home q s listed) in
       record {
-        right = right_method entries files w bytes a all bodies (restricted there (uses_in modules ps home)) e i built;
+        right = right_method entries files w a all bodies (restricted there (uses_in modules ps home)) e i built;
         runs = ap running its_definition.first.has.namespace_is ∙ runs;
         function = stands_at_home q s listed here;
       }
@@ -219,7 +218,7 @@ module _ (entries : List EntryPoint) (files : List SourceFile) (l : Linked) (all
 
   code_in : (m : Member) → IsThere m → StandsThere m.class → (r : Running) → running m.namespace ≡ r → CodeIn (home_of m.class) r m
   code_in m h s r runs =
-      let f = method_of entries files l all live written ps bytes a bodies p are are_live run owned m h in
+      let f = method_of entries files l all live written ps a bodies p are are_live run owned m h in
       subst (λ (k : Member). CodeIn (home_of k.class) r k) f.is (code_of f.method f.listed f.here (subst (λ (k : Member). StandsThere k.class) (sym f.is) s) r (subst (λ (k : Member). running k.namespace ≡ r) (sym f.is) runs))
 
   linked_declared : (f : Name) (m : Member) → (z.has f).linked m ≡ true → FunctionDeclared z (a_function m) alone m
@@ -251,25 +250,25 @@ module _ (entries : List EntryPoint) (files : List SourceFile) (l : Linked) (all
 
   -- a class whose objects the code of a file can make
   record MadeIn (c : Name) : Type 0 where
-    good : Good entries files l all live written ps bytes a bodies p are are_live run owned c
+    good : Good entries files l all live written ps a bodies p are are_live run owned c
     user : Name
     used : IsUsed user (class_use c)
 
   module _ (c : Name) (m : MadeIn c) where
     abbrev parts : Parts
-    parts = its entries files l all live written ps bytes a bodies p are are_live run owned c m.good
+    parts = its entries files l all live written ps a bodies p are are_live run owned c m.good
 
     stands_there : StandsThere c
     stands_there = owner_stands m.user (class_use c) m.used
 
     abbrev its_class : Piece
-    its_class = class_of_its entries files l all live written ps bytes a bodies p are are_live run owned c m.good
+    its_class = class_of_its entries files l all live written ps a bodies p are are_live run owned c m.good
 
     class_listed : Contains ps its_class
-    class_listed = class_here entries files l all live written ps bytes a bodies p are are_live run owned c m.good
+    class_listed = class_here entries files l all live written ps a bodies p are are_live run owned c m.good
 
     own_class : class_of w c ≡ Some parts.class
-    own_class = (own entries files l all live written ps bytes a bodies p are are_live run owned c m.good).are.class_is
+    own_class = (own entries files l all live written ps a bodies p are are_live run owned c m.good).are.class_is
 
     class_declared : ClassDeclared z c parts.class.superclass
     class_declared = record {
@@ -278,25 +277,25 @@ module _ (entries : List EntryPoint) (files : List SourceFile) (l : Linked) (all
       definition = parts.class;
       found = same-class w c ∙ own_class;
       fields = parts.fields;
-      own = own_fields parts.class.fields parts.fields (own entries files l all live written ps bytes a bodies p are are_live run owned c m.good).are.fields;
-      whole = whole_fields parts.class.fields parts.fields (own entries files l all live written ps bytes a bodies p are are_live run owned c m.good).are.fields;
+      own = own_fields parts.class.fields parts.fields (own entries files l all live written ps a bodies p are are_live run owned c m.good).are.fields;
+      whole = whole_fields parts.class.fields parts.fields (own entries files l all live written ps a bodies p are are_live run owned c m.good).are.fields;
       ancestors = parts.ancestors;
-      constants = stands_at_home (constants_piece c parts.ancestors) stands_there (constants_here entries files l all live written ps bytes a bodies p are are_live run owned c m.good) m.good.is_written;
+      constants = stands_at_home (constants_piece c parts.ancestors) stands_there (constants_here entries files l all live written ps a bodies p are are_live run owned c m.good) m.good.is_written;
       leads = leads_to (home_of c) (some_constants c) (used_at_home its_class stands_there class_listed (binding_of (some_constants c)) (uses_constants c parts.class.superclass parts.entries));
       others = map entry_member parts.entries;
       class = stands_at_home its_class stands_there class_listed m.good.is_written;
-      marked = marked c (is_named entries files l all live written ps bytes a bodies p are are_live run owned c m.good);
-      no_char = byte_not c (free entries files l all live written ps bytes a bodies p are are_live run owned c m.good) (codes "java.lang.Character") refl;
+      marked = marked c (is_named entries files l all live written ps a bodies p are are_live run owned c m.good);
+      no_char = byte_not c (free entries files l all live written ps a bodies p are are_live run owned c m.good) (codes "java.lang.Character") refl;
     }
 
     uses_above : (d : Name) → parts.class.superclass ≡ Some d → IsUsed (home_of c) (class_use d)
     uses_above d super = used_at_home its_class stands_there class_listed (class_use d) (uses_superclass c d parts.class.superclass parts.entries super)
 
     super_made : (d : Name) → parts.class.superclass ≡ Some d → MadeIn d
-    super_made d super = record { good = super_good entries files l all live written ps bytes a bodies p are are_live run owned c m.good d super; user = home_of c; used = uses_above d super }
+    super_made d super = record { good = super_good entries files l all live written ps a bodies p are are_live run owned c m.good d super; user = home_of c; used = uses_above d super }
 
     abbrev stands : Stands w MadeIn c
-    stands = record { class = parts.class; found = own_class; free = free entries files l all live written ps bytes a bodies p are are_live run owned c m.good; up = super_made }
+    stands = record { class = parts.class; found = own_class; free = free entries files l all live written ps a bodies p are are_live run owned c m.good; up = super_made }
 
   chain_ends : (c : Name) (m : MadeIn c) → (parts c m).class.superclass ≡ None → ChainDeclared z (c ∷ [])
   chain_ends c m e = extends_none c (subst (ClassDeclared z c) e (class_declared c m))
@@ -307,14 +306,14 @@ module _ (entries : List EntryPoint) (files : List SourceFile) (l : Linked) (all
   class_made : (f c : Name) → (z.has f).live c ≡ true → MadeDeclared z c
   class_made f c h =
       let q = and_parts (there.live c) (uses_in modules ps f (class_use c)) h in
-      let m : MadeIn c = record { good = live_good entries files l all live written ps bytes a bodies p are are_live run owned c q.0; user = f; used = q.1 } in
-      let chain = whole_chain w (classes_kept entries files w bytes a) a.world.no_cycle MadeIn stands (ChainDeclared z) chain_ends chain_goes_on c m in
+      let m : MadeIn c = record { good = live_good entries files l all live written ps a bodies p are are_live run owned c q.0; user = f; used = q.1 } in
+      let chain = whole_chain w (classes_kept entries files w a) a.world.no_cycle MadeIn stands (ChainDeclared z) chain_ends chain_goes_on c m in
       record { above = chain.above; chain = chain.is_chain; classes = chain.classes }
 
   -- static fields
 
   record StaticUsed (c g : Name) (t : IrType) : Type 0 where
-    need : Needed entries files l all live written ps bytes a bodies p are are_live run owned c g t
+    need : Needed entries files l all live written ps a bodies p are are_live run owned c g t
     in_file : StandsThere c
 
   static_used : (f c g : Name) (t : IrType) → has_static (z.has f) c g t ≡ true → StaticUsed c g t
@@ -324,17 +323,17 @@ module _ (entries : List EntryPoint) (files : List SourceFile) (l : Linked) (all
   ]
     where
       needs : uses_static w l.facts written c g t ≡ true → StandsThere c → StaticUsed c g t
-      needs k s = record { need = needed_static entries files l all live written ps bytes a bodies p are are_live run owned c g t (or_left (uses_static w l.facts written c g t) (uses_static w l.facts written c g t) k); in_file = s }
+      needs k s = record { need = needed_static entries files l all live written ps a bodies p are are_live run owned c g t (or_left (uses_static w l.facts written c g t) (uses_static w l.facts written c g t) k); in_file = s }
 
   static_declared : (f c g : Name) (t : IrType) → has_static (z.has f) c g t ≡ true → StaticDeclared z c g t
   static_declared f c g t h =
       let u = static_used f c g t h in
       let d : FieldDef = u.need.field.field in
-      let setter = setter_there entries files l all live written ps bytes a bodies p are are_live run owned c g t u.need in
+      let setter = setter_there entries files l all live written ps a bodies p are are_live run owned c g t u.need in
       let used = used_at_home (setter_piece c d) u.in_file setter (record { owner = c; name = static_name c d.name }) (at_first (record { owner = c; name = static_name c d.name }) []) in
       record {
         field = u.need.field;
-        variable = stands_at_home (variable_piece c d) u.in_file (variable_there entries files l all live written ps bytes a bodies p are are_live run owned c g t u.need) u.need.here;
+        variable = stands_at_home (variable_piece c d) u.in_file (variable_there entries files l all live written ps a bodies p are are_live run owned c g t u.need) u.need.here;
         setter = stands_at_home (setter_piece c d) u.in_file setter u.need.here;
         beside = refl;
         leads = leads_to (home_of c) (a_static c g t) (subst (λ (n : Name). IsUsed (home_of c) (static_use c n)) u.need.field.named used);
@@ -349,8 +348,8 @@ module _ (entries : List EntryPoint) (files : List SourceFile) (l : Linked) (all
 
   cell_used : (f c : Name) → has_cell (z.has f) c ≡ true → CellIn c
   cell_used f c h = elim (or_cases ((z.has f).modules c) ((z.has f).stored c) h) [
-    | inl loaded ↦ let q = and_parts (there.modules c) (uses_in modules ps f (load_use c)) loaded in record { there_is = (loaded_there entries files l all live written ps bytes a bodies p run c q.0).its; in_file = owner_stands f (load_use c) q.1 }
-    | inr stored ↦ let q = and_parts (there.stored c) (uses_in modules ps f (store_use c)) stored in record { there_is = stored_there entries files l all live written ps bytes a bodies p run c q.0; in_file = owner_stands f (store_use c) q.1 }
+    | inl loaded ↦ let q = and_parts (there.modules c) (uses_in modules ps f (load_use c)) loaded in record { there_is = (loaded_there entries files l all live written ps a bodies p run c q.0).its; in_file = owner_stands f (load_use c) q.1 }
+    | inr stored ↦ let q = and_parts (there.stored c) (uses_in modules ps f (store_use c)) stored in record { there_is = stored_there entries files l all live written ps a bodies p run c q.0; in_file = owner_stands f (store_use c) q.1 }
   ]
 
   store_declared : (f c : Name) → has_cell (z.has f) c ≡ true → StoreDeclared z c
@@ -368,7 +367,7 @@ module _ (entries : List EntryPoint) (files : List SourceFile) (l : Linked) (all
   load_declared : (f c : Name) → (z.has f).modules c ≡ true → LoadDeclared z c
   load_declared f c h =
       let q = and_parts (there.modules c) (uses_in modules ps f (load_use c)) h in
-      let its = loaded_there entries files l all live written ps bytes a bodies p run c q.0 in
+      let its = loaded_there entries files l all live written ps a bodies p run c q.0 in
       let s = owner_stands f (load_use c) q.1 in
       let can = module_made w l.facts all live p.helpers written c its.its.here (run.loads c (and_parts (is_among written c) (is_loaded all c) q.0).1) in
       let used : (b : Binding) → Contains (load_piece c).uses b → IsUsed (home_of c) b = used_at_home (load_piece c) s its.loader in
@@ -383,11 +382,11 @@ module _ (entries : List EntryPoint) (files : List SourceFile) (l : Linked) (all
   -- helpers
 
   record HelperUsed (h : Helper) : Type 0 where
-    is_written : IsWritten entries files l all live written ps bytes a bodies p are are_live run owned h
+    is_written : IsWritten entries files l all live written ps a bodies p are are_live run owned h
     in_file : StandsThere object_class
 
   helper_used : (f : Name) (h : Helper) → (z.has f).helper (helper_name h) ≡ true → HelperUsed h
-  helper_used f h e = let q = and_parts (there.helper (helper_name h)) (uses_in modules ps f (object_binding (helper_name h))) e in record { is_written = helper_written entries files l all live written ps bytes a bodies p are are_live run owned h q.0; in_file = owner_stands f (object_binding (helper_name h)) q.1 }
+  helper_used f h e = let q = and_parts (there.helper (helper_name h)) (uses_in modules ps f (object_binding (helper_name h))) e in record { is_written = helper_written entries files l all live written ps a bodies p are are_live run owned h q.0; in_file = owner_stands f (object_binding (helper_name h)) q.1 }
 
   -- the test of a primitive type, at home with the helpers
   kind_test_declared : (f : Name) (t : IrType) → has_kind t ≡ true → written_helper p.helpers written (test_name t) ≡ true → list_all (uses_in modules ps f) (test_uses t) ≡ true → KindTestDeclared z f t
@@ -412,7 +411,7 @@ module _ (entries : List EntryPoint) (files : List SourceFile) (l : Linked) (all
 
       kind_by : (k : Kind) → Contains (kind_tests t.parts.instances o) (helper_binding (helper_name (helpers.TestOf k))) → UsesTop z (a_test (Class c)) (a_helper (helpers.TestOf k))
       kind_by k u = and_from (there.helper (helper_name (helpers.TestOf k))) (uses_in modules ps (home_of c) (object_binding (helper_name (helpers.TestOf k))))
-          (helper_had entries files l all live written ps bytes a bodies p are are_live run owned (helpers.TestOf k) (record { among_helpers = t.kinds k (subst (λ (x : Option Kind). Contains (kind_tests t.parts.instances x) (helper_binding (helper_name (helpers.TestOf k)))) (sym e) u); with_object = owned (piece_by o) listed_by t.here (helper_binding (helper_name (helpers.TestOf k))) u }))
+          (helper_had entries files l all live written ps a bodies p are are_live run owned (helpers.TestOf k) (record { among_helpers = t.kinds k (subst (λ (x : Option Kind). Contains (kind_tests t.parts.instances x) (helper_binding (helper_name (helpers.TestOf k)))) (sym e) u); with_object = owned (piece_by o) listed_by t.here (helper_binding (helper_name (helpers.TestOf k))) u }))
           (used_at_home (piece_by o) s listed_by (helper_binding (helper_name (helpers.TestOf k))) u)
 
     class_test_declared : ClassTestDeclared z c
@@ -425,7 +424,7 @@ module _ (entries : List EntryPoint) (files : List SourceFile) (l : Linked) (all
             subst (ClassTestDeclared z) (sym same) (by_kind k t.parts.instances (subst (λ (n : Name). Contains (all_items z) (placed (home_of n) (test_piece n t.parts.instances (Some k)).item)) same (item_by (Some k) e)) (subst (λ (n : Name). UsesTop z (a_test (Class n)) (a_helper (helpers.TestOf k))) same (kind_by (Some k) e k (at_first (helper_binding (helper_name (helpers.TestOf k))) []))))
 
   test_declared : (f : Name) (t : IrType) → (z.has f).tests t ≡ true → TestDeclared z f t
-  test_declared f (Class c) h = let q = and_parts (there.tests (Class c)) (list_all (uses_in modules ps f) (test_uses (Class c))) h in let b = binding_of (a_test (Class c)) in of_class c (class_test_declared c (class_test_there entries files l all live written ps bytes a bodies p are are_live run owned c q.0) (owner_stands f b (and_parts (uses_in modules ps f b) true q.1).0))
+  test_declared f (Class c) h = let q = and_parts (there.tests (Class c)) (list_all (uses_in modules ps f) (test_uses (Class c))) h in let b = binding_of (a_test (Class c)) in of_class c (class_test_declared c (class_test_there entries files l all live written ps a bodies p are are_live run owned c q.0) (owner_stands f b (and_parts (uses_in modules ps f b) true q.1).0))
   test_declared f (Array r) h =
       let q = and_parts (there.tests (Array r)) (list_all (uses_in modules ps f) (test_uses (Array r))) h in
       of_array r (record { helper = and_from (there.helper (test_name (Array r))) (uses_in modules ps f (object_binding (test_name (Array r)))) q.0 (and_parts (uses_in modules ps f (object_binding (test_name (Array r)))) true q.1).0; home = refl })
@@ -436,7 +435,7 @@ module _ (entries : List EntryPoint) (files : List SourceFile) (l : Linked) (all
 
   module _ (h : Helper) (u : HelperUsed h) where
     listed : Contains ps (helper_piece p.above h)
-    listed = helper_listed entries files l all live written ps bytes a bodies p are are_live run owned h u.is_written
+    listed = helper_listed entries files l all live written ps a bodies p are are_live run owned h u.is_written
 
     helper_stands : Contains (all_items z) (placed (home_of object_class) (helper_item p.above h))
     helper_stands = stands_at_home (helper_piece p.above h) u.in_file listed u.is_written.with_object
@@ -446,7 +445,7 @@ module _ (entries : List EntryPoint) (files : List SourceFile) (l : Linked) (all
     beside k i = record { is_written = record { among_helpers = run.closed h k u.is_written.among_helpers i; with_object = u.is_written.with_object }; in_file = u.in_file }
 
     uses_helper : (k : Helper) → Contains (used_helpers h) k → UsesTop z (a_helper h) (a_helper k)
-    uses_helper k i = and_from (there.helper (helper_name k)) (uses_in modules ps (home_of object_class) (object_binding (helper_name k))) (helper_had entries files l all live written ps bytes a bodies p are are_live run owned k (beside k i).is_written) (used_at_home (helper_piece p.above h) u.in_file listed (of k) (Contains-append_right (used_of_classes h) (map of (used_helpers h)) (of k) (into_map of (used_helpers h) k i)))
+    uses_helper k i = and_from (there.helper (helper_name k)) (uses_in modules ps (home_of object_class) (object_binding (helper_name k))) (helper_had entries files l all live written ps a bodies p are are_live run owned k (beside k i).is_written) (used_at_home (helper_piece p.above h) u.in_file listed (of k) (Contains-append_right (used_of_classes h) (map of (used_helpers h)) (of k) (into_map of (used_helpers h) k i)))
 
   -- an exception of this class can be made where the helper is that throws it
   abbrev Makes : Failure → Type 0
@@ -478,17 +477,17 @@ module _ (entries : List EntryPoint) (files : List SourceFile) (l : Linked) (all
   -- the cast to a class, with its test
   class_cast_declared : (c : Name) → there.casts (Class c) ≡ true → StandsThere c → ClassCastDeclared z c
   class_cast_declared c can s =
-      let k = class_cast_there entries files l all live written ps bytes a bodies p are are_live run owned c can in
+      let k = class_cast_there entries files l all live written ps a bodies p are are_live run owned c can in
       let its_test = binding_of (a_test (Class c)) in
       let its_thrower = helper_binding (helper_name (helpers.Throws Cast)) in
       let parts = and_parts (is_among written c) (is_cast all c) can in
-      let thrower_written : IsWritten entries files l all live written ps bytes a bodies p are are_live run owned (helpers.Throws Cast) = let both = run.casts c k.tests.here parts.1 in record { among_helpers = both.1; with_object = both.0 } in
+      let thrower_written : IsWritten entries files l all live written ps a bodies p are are_live run owned (helpers.Throws Cast) = let both = run.casts c k.tests.here parts.1 in record { among_helpers = both.1; with_object = both.0 } in
       let used_thrower = used_at_home (cast_piece c) s k.cast its_thrower (further its_test its_thrower (its_thrower ∷ []) (at_first its_thrower [])) in
       record {
         cast = stands_at_home (cast_piece c) s k.cast k.tests.here;
         test = class_test_declared c k.tests s;
         tests = and_from (there.tests (Class c)) (list_all (uses_in modules ps (home_of c)) (test_uses (Class c))) (and_from (is_among written c) (is_tested all c || is_cast all c) parts.0 (or_right (is_tested all c) (is_cast all c) parts.1)) (and_from (uses_in modules ps (home_of c) its_test) true (used_at_home (cast_piece c) s k.cast its_test (at_first its_test (its_thrower ∷ []))) refl);
-        thrower = and_from (there.helper (helper_name (helpers.Throws Cast))) (uses_in modules ps (home_of c) its_thrower) (helper_had entries files l all live written ps bytes a bodies p are are_live run owned (helpers.Throws Cast) thrower_written) used_thrower;
+        thrower = and_from (there.helper (helper_name (helpers.Throws Cast))) (uses_in modules ps (home_of c) its_thrower) (helper_had entries files l all live written ps a bodies p are are_live run owned (helpers.Throws Cast) thrower_written) used_thrower;
       }
 
   cast_declared : (f : Name) (t : IrType) → (z.has f).casts t ≡ true → CastDeclared z f t
@@ -511,7 +510,7 @@ module _ (entries : List EntryPoint) (files : List SourceFile) (l : Linked) (all
   AllMade (c ∷ cs) = MadeIn c × AllMade cs
 
   chain_made : (c : Name) → MadeIn c → Chained AllMade (chain_of w c) c
-  chain_made = whole_chain w (classes_kept entries files w bytes a) a.world.no_cycle MadeIn stands AllMade (λ c m e. (m, tt)) (λ c d ds m e rest. (m, rest))
+  chain_made = whole_chain w (classes_kept entries files w a) a.world.no_cycle MadeIn stands AllMade (λ c m e. (m, tt)) (λ c d ds m e rest. (m, rest))
 
   -- the target of a call, whose function the file of the binding uses
   target_declared : (t : Top) (d : Name) (m : MethodName) (owner : Name) → IsReachedTarget w l.facts d m owner → Contains written owner → IsUsed (z.home t) (function_binding (member owner Public m)) → TargetDeclared z t d m
@@ -519,7 +518,7 @@ module _ (entries : List EntryPoint) (files : List SourceFile) (l : Linked) (all
       let k : Member = member owner Public m in
       record {
         owner = owner;
-        target = runs_target entries files w l.facts bytes a exact d m owner target.is_target;
+        target = runs_target entries files w l.facts a exact d m owner target.is_target;
         uses = and_from (there.received k) (uses_in modules ps (z.home t) (function_binding k)) (and_from (is_among written owner) (has_function all k) ((among written owner).1 here) (has_function-from all k ((bodies.exact k).1 (run.reached (Body k) target.reached)))) used;
       }
 
@@ -543,7 +542,7 @@ module _ (entries : List EntryPoint) (files : List SourceFile) (l : Linked) (all
   dispatch_used f m h =
       let b = binding_of (a_dispatch m) in
       let q = and_parts (there.dispatched m) (list_all (uses_in modules ps f) (looked_up_uses true m)) h in
-      record { function = dispatch_there entries files l all written ps bytes a bodies p are exact owned m q.0; in_file = owner_stands f b (and_parts (uses_in modules ps f b) true q.1).0 }
+      record { function = dispatch_there entries files l all written ps a bodies p are exact owned m q.0; in_file = owner_stands f b (and_parts (uses_in modules ps f b) true q.1).0 }
 
   module _ (m : MethodName) (u : DispatchUsed m) where
     abbrev its_dispatch : DispatchThere l ps written p.helpers m
@@ -561,7 +560,7 @@ module _ (entries : List EntryPoint) (files : List SourceFile) (l : Linked) (all
         record {
           told = its.told;
           test = and_from (there.helper (helper_name (helpers.TestOf t.kind))) (uses_in modules ps (home_of object_class) tests)
-              (helper_had entries files l all live written ps bytes a bodies p are are_live run owned (helpers.TestOf t.kind) (record { among_helpers = its_dispatch.tests t i; with_object = its_dispatch.here }))
+              (helper_had entries files l all live written ps a bodies p are are_live run owned (helpers.TestOf t.kind) (record { among_helpers = its_dispatch.tests t i; with_object = its_dispatch.here }))
               (used_at_home q u.in_file its_dispatch.piece tests (its_dispatch.asks t i));
           its = target_declared (a_dispatch m) (kind_class t.kind) m t.owner its.target (its_dispatch.owners t i) (used_at_home q u.in_file its_dispatch.piece (function_binding (member t.owner Public m)) (its_dispatch.calls t i));
           owner_is = refl;
@@ -570,7 +569,7 @@ module _ (entries : List EntryPoint) (files : List SourceFile) (l : Linked) (all
     module _ (c : Name) (called : Contains l.facts (Called c m)) (free : is_hijacked c ≡ false) where
       case_for : (k : Kind) → is_told k ≡ true → is_ancestor w (kind_class k) c ≡ true → HasCase its_dispatch.cases k
       case_for k told below =
-          let t = target_of entries files w l.facts bytes a exact (kind_class k) m (on_hijacked (kind_class k) c (run.reached (Called c m) called) (kind_hijacked k) (stands_above w (kind_class k) c below)) in
+          let t = target_of entries files w l.facts a exact (kind_class k) m (on_hijacked (kind_class k) c (run.reached (Called c m) called) (kind_hijacked k) (stands_above w (kind_class k) c below)) in
           has_case w l.facts m its_dispatch.cases its_dispatch.are_told k told t.owner t.target
 
       -- with a case at least, since some hijacked class is told there or below
@@ -594,13 +593,13 @@ module _ (entries : List EntryPoint) (files : List SourceFile) (l : Linked) (all
       called = called_known l.facts c m (and_parts (list_any (calls_on c m) l.facts) (not (has_hijacked_in w c) || tells_apart w l.facts all written m) q.0).0
 
       free : is_hijacked c ≡ false
-      free = called_free entries files w l.facts bytes a exact c m called
+      free = called_free entries files w l.facts a exact c m called
 
       objects : (g d : Name) → (z.has g).made d ≡ true → is_ancestor w d c ≡ true → EntryDeclared z d m (chain_of w d)
       objects g d made below =
           let s = and_parts (there.made d) (uses_in modules ps g (class_use d)) made in
-          let found = entry_there entries files l all live written ps bytes a bodies p are are_live run owned c m q.0 d s.0 below in
-          let chain = chain_made d (record { good = live_good entries files l all live written ps bytes a bodies p are are_live run owned d (made_is_live entries files l all live written ps bytes a bodies p are are_live run owned d s.0); user = g; used = s.1 }) in
+          let found = entry_there entries files l all live written ps a bodies p are are_live run owned c m q.0 d s.0 below in
+          let chain = chain_made d (record { good = live_good entries files l all live written ps a bodies p are are_live run owned d (made_is_live entries files l all live written ps a bodies p are are_live run owned d s.0); user = g; used = s.1 }) in
           entry_declared d m found.owner found.target found.here (chain_of w d) found.entry (subst AllMade (sym chain.is_chain) chain.classes)
 
       dispatched : has_hijacked_in w c ≡ true → (z.has f).dispatched m ≡ true
@@ -616,7 +615,7 @@ module _ (entries : List EntryPoint) (files : List SourceFile) (l : Linked) (all
   -- arrays
 
   plain : IsPlain w
-  plain = let kept = classes_kept entries files w bytes a in plain_world w kept.superclass kept.hijacked
+  plain = let kept = classes_kept entries files w a in plain_world w kept.superclass kept.hijacked
 
   -- the first of these classes extends the second
   abbrev Extends : List Name → Type 0
@@ -628,7 +627,7 @@ module _ (entries : List EntryPoint) (files : List SourceFile) (l : Linked) (all
 
   -- no class stands above that of all objects
   object_alone : MadeIn object_class → chain_of w object_class ≡ object_class ∷ []
-  object_alone m = let chain = whole_chain w (classes_kept entries files w bytes a) a.world.no_cycle MadeIn stands Extends (λ c m e. tt) (λ c d ds m e rest. writes_above c d m e) object_class m in go chain.above chain.is_chain chain.classes
+  object_alone m = let chain = whole_chain w (classes_kept entries files w a) a.world.no_cycle MadeIn stands Extends (λ c m e. tt) (λ c d ds m e rest. writes_above c d m e) object_class m in go chain.above chain.is_chain chain.classes
     where
       go : (cs : List Name) → chain_of w object_class ≡ object_class ∷ cs → Extends (object_class ∷ cs) → chain_of w object_class ≡ object_class ∷ []
       go [] e h = e
@@ -637,7 +636,7 @@ module _ (entries : List EntryPoint) (files : List SourceFile) (l : Linked) (all
   arrays_declared : (f : Name) → (z.has f).helper (helper_name helpers.ArrayClass) ≡ true → ArraysDeclared z
   arrays_declared f e = record {
     live = and_from (there.live object_class) (uses_in modules ps (home_of object_class) (class_use object_class)) object_live uses_object;
-    alone = object_alone (record { good = live_good entries files l all live written ps bytes a bodies p are are_live run owned object_class object_live; user = home_of object_class; used = uses_object });
+    alone = object_alone (record { good = live_good entries files l all live written ps a bodies p are are_live run owned object_class object_live; user = home_of object_class; used = uses_object });
     made = λ g can. and_from (there.made object_class) (uses_in modules ps (home_of object_class) (class_use object_class)) can uses_object;
   }
     where
@@ -654,13 +653,13 @@ module _ (entries : List EntryPoint) (files : List SourceFile) (l : Linked) (all
   base_declared : (f c : Name) → (z.has f).bases c ≡ true → ConstantsDeclared z c
   base_declared f c h =
       let q = and_parts (there.bases c) (list_all (uses_in modules ps f) (base_uses (BaseRef.Class c))) h in
-      let its = class_base_there entries files l all live written ps bytes a bodies p are are_live run owned c q.0 in
+      let its = class_base_there entries files l all live written ps a bodies p are are_live run owned c q.0 in
       let b = binding_of (some_constants c) in
       let s = owner_stands f b (and_parts (uses_in modules ps f b) true q.1).0 in
       record {
         ancestors = its.parts.ancestors;
         constants = stands_at_home (constants_piece c its.parts.ancestors) s its.constants its.here;
-        marked = marked c (subst (λ (n : Name). IsTrue (is_class_name n)) (class_found w c its.parts.class its.are.class_is).1 (class_named entries files w bytes a its.parts.class (class_found w c its.parts.class its.are.class_is).0));
+        marked = marked c (subst (λ (n : Name). IsTrue (is_class_name n)) (class_found w c its.parts.class its.are.class_is).1 (class_named entries files w a its.parts.class (class_found w c its.parts.class its.are.class_is).0));
       }
 
   -- a method that is called on arrays is found on objects of the class of all objects
@@ -670,9 +669,9 @@ module _ (entries : List EntryPoint) (files : List SourceFile) (l : Linked) (all
       objects : (g : Name) → (z.has g).made object_class ≡ true → EntryDeclared z object_class m (chain_of w object_class)
       objects g made =
           let s = and_parts (there.made object_class) (uses_in modules ps g (class_use object_class)) made in
-          let its : MadeIn object_class = record { good = live_good entries files l all live written ps bytes a bodies p are are_live run owned object_class (made_is_live entries files l all live written ps bytes a bodies p are are_live run owned object_class s.0); user = g; used = s.1 } in
+          let its : MadeIn object_class = record { good = live_good entries files l all live written ps a bodies p are are_live run owned object_class (made_is_live entries files l all live written ps a bodies p are are_live run owned object_class s.0); user = g; used = s.1 } in
           let below : is_ancestor w object_class object_class ≡ true = above_found w object_class object_class (record { known = known_class w object_class (parts object_class its).class (own_class object_class its); way = is_object refl }) in
-          let found = entry_called entries files l all live written ps bytes a bodies p are are_live run owned object_class m h object_class s.0 below in
+          let found = entry_called entries files l all live written ps a bodies p are are_live run owned object_class m h object_class s.0 below in
           let chain = chain_made object_class its in
           entry_declared object_class m found.owner found.target found.here (chain_of w object_class) found.entry (subst AllMade (sym chain.is_chain) chain.classes)
 
@@ -685,10 +684,10 @@ module _ (entries : List EntryPoint) (files : List SourceFile) (l : Linked) (all
   reflection_used f m h =
       let b = binding_of (a_reflection m) in
       let q = and_parts (there.reflected m) (list_all (uses_in modules ps f) (call_uses there.lookup (callees.Reflective m))) h in
-      record { function = reflection_there entries files l all written ps bytes a bodies p are exact owned m q.0; in_file = owner_stands f b (and_parts (uses_in modules ps f b) true q.1).0 }
+      record { function = reflection_there entries files l all written ps a bodies p are exact owned m q.0; in_file = owner_stands f b (and_parts (uses_in modules ps f b) true q.1).0 }
 
   helper_with : (h : Helper) → Contains p.helpers h → Contains written object_class → there.helper (helper_name h) ≡ true
-  helper_with h i here = helper_had entries files l all live written ps bytes a bodies p are are_live run owned h (record { among_helpers = i; with_object = here })
+  helper_with h i here = helper_had entries files l all live written ps a bodies p are are_live run owned h (record { among_helpers = i; with_object = here })
 
   module _ (m : MethodName) (u : ReflectionUsed m) where
     abbrev its_reflection : ReflectionThere l ps written p.helpers m
@@ -725,7 +724,7 @@ module _ (entries : List EntryPoint) (files : List SourceFile) (l : Linked) (all
         }
 
     kind_declared : (k : Kind) → is_told k ≡ true → ReflectedKind z m its_reflection.cases k
-    kind_declared k is = go (kind_reflected w l.facts m its_reflection.cases its_reflection.are_reflected k is (λ d e. let its = kind_target entries files w l.facts bytes a exact m its_reflection.called k d e in (its.owner, its.target)))
+    kind_declared k is = go (kind_reflected w l.facts m its_reflection.cases its_reflection.are_reflected k is (λ d e. let its = kind_target entries files w l.facts a exact m its_reflection.called k d e in (its.owner, its.target)))
       where
         go : (proxy_target w (kind_class k) m ≡ None) ⊎ HasReflected its_reflection.cases k → ReflectedKind z m its_reflection.cases k
         go (inl none) = no_case none
@@ -745,7 +744,7 @@ module _ (entries : List EntryPoint) (files : List SourceFile) (l : Linked) (all
         proxy_here c cs th.parts.class.superclass (members c th.parts.class.superclass th.parts.entries th.parts.fields) (stands_at_home q s th.class here) code (λ e. (let k = boxes e in and_from (there.helper (helper_name helpers.BoxedChar)) (uses_in modules ps (home_of c) b) (helper_with helpers.BoxedChar k.1 (owned q th.class here b k.0)) (used_at_home q s th.class b k.0)))
 
     answers_declared : (f d : Name) → (z.has f).made d ≡ true → AnswerDeclared z d m
-    answers_declared f d made = go (answer_there entries files l all written ps bytes a bodies p are exact owned m its_reflection.called d ((among written d).0 q.0) (made_known l.facts d q.1))
+    answers_declared f d made = go (answer_there entries files l all written ps a bodies p are exact owned m its_reflection.called d ((among written d).0 q.0) (made_known l.facts d q.1))
       where
         s : (there.made d ≡ true) × IsUsed f (class_use d)
         s = and_parts (there.made d) (uses_in modules ps f (class_use d)) made
@@ -754,7 +753,7 @@ module _ (entries : List EntryPoint) (files : List SourceFile) (l : Linked) (all
         q = and_parts (is_among written d) (list_any (makes d) l.facts) s.0
 
         all_made : AllMade (chain_of w d)
-        all_made = let chain = chain_made d (record { good = live_good entries files l all live written ps bytes a bodies p are are_live run owned d (made_is_live entries files l all live written ps bytes a bodies p are are_live run owned d s.0); user = f; used = s.1 }) in subst AllMade (sym chain.is_chain) chain.classes
+        all_made = let chain = chain_made d (record { good = live_good entries files l all live written ps a bodies p are are_live run owned d (made_is_live entries files l all live written ps a bodies p are are_live run owned d s.0); user = f; used = s.1 }) in subst AllMade (sym chain.is_chain) chain.classes
 
         go : NamedThere l ps written p.helpers d m → AnswerDeclared z d m
         go (not_named none lacks) = no_answer none (no_entries (chain_of w d) lacks all_made)
@@ -776,32 +775,32 @@ module _ (entries : List EntryPoint) (files : List SourceFile) (l : Linked) (all
   reflection_declared f m h = its_declaration m (reflection_used f m h)
 
 pub modules_declare : ModulesDeclare
-modules_declare entries files l all live written modules ps front last declared bytes a bodies p are are_live run owned extends together whole stand marks = record {
-  leads = λ f t h. leads_to entries files l all live written modules ps front last declared bytes a bodies p are are_live run owned extends together whole stand marks f t (named_used (used_of l.world l.facts all live p.helpers written) (uses_in modules ps f) (test_used all p.helpers written (uses_in modules ps f)) (cast_used all p.helpers written (uses_in modules ps f)) t h);
-  linked = linked_declared entries files l all live written modules ps front last declared bytes a bodies p are are_live run owned extends together whole stand marks;
-  received = received_declared entries files l all live written modules ps front last declared bytes a bodies p are are_live run owned extends together whole stand marks;
-  looked = looked_declared entries files l all live written modules ps front last declared bytes a bodies p are are_live run owned extends together whole stand marks;
-  dispatched = told_apart entries files l all live written modules ps front last declared bytes a bodies p are are_live run owned extends together whole stand marks;
-  reflected = reflection_declared entries files l all live written modules ps front last declared bytes a bodies p are are_live run owned extends together whole stand marks;
-  built = built_declared entries files l all live written modules ps front last declared bytes a bodies p are are_live run owned extends together whole stand marks;
-  live = class_made entries files l all live written modules ps front last declared bytes a bodies p are are_live run owned extends together whole stand marks;
-  bases = base_declared entries files l all live written modules ps front last declared bytes a bodies p are are_live run owned extends together whole stand marks;
-  on_arrays = array_call_declared entries files l all live written modules ps front last declared bytes a bodies p are are_live run owned extends together whole stand marks;
-  made = λ f c h. let q = and_parts ((used_of l.world l.facts all live p.helpers written).made c) (uses_in modules ps f (class_use c)) h in and_from ((used_of l.world l.facts all live p.helpers written).live c) (uses_in modules ps f (class_use c)) (made_is_live entries files l all live written ps bytes a bodies p are are_live run owned c q.0) q.1;
+modules_declare entries files l all live written modules ps front last declared a bodies p are are_live run owned extends together whole stand marks = record {
+  leads = λ f t h. leads_to entries files l all live written modules ps front last declared a bodies p are are_live run owned extends together whole stand marks f t (named_used (used_of l.world l.facts all live p.helpers written) (uses_in modules ps f) (test_used all p.helpers written (uses_in modules ps f)) (cast_used all p.helpers written (uses_in modules ps f)) t h);
+  linked = linked_declared entries files l all live written modules ps front last declared a bodies p are are_live run owned extends together whole stand marks;
+  received = received_declared entries files l all live written modules ps front last declared a bodies p are are_live run owned extends together whole stand marks;
+  looked = looked_declared entries files l all live written modules ps front last declared a bodies p are are_live run owned extends together whole stand marks;
+  dispatched = told_apart entries files l all live written modules ps front last declared a bodies p are are_live run owned extends together whole stand marks;
+  reflected = reflection_declared entries files l all live written modules ps front last declared a bodies p are are_live run owned extends together whole stand marks;
+  built = built_declared entries files l all live written modules ps front last declared a bodies p are are_live run owned extends together whole stand marks;
+  live = class_made entries files l all live written modules ps front last declared a bodies p are are_live run owned extends together whole stand marks;
+  bases = base_declared entries files l all live written modules ps front last declared a bodies p are are_live run owned extends together whole stand marks;
+  on_arrays = array_call_declared entries files l all live written modules ps front last declared a bodies p are are_live run owned extends together whole stand marks;
+  made = λ f c h. let q = and_parts ((used_of l.world l.facts all live p.helpers written).made c) (uses_in modules ps f (class_use c)) h in and_from ((used_of l.world l.facts all live p.helpers written).live c) (uses_in modules ps f (class_use c)) (made_is_live entries files l all live written ps a bodies p are are_live run owned c q.0) q.1;
   field = λ f. field_there l.world;
-  static_field = static_declared entries files l all live written modules ps front last declared bytes a bodies p are are_live run owned extends together whole stand marks;
-  stored = store_declared entries files l all live written modules ps front last declared bytes a bodies p are are_live run owned extends together whole stand marks;
-  loaded = load_declared entries files l all live written modules ps front last declared bytes a bodies p are are_live run owned extends together whole stand marks;
-  tests = test_declared entries files l all live written modules ps front last declared bytes a bodies p are are_live run owned extends together whole stand marks;
-  casts = cast_declared entries files l all live written modules ps front last declared bytes a bodies p are are_live run owned extends together whole stand marks;
+  static_field = static_declared entries files l all live written modules ps front last declared a bodies p are are_live run owned extends together whole stand marks;
+  stored = store_declared entries files l all live written modules ps front last declared a bodies p are are_live run owned extends together whole stand marks;
+  loaded = load_declared entries files l all live written modules ps front last declared a bodies p are are_live run owned extends together whole stand marks;
+  tests = test_declared entries files l all live written modules ps front last declared a bodies p are are_live run owned extends together whole stand marks;
+  casts = cast_declared entries files l all live written modules ps front last declared a bodies p are are_live run owned extends together whole stand marks;
   marked = marks;
-  kept = fields_kept entries files l.world bytes a;
+  kept = fields_kept entries files l.world a;
   ancestors = p.above;
-  helper = λ f h e. helper_stands entries files l all live written modules ps front last declared bytes a bodies p are are_live run owned extends together whole stand marks h (its_helper f h e);
-  helpers = λ f h k e i. uses_helper entries files l all live written modules ps front last declared bytes a bodies p are are_live run owned extends together whole stand marks h (its_helper f h e) k i;
-  failures = failure_declared entries files l all live written modules ps front last declared bytes a bodies p are are_live run owned extends together whole stand marks;
-  arrays = arrays_declared entries files l all live written modules ps front last declared bytes a bodies p are are_live run owned extends together whole stand marks;
+  helper = λ f h e. helper_stands entries files l all live written modules ps front last declared a bodies p are are_live run owned extends together whole stand marks h (its_helper f h e);
+  helpers = λ f h k e i. uses_helper entries files l all live written modules ps front last declared a bodies p are are_live run owned extends together whole stand marks h (its_helper f h e) k i;
+  failures = failure_declared entries files l all live written modules ps front last declared a bodies p are are_live run owned extends together whole stand marks;
+  arrays = arrays_declared entries files l all live written modules ps front last declared a bodies p are are_live run owned extends together whole stand marks;
 }
   where
-    its_helper : (f : Name) (h : Helper) → (restricted (used_of l.world l.facts all live p.helpers written) (uses_in modules ps f)).helper (helper_name h) ≡ true → HelperUsed entries files l all live written modules ps front last declared bytes a bodies p are are_live run owned extends together whole stand marks h
-    its_helper f h e = helper_used entries files l all live written modules ps front last declared bytes a bodies p are are_live run owned extends together whole stand marks f h e
+    its_helper : (f : Name) (h : Helper) → (restricted (used_of l.world l.facts all live p.helpers written) (uses_in modules ps f)).helper (helper_name h) ≡ true → HelperUsed entries files l all live written modules ps front last declared a bodies p are are_live run owned extends together whole stand marks h
+    its_helper f h e = helper_used entries files l all live written modules ps front last declared a bodies p are are_live run owned extends together whole stand marks f h e

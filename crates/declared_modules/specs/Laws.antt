@@ -10,7 +10,6 @@ use Rattle.module_uses.specs.Entries.{AreEntries, IsLive}
 use Rattle.module_uses.specs.LinkedPiecesPieces.{AreLinkedPieces}
 use Rattle.module_uses.specs.Running.{CanRun}
 use Rattle.module_uses.specs.LinkedPiecesUsed.{used_of}
-use Rattle.sj_text_files.specs.Listed.{AreBytes}
 use Rattle.sj_emit_help_spec.specs.declared.kinds.Helper.TheVariants.{ArrayClass}
 use Rattle.js_tree.specs.Terms.{Name, Item, Piece}
 use Rattle.module_uses.specs.Files.{AreWhole, StandTogether}
@@ -25,7 +24,6 @@ use Rattle.declared_modules.specs.Spread.{spread_of, AllStand, DeclaresConstants
 -- files declare all that their code can use.
 abbrev pub ModulesDeclare : Type 0
 ModulesDeclare = (entries : List EntryPoint) (files : List SourceFile) (l : Linked) (all : List EmittedMethod) (live written : List Name) (modules : List PlannedModule) (ps : List Piece) (front : List Name) (last : Name) (declared : List Item)
-    → ((file : SourceFile) → Contains files file → AreBytes file.bytes)
     → IsAccepted entries files l.world
     → AreBodies l.world entries all
     → (p : AreLinkedPieces l all ps)

@@ -9,7 +9,6 @@ use Rattle.declared_pieces.proofs.Forms.{in_one, body_tells, load_form, store_fo
 use Rattle.declared_pieces.proofs.Live.{classes_kept}
 use Rattle.declared_pieces.proofs.Parts.{cell_among, cell_there, storer_there, loader_there}
 use Rattle.file_declarations.specs.Pieces.{cell_piece, load_piece, store_piece}
-use Rattle.sj_text_files.specs.Listed.{AreBytes}
 use Rattle.js_tree.specs.Terms.{Piece}
 use Rattle.object_helpers.proofs.Classes.{class-keeps}
 use Rattle.object_helpers.proofs.Derivations.{closed}
@@ -112,7 +111,7 @@ store_among (is_instance_of p e t) c i = none_stores (of_test t) c (test_stores 
 store_among (as_instance_of p e t) c i = none_stores (of_cast t) c (cast_stores t) i
 store_among _ c i = nothing_in (forms.Store c) i
 
-module _ (entries : List EntryPoint) (files : List SourceFile) (l : Linked) (all : List EmittedMethod) (live written : List Name) (ps : List Piece) (bytes : (file : SourceFile) → Contains files file → AreBytes file.bytes) (a : IsAccepted entries files l.world) (bodies : AreBodies l.world entries all) (p : AreLinkedPieces l all ps) (run : CanRun l.world entries l.facts all live p.helpers written) where
+module _ (entries : List EntryPoint) (files : List SourceFile) (l : Linked) (all : List EmittedMethod) (live written : List Name) (ps : List Piece) (a : IsAccepted entries files l.world) (bodies : AreBodies l.world entries all) (p : AreLinkedPieces l all ps) (run : CanRun l.world entries l.facts all live p.helpers written) where
   abbrev w : Classes
   w = l.world
 
@@ -133,7 +132,7 @@ module _ (entries : List EntryPoint) (files : List SourceFile) (l : Linked) (all
       let q = and_parts (is_among written c) (is_loaded all c) h in
       let form = load_form w entries l.facts all bodies run.listed c q.1 in
       let reads : Reads w entries (Reachable w entries) (Load c) = record { member = form.member; needed = run.reached (Body form.member) form.needed; definition = form.definition; defined = form.defined; asked = body_tells form.definition.body (forms.Load c) form.has } in
-      let k = made.present w entries a.resolved (classes_kept entries files w bytes a) c (closed w entries (Needed c) (load_needed c reads)) in
+      let k = made.present w entries a.resolved (classes_kept entries files w a) c (closed w entries (Needed c) (load_needed c reads)) in
       let own = own_pieces l all ps p c k.0 k.1 in
       let n = own.parts.class.name in
       let loaded = own.are.loaded.1 form in
@@ -149,7 +148,7 @@ module _ (entries : List EntryPoint) (files : List SourceFile) (l : Linked) (all
       let o = in_one form_of (trees e.its_body) (forms.Store c) has in
       let s = store_among o.item c o.within in
       let its = owner_of w e.member e.definition (bodies.found e i).found in
-      let kept = class-keeps its.owner (judged entries files w bytes a its.owner its.in_world).unbroken e.definition its.listed in
+      let kept = class-keeps its.owner (judged entries files w a its.owner its.in_world).unbroken e.definition its.listed in
       ap (class_of w) (stores_own its.owner e.definition e.its_body (bodies.found e i).has_body kept s.place c s.value (subst (Contains (trees e.its_body)) s.is o.among) ∙ sym its.class_is)
 
   pub stored_there : (c : Name) → (is_among written c && is_stored all c) ≡ true → CellThere w ps written c

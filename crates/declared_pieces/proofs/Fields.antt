@@ -8,7 +8,6 @@ use Rattle.object_helpers.specs.Accepted.{IsAccepted}
 use Rattle.object_helpers.specs.Locals.{HasValue}
 use Rattle.file_declarations.specs.Declared.{FieldsAreKept}
 use Rattle.sj_text_files.proofs.ListedClasses.{file_is_listed}
-use Rattle.sj_text_files.specs.Listed.{AreBytes}
 use Rattle.object_helpers.proofs.LinkedPiecesFields.{fields_apart}
 use Rattle.object_helpers.specs.Used.{has_field_in, has_static_in}
 use Rattle.sj_text_spec.specs.Rules.{HasListing, IsListedField}
@@ -46,12 +45,12 @@ static_there w c f t h = go (class_of w c) refl h
 nothing_has : HasValue Nothing → ⊥
 nothing_has h = impossible (sym h)
 
-module _ (entries : List EntryPoint) (files : List SourceFile) (w : Classes) (bytes : (file : SourceFile) → Contains files file → AreBytes file.bytes) (a : IsAccepted entries files w) where
+module _ (entries : List EntryPoint) (files : List SourceFile) (w : Classes) (a : IsAccepted entries files w) where
   its : (d : ClassDef) → Contains w d → IsJudgedClass d
-  its d i = judged entries files w bytes a d i
+  its d i = judged entries files w a d i
 
   listing : (d : ClassDef) → Contains w d → HasListing d
-  listing d i = let j = its d i in file_is_listed j.bytes d j.are_bytes j.read
+  listing d i = let j = its d i in file_is_listed j.bytes d j.read
 
   pub class_named : (d : ClassDef) → Contains w d → IsTrue (is_class_name d.name)
   class_named d i = (listing d i).name.0

@@ -6,7 +6,6 @@ use Rattle.object_helpers.specs.Accepted.{IsAccepted}
 use Rattle.object_helpers.proofs.Chains.{stands_itself}
 use Rattle.object_helpers.specs.Worlds.{AreClassesKept}
 use Rattle.object_helpers.specs.Entries.{IsLive}
-use Rattle.sj_text_files.specs.Listed.{AreBytes}
 use Rattle.object_helpers.proofs.Made as made
 use Rattle.object_helpers.specs.Reachable.{Reachable}
 use Rattle.sj_names.specs.declared.entry_points.EntryPoint.{EntryPoint}
@@ -24,9 +23,9 @@ next_is w c k found free = ap (λ (n : Name). superclass_in (class_of w n) n) (s
 pub live_next : (w : Classes) (facts : List Fact) (c d : Name) → IsLive w facts c → IsNext w c d → IsLive w facts d
 live_next w facts c d h step = record { made = h.made; is_made = h.is_made; on_chain = on c d h.on_chain step }
 
-module _ (entries : List EntryPoint) (files : List SourceFile) (w : Classes) (bytes : (file : SourceFile) → Contains files file → AreBytes file.bytes) (a : IsAccepted entries files w) where
+module _ (entries : List EntryPoint) (files : List SourceFile) (w : Classes) (a : IsAccepted entries files w) where
   pub classes_kept : AreClassesKept w
-  classes_kept = objects.kept entries files w bytes a
+  classes_kept = objects.kept entries files w a
 
   pub live_free : (facts : List Fact) → ((f : Fact) → Contains facts f → Reachable w entries f) → (c : Name) → IsLive w facts c → is_hijacked c ≡ false
   live_free facts reached c h = (made.live_free w entries a.resolved classes_kept facts reached c h).0

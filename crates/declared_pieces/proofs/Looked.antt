@@ -26,7 +26,6 @@ use Rattle.entry_search.specs.Search.{or_member, entry_for, found, IsChainTo, en
 use Rattle.entry_search.specs.Laws.{AreSpelled}
 use Rattle.file_declarations.specs.Looked.{HasCase}
 use Rattle.file_declarations.specs.Pieces.{Parts, box_uses, entry_uses, is_proxy, uses_of_entries, class_uses, constants_piece, class_piece, parent_uses, own_constants, is_char}
-use Rattle.sj_text_files.specs.Listed.{AreBytes}
 use Rattle.sj_emit_help_spec.specs.Helpers.{helper_name}
 use Rattle.sj_emit_help_spec.specs.Words.{bound, class_name, helper, parameters_of, is_name, kind_class, told_kinds, public_function}
 use Rattle.sj_emit_help_spec.specs.declared.kinds.Helper.{Helper}
@@ -155,12 +154,12 @@ module _ (w : Classes) (facts : List Fact) (m : MethodName) where
   pub has_case : (ts : List Told) → AreTold w facts m told_kinds ts → (k : Kind) → is_told k ≡ true → (owner : Name) → IsReachedTarget w facts (kind_class k) m owner → HasCase ts k
   has_case ts h k is owner found_at = case_of told_kinds ts h k (told_listed k is) owner found_at
 
-module _ (entries : List EntryPoint) (files : List SourceFile) (l : Linked) (all : List EmittedMethod) (written : List Name) (ps : List Piece) (bytes : (file : SourceFile) → Contains files file → AreBytes file.bytes) (a : IsAccepted entries files l.world) (bodies : AreBodies l.world entries all) (p : AreLinkedPieces l all ps) (are : AreEntries l.world l.facts l.entries) (exact : (f : Fact) → Contains l.facts f ↔ Reachable l.world entries f) (owned : IsClosed ps written) where
+module _ (entries : List EntryPoint) (files : List SourceFile) (l : Linked) (all : List EmittedMethod) (written : List Name) (ps : List Piece) (a : IsAccepted entries files l.world) (bodies : AreBodies l.world entries all) (p : AreLinkedPieces l all ps) (are : AreEntries l.world l.facts l.entries) (exact : (f : Fact) → Contains l.facts f ↔ Reachable l.world entries f) (owned : IsClosed ps written) where
   abbrev w : Classes
   w = l.world
 
   kept : AreClassesKept w
-  kept = classes_kept entries files w bytes a
+  kept = classes_kept entries files w a
 
   reached : (f : Fact) → Contains l.facts f → Reachable w entries f
   reached f = (exact f).0
@@ -172,10 +171,10 @@ module _ (entries : List EntryPoint) (files : List SourceFile) (l : Linked) (all
 
   module _ (c : Name) (s : Stood c) where
     pub free : is_hijacked c ≡ false
-    free = live_free entries files w bytes a l.facts reached c s.lives
+    free = live_free entries files w a l.facts reached c s.lives
 
     pub own : OwnPieces l all ps p c
-    own = let k = live_there entries files w bytes a l.facts reached c s.lives in own_pieces l all ps p c k.0 k.1
+    own = let k = live_there entries files w a l.facts reached c s.lives in own_pieces l all ps p c k.0 k.1
 
     abbrev pub its : Parts
     its = own.parts
@@ -228,7 +227,7 @@ module _ (entries : List EntryPoint) (files : List SourceFile) (l : Linked) (all
       (λ c d ds s e rest. (goes c d (d ∷ ds) (next c s d e) rest.0, (s, rest.1)))
 
   spelled : AreSpelled l.entries
-  spelled = record { spelled = entry_names entries files w bytes a l.facts l.entries are }
+  spelled = record { spelled = entry_names entries files w a l.facts l.entries are }
 
   module _ (m : MethodName) (owner : Name) (m_is : IsMethodName m) (m_direct : m.result ≢ None) where
     -- along classes that are written, by what a search among the entries finds
@@ -238,9 +237,6 @@ module _ (entries : List EntryPoint) (files : List SourceFile) (l : Linked) (all
       where
         th : ClassThere l ps c
         th = there c st.0
-
-        at_class : found l.entries (c ∷ cs) m ≡ or_member (entry_for l.entries c m) (found l.entries cs m)
-        at_class = refl
 
         uses : (k : Member) → entry_for l.entries c m ≡ Some k → k ≡ public_member owner m → Contains (class_of_its c st.0).uses (bound owner (public_function owner m))
         uses k e i =
@@ -264,11 +260,11 @@ module _ (entries : List EntryPoint) (files : List SourceFile) (l : Linked) (all
   -- an object of a class that is written finds the methods that are called on it
   pub finds : (c : Name) (m : MethodName) → Contains l.facts (Called c m) → (d : Name) → Contains written d → Contains l.facts (Made d) → IsAncestor w d c → FindsEntry l ps written d m
   finds c m called d here is_made below =
-      let t = target_of entries files w l.facts bytes a exact d m (on_made d c (reached (Called c m) called) (reached (Made d) is_made) below) in
-      let m_is = target_name entries files w bytes a d m t.owner t.target.is_target in
-      let m_direct = target_result entries files w bytes a d m t.owner t.target.is_target in
-      let k = chain_stood d (record { lives = made_lives entries files w l.facts bytes a exact d is_made; here = here }) in
-      let search = search_finds_target w l.facts l.entries are spelled d (d ∷ k.above) k.classes.0 m t.owner m_is m_direct (made_lives entries files w l.facts bytes a exact d is_made) (record { receiver = c; called = called; below = below }) t.target in
+      let t = target_of entries files w l.facts a exact d m (on_made d c (reached (Called c m) called) (reached (Made d) is_made) below) in
+      let m_is = target_name entries files w a d m t.owner t.target.is_target in
+      let m_direct = target_result entries files w a d m t.owner t.target.is_target in
+      let k = chain_stood d (record { lives = made_lives entries files w l.facts a exact d is_made; here = here }) in
+      let search = search_finds_target w l.facts l.entries are spelled d (d ∷ k.above) k.classes.0 m t.owner m_is m_direct (made_lives entries files w l.facts a exact d is_made) (record { receiver = c; called = called; below = below }) t.target in
       let entry = along m t.owner m_is m_direct (d ∷ k.above) k.classes.1 search in
       record { owner = t.owner; target = t.target; here = entry_written m t.owner m_is m_direct (d ∷ k.above) entry; entry = subst (EntryThere l ps written m t.owner) (sym k.is_chain) entry }
 
@@ -294,7 +290,7 @@ module _ (entries : List EntryPoint) (files : List SourceFile) (l : Linked) (all
       let user = user_of m q.1 in
       let of = defined w user.method.member user.method.definition (bodies.found user.method user.listed).found in
       let k = made.present w entries a.resolved kept object (closed w entries (Needed object) the_object) in
-      let has = p.are_told.are_methods.each m (record { named = called_name entries files w bytes a called.receiver m (reached (Called called.receiver m) called.called); receiver = called.receiver; called = called.called; user = piece_of_member w user.method; among = method_in_blocks l all ps p user.method user.listed of.class of.is_class; uses = user.uses }) in
+      let has = p.are_told.are_methods.each m (record { named = called_name entries files w a called.receiver m (reached (Called called.receiver m) called.called); receiver = called.receiver; called = called.called; user = piece_of_member w user.method; among = method_in_blocks l all ps p user.method user.listed of.class of.is_class; uses = user.uses }) in
       let in_told : Contains p.told (dispatch_piece m has.is_piece.cases) = subst (λ (qs : List Piece). Contains qs (dispatch_piece m has.is_piece.cases)) (sym p.are_told.told_are) (Contains-append_left p.are_told.methods p.are_told.names (dispatch_piece m has.is_piece.cases) (subst (Contains p.are_told.methods) has.is_piece.piece_is has.among)) in
       let stands_there : Contains ps (dispatch_piece m has.is_piece.cases) = told_there l all ps p k.0 k.1 (dispatch_piece m has.is_piece.cases) in_told in
       let with_object : Contains written object = owned (piece_of_member w user.method) (method_there l all ps p user.method user.listed of.class of.is_class) user.here (helper (dispatch_name m)) user.uses in
@@ -329,11 +325,11 @@ module _ (entries : List EntryPoint) (files : List SourceFile) (l : Linked) (all
   pub reflection_there : (m : MethodName) → calls_by_name w all written m ≡ true → ReflectionThere l ps written p.helpers m
   reflection_there m h =
       let q = and_parts (is_called_by all m) (list_any (uses_reflective w written m) all) h in
-      let called = called_by entries files w l.facts bytes a exact all bodies m q.0 in
+      let called = called_by entries files w l.facts a exact all bodies m q.0 in
       let user = name_user m q.1 in
       let of = defined w user.method.member user.method.definition (bodies.found user.method user.listed).found in
       let k = made.present w entries a.resolved kept object (closed w entries (Needed object) the_object) in
-      let has = p.are_told.are_names.each m (record { named = reflective_name_is entries files w bytes a l.facts m called; called = called; user = piece_of_member w user.method; among = method_in_blocks l all ps p user.method user.listed of.class of.is_class; uses = user.uses }) in
+      let has = p.are_told.are_names.each m (record { named = reflective_name_is entries files w a l.facts m called; called = called; user = piece_of_member w user.method; among = method_in_blocks l all ps p user.method user.listed of.class of.is_class; uses = user.uses }) in
       let its = reflective_piece m has.is_piece.cases in
       let own : List Binding = flat_map reflected_uses has.is_piece.cases in
       let in_told : Contains p.told its = subst (λ (qs : List Piece). Contains qs its) (sym p.are_told.told_are) (Contains-append_right p.are_told.methods p.are_told.names its (subst (Contains p.are_told.names) has.is_piece.piece_is has.among)) in
@@ -366,13 +362,13 @@ module _ (entries : List EntryPoint) (files : List SourceFile) (l : Linked) (all
   -- what objects have under a reflective name by which a needed body calls
   module _ (m : MethodName) (r : IsReflective w l.facts m) where
     name_is : IsMethodName m
-    name_is = reflective_name_is entries files w bytes a l.facts m r
+    name_is = reflective_name_is entries files w a l.facts m r
 
     bare : m.result ≡ None
     bare = without_result w l.facts m r
 
     untargeted : (c owner : Name) → IsTarget w c m owner → ⊥
-    untargeted c owner h = target_result entries files w bytes a c m owner h bare
+    untargeted c owner h = target_result entries files w a c m owner h bare
 
     module _ (d : Name) (none : proxy_target w d m ≡ None) where
       never : (c : Name) → IsOnChain w d c → (t : MethodName) → IsProxy w l.facts c m t → ⊥
@@ -406,17 +402,17 @@ module _ (entries : List EntryPoint) (files : List SourceFile) (l : Linked) (all
     answer_there d here is_made = go (proxy_target w d m) refl
       where
         s : Stood d
-        s = record { lives = made_lives entries files w l.facts bytes a exact d is_made; here = here }
+        s = record { lives = made_lives entries files w l.facts a exact d is_made; here = here }
 
         known : is_known w d ≡ true
-        known = let k = live_there entries files w bytes a l.facts reached d s.lives in known_class w d k.0 k.1
+        known = let k = live_there entries files w a l.facts reached d s.lives in known_class w d k.0 k.1
 
         go : (o : Option MethodDef) → proxy_target w d m ≡ o → NamedThere l ps written p.helpers d m
         go None e = let k = chain_stood d s in not_named e (subst (NoEntryThere l ps written m) (sym k.is_chain) (no_entries d e d (d ∷ k.above) k.classes.0 k.classes.1 stay))
         go (Some t) e =
             let k = chain_stood d s in
             let its = proxy_right w d m t e in
-            let called = (exact (Called d t.name)).1 (closed w entries (Called d t.name) (reflective d m t its.0 (name_read entries files w l.facts bytes a exact m r) (reached (Made d) is_made) its.1)) in
+            let called = (exact (Called d t.name)).1 (closed w entries (Called d t.name) (reflective d m t its.0 (name_read entries files w l.facts a exact m r) (reached (Made d) is_made) its.1)) in
             is_named t e (proxy_params w d m t its.0 its.1) (subst (ProxyThere l ps written p.helpers m t.name) (sym k.is_chain) (hands_on d s is_made t its.0 its.1 k.above)) (finds d t.name called d here is_made (record { known = known; way = by_path stay }))
 
 -- parameters have names of their own, also behind a receiver

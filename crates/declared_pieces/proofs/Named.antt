@@ -14,7 +14,6 @@ use Rattle.object_helpers.proofs.Plain.{class_found}
 use Rattle.object_helpers.proofs.EntryTargets.{IsMethodsName, target_named, proxy_reached}
 use Rattle.object_helpers.proofs.Worlds.{judged}
 use Rattle.sj_text_files.proofs.ListedClasses.{file_is_listed}
-use Rattle.sj_text_files.specs.Listed.{AreBytes}
 use Rattle.sj_text_spec.specs.Rules.{HasListing, IsListedMethod, IsListedTree, AreListedTrees, AreListedCases}
 use Rattle.sj_infos.specs.Forms.{form_of, of_base, of_test, of_cast, forms_by_body}
 use Rattle.sj_infos.specs.Infos.{null_pointer, arithmetic, class_cast, index_out_of_bounds, array_store, negative_size, no_such_method, of_receiver, of_call, of_apply, of_member, of_static_call, is_other_than_zero, divides, of_base as asked_of_base, of_array, of_type, is_any, of_store, asks, asked_by_body}
@@ -233,12 +232,12 @@ body_fine : (o : Option Term) → MatchOption o (Unit {0}) IsListedTree → AreF
 body_fine None h = none_fine
 body_fine (Some e) h = each_of IsNamed IsFine form_of fine (trees e) (named e h)
 
-module _ (entries : List EntryPoint) (files : List SourceFile) (w : Classes) (bytes : (file : SourceFile) → Contains files file → AreBytes file.bytes) (a : IsAccepted entries files w) where
+module _ (entries : List EntryPoint) (files : List SourceFile) (w : Classes) (a : IsAccepted entries files w) where
   -- each method of a class of the world has a listing
   listed : (class : ClassDef) → Contains w class → (d : MethodDef) → Contains class.methods d → IsListedMethod d
   listed class i d k =
-      let its : IsJudgedClass class = judged entries files w bytes a class i in
-      let listing : HasListing class = file_is_listed its.bytes class its.are_bytes its.read in
+      let its : IsJudgedClass class = judged entries files w a class i in
+      let listing : HasListing class = file_is_listed its.bytes class its.read in
       All-contains IsListedMethod class.methods d listing.methods k
 
   of_member_of : (m : Member) (d : MethodDef) → IsMethodOf w m d → IsListedMethod d
@@ -261,7 +260,7 @@ module _ (entries : List EntryPoint) (files : List SourceFile) (w : Classes) (by
   target_result c m owner h =
       let its : IsMethodsName w m = target_named w c m owner h in
       let k = its.is_defined in
-      λ e. no_result its.definition.name.result (subst (λ (n : MethodName). n.result ≡ None) (sym its.name_is) e) (result-keeps k.class (judged entries files w bytes a k.class k.in_world).unbroken its.definition k.among)
+      λ e. no_result its.definition.name.result (subst (λ (n : MethodName). n.result ≡ None) (sym its.name_is) e) (result-keeps k.class (judged entries files w a k.class k.in_world).unbroken its.definition k.among)
 
   -- a name under which a method is called
   pub called_name : (c : Name) (m : MethodName) → Reachable w entries (Called c m) → IsMethodName m

@@ -13,7 +13,6 @@ use Rattle.declared_pieces.specs.Closed.{IsClosed, items_of}
 use Rattle.declared_pieces.specs.Laws.{PiecesAreDeclarations}
 use Rattle.file_declarations.specs.Declarations.{with_class, declares, declare}
 use Rattle.object_helpers.specs.Entries.{IsLive}
-use Rattle.sj_text_files.specs.Listed.{AreBytes}
 use Rattle.sj_emit_help_spec.specs.Helpers.{Above, helper_piece}
 use Rattle.sj_emit_help_spec.specs.Words.{all_kinds, class_name, constants_name, bound}
 use Rattle.sj_emit_help_spec.specs.declared.kinds.Helper.{Helper}
@@ -203,7 +202,7 @@ module _ (written : List Name) where
     never_itself : (c s : Name) (names : List Name) → AreAncestors w c names → IsNext w c s → c ≡ s → ⊥
     never_itself c s names are next e = let grow = ancestors_grow w acyclic plain c c names names (subst (λ (n : Name). IsNext w c n) (sym e) next) are are in omega (arith, grow)
 
-  module _ (entries : List EntryPoint) (files : List SourceFile) (l : Linked) (all : List EmittedMethod) (ps : List Piece) (bytes : (file : SourceFile) → Contains files file → AreBytes file.bytes) (a : IsAccepted entries files l.world) (reached : (f : Fact) → Contains l.facts f → Reachable l.world entries f) (closed : IsClosed ps written) (behind : List Piece) (each_behind : (fs : List Name) → (IsLive l.world l.facts object → Contains written object → is_among fs (class_name object) ≡ true) → Each fs behind) where
+  module _ (entries : List EntryPoint) (files : List SourceFile) (l : Linked) (all : List EmittedMethod) (ps : List Piece) (a : IsAccepted entries files l.world) (reached : (f : Fact) → Contains l.facts f → Reachable l.world entries f) (closed : IsClosed ps written) (behind : List Piece) (each_behind : (fs : List Name) → (IsLive l.world l.facts object → Contains written object → is_among fs (class_name object) ≡ true) → Each fs behind) where
     abbrev w : Classes
     w = l.world
 
@@ -211,7 +210,7 @@ module _ (written : List Name) where
     Live = IsLive w l.facts
 
     plain : IsPlain w
-    plain = let kept = classes_kept entries files w bytes a in plain_world w kept.superclass kept.hijacked
+    plain = let kept = classes_kept entries files w a in plain_world w kept.superclass kept.hijacked
 
     -- each class that is live and owned stands among these classes, or is declared already
     abbrev Placed : List Name → List Name → Type 0
@@ -232,7 +231,7 @@ module _ (written : List Name) where
           c_live = are.live.0 live
 
           next : IsNext w c s
-          next = next_is w c p.class are.class_is (live_free entries files w bytes a l.facts reached c c_live) ∙ super
+          next = next_is w c p.class are.class_is (live_free entries files w a l.facts reached c c_live) ∙ super
 
           s_live : Live s
           s_live = live_next w l.facts c s c_live next
@@ -264,7 +263,7 @@ module _ (written : List Name) where
       -- behind its block a class is declared, if it is live and owned
       itself_given : (gs : List Name) → Gives (pieces_of_block w b) gs → Live c → Contains written c → is_among gs (class_name c) ≡ true
       itself_given gs given live own =
-          let k = live_there entries files w bytes a l.facts reached c live in
+          let k = live_there entries files w a l.facts reached c live in
           let r = parts_of l c b.own k.0 k.1 block.own in
           let its_class : Piece = class_piece c r.parts.class.superclass r.parts.entries r.parts.fields in
           let named : r.parts.class.name ≡ c = (class_found w c r.parts.class r.are.class_is).1 in
@@ -301,10 +300,10 @@ module _ (written : List Name) where
         block_declares c cs b h.0 o.0 here fs placed (flat_map (with_helpers w behind) bs) (λ gs below given. blocks_declare cs bs h.1 o.1 gs (placed_behind c cs b h.0 o.0 here fs placed gs below given) (λ q i. there q (Contains-append_right (with_helpers w behind b) (flat_map (with_helpers w behind) bs) q i)))
 
 pub pieces_are_declarations : PiecesAreDeclarations
-pieces_are_declarations entries files l all written ps bytes a reached p closed arrays = subst (λ (qs : List Piece). declare [] (items_of written qs) ≡ true) (sym p.pieces_are) (blocks_declare written entries files l all ps bytes a reached closed (helpers ++ p.told) (λ fs extends. each_joined written fs helpers p.told (helpers_each written fs p.above p.helpers (λ i. extends (arrays i))) (told_each written fs l (flat_map (pieces_of_block l.world) p.blocks) p.told p.are_told)) p.classes p.blocks p.are_blocks p.are_classes.in_order [] placed (λ q i. subst (λ (qs : List Piece). Contains qs q) (sym p.pieces_are) i))
+pieces_are_declarations entries files l all written ps a reached p closed arrays = subst (λ (qs : List Piece). declare [] (items_of written qs) ≡ true) (sym p.pieces_are) (blocks_declare written entries files l all ps a reached closed (helpers ++ p.told) (λ fs extends. each_joined written fs helpers p.told (helpers_each written fs p.above p.helpers (λ i. extends (arrays i))) (told_each written fs l (flat_map (pieces_of_block l.world) p.blocks) p.told p.are_told)) p.classes p.blocks p.are_blocks p.are_classes.in_order [] placed (λ q i. subst (λ (qs : List Piece). Contains qs q) (sym p.pieces_are) i))
   where
     helpers : List Piece
     helpers = map (helper_piece p.above) p.helpers
 
     placed : (s : Name) → IsLive l.world l.facts s → Contains written s → Contains p.classes s ⊎ (is_among [] (class_name s) ≡ true)
-    placed s live own = let k = live_there entries files l.world bytes a l.facts reached s live in inl (in_classes l all ps p s k.0 k.1)
+    placed s live own = let k = live_there entries files l.world a l.facts reached s live in inl (in_classes l all ps p s k.0 k.1)

@@ -7,7 +7,6 @@ use Rattle.std.proofs.lemmas.List.Folds.{Any-from_list_any}
 use Rattle.declared_pieces.proofs.Below.{kind_hijacked}
 use Rattle.declared_pieces.proofs.Forms.{body_tells, load_form}
 use Rattle.declared_pieces.proofs.Live.{classes_kept, live_free}
-use Rattle.sj_text_files.specs.Listed.{AreBytes}
 use Rattle.sj_emit_help_spec.specs.Words.{kind_class}
 use Rattle.sj_emit_help_spec.specs.declared.kinds.Helper.{Helper}
 use Rattle.sj_emit_help_spec.specs.declared.kinds.Kind.{Kind}
@@ -62,9 +61,9 @@ form_is : (m : MethodName) (f : BodyForm) → is_reflective m f ≡ true → f �
 form_is m (forms.Reflective n) h = ap forms.Reflective (sym (method-same m n h))
 form_is m _ h = impossible h
 
-module _ (entries : List EntryPoint) (files : List SourceFile) (w : Classes) (facts : List Fact) (bytes : (file : SourceFile) → Contains files file → AreBytes file.bytes) (a : IsAccepted entries files w) (exact : (f : Fact) → Contains facts f ↔ Reachable w entries f) where
+module _ (entries : List EntryPoint) (files : List SourceFile) (w : Classes) (facts : List Fact) (a : IsAccepted entries files w) (exact : (f : Fact) → Contains facts f ↔ Reachable w entries f) where
   kept : AreClassesKept w
-  kept = classes_kept entries files w bytes a
+  kept = classes_kept entries files w a
 
   reached : (f : Fact) → Contains facts f → Reachable w entries f
   reached f = (exact f).0
@@ -94,7 +93,7 @@ module _ (entries : List EntryPoint) (files : List SourceFile) (w : Classes) (fa
     where
       go : Rule w entries (Reachable w entries) (Called c m) → is_hijacked c ≡ false
       go (call _ _ reads free) = free
-      go (reflective _ p d owner reads is_made its) = live_free entries files w bytes a facts reached c (made_lives c ((exact (Made c)).1 is_made))
+      go (reflective _ p d owner reads is_made its) = live_free entries files w a facts reached c (made_lives c ((exact (Made c)).1 is_made))
 
   module _ (m : MethodName) (r : IsReflective w facts m) where
     pub name_read : Reads w entries (Reachable w entries) (infos.Reflective m)

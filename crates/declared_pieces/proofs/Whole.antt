@@ -29,7 +29,6 @@ use Rattle.object_helpers.proofs.Facts.{made_known, called_known}
 use Rattle.object_helpers.specs.Entries.{AreEntries, IsLive}
 use Rattle.object_helpers.specs.Targets.{has_hijacked_in}
 use Rattle.ir_mean.specs.Dispatch.{is_ancestor}
-use Rattle.sj_text_files.specs.Listed.{AreBytes}
 use Rattle.sj_emit_help_spec.specs.Helpers.{helper_name, helper_piece}
 use Rattle.sj_emit_help_spec.specs.Words.{all_kinds, helper}
 use Rattle.sj_emit_help_spec.specs.declared.kinds.Helper.{Helper}
@@ -141,7 +140,7 @@ own_fields given sorted h f i = let p = from_filter is_own given f (Contains-per
 pub whole_fields : (given sorted : List FieldDef) → AreSorted (filter is_own given) sorted → (f : FieldDef) → Contains given f → f.is_static ≡ false → Contains sorted f
 whole_fields given sorted h f i mark = Contains-permutation (filter is_own given) sorted f h.exact (into_filter is_own given f i (own_mark f.is_static mark))
 
-module _ (entries : List EntryPoint) (files : List SourceFile) (l : Linked) (all : List EmittedMethod) (live written : List Name) (ps : List Piece) (bytes : (file : SourceFile) → Contains files file → AreBytes file.bytes) (a : IsAccepted entries files l.world) (bodies : AreBodies l.world entries all) (p : AreLinkedPieces l all ps) (are : AreEntries l.world l.facts l.entries) (are_live : (c : Name) → Contains live c ↔ IsLive l.world l.facts c) (run : CanRun l.world entries l.facts all live p.helpers written) (owned : IsClosed ps written) where
+module _ (entries : List EntryPoint) (files : List SourceFile) (l : Linked) (all : List EmittedMethod) (live written : List Name) (ps : List Piece) (a : IsAccepted entries files l.world) (bodies : AreBodies l.world entries all) (p : AreLinkedPieces l all ps) (are : AreEntries l.world l.facts l.entries) (are_live : (c : Name) → Contains live c ↔ IsLive l.world l.facts c) (run : CanRun l.world entries l.facts all live p.helpers written) (owned : IsClosed ps written) where
   abbrev w : Classes
   w = l.world
 
@@ -173,32 +172,32 @@ module _ (entries : List EntryPoint) (files : List SourceFile) (l : Linked) (all
   exact f = (run.reached f, run.whole f)
 
   module _ (c : Name) (good : Good c) where
-    abbrev stood : looked.Stood entries files l all written ps bytes a bodies p are exact owned c
+    abbrev stood : looked.Stood entries files l all written ps a bodies p are exact owned c
     stood = record { lives = (are_live c).0 good.is_live; here = good.is_written }
 
     pub free : is_hijacked c ≡ false
-    free = looked.free entries files l all written ps bytes a bodies p are exact owned c stood
+    free = looked.free entries files l all written ps a bodies p are exact owned c stood
 
     abbrev pub own : OwnPieces l all ps p c
-    own = looked.own entries files l all written ps bytes a bodies p are exact owned c stood
+    own = looked.own entries files l all written ps a bodies p are exact owned c stood
 
     abbrev pub its : Parts
     its = own.parts
 
     pub is_named : IsTrue (is_class_name c)
-    is_named = subst (λ (n : Name). IsTrue (is_class_name n)) (looked.named entries files l all written ps bytes a bodies p are exact owned c stood) (class_named entries files w bytes a its.class (class_found w c its.class own.are.class_is).0)
+    is_named = subst (λ (n : Name). IsTrue (is_class_name n)) (looked.named entries files l all written ps a bodies p are exact owned c stood) (class_named entries files w a its.class (class_found w c its.class own.are.class_is).0)
 
     pub constants_here : Contains ps (constants_piece c its.ancestors)
-    constants_here = looked.constants_here entries files l all written ps bytes a bodies p are exact owned c stood
+    constants_here = looked.constants_here entries files l all written ps a bodies p are exact owned c stood
 
     abbrev pub class_of_its : Piece
     class_of_its = class_piece c its.class.superclass its.entries its.fields
 
     pub class_here : Contains ps class_of_its
-    class_here = looked.class_here entries files l all written ps bytes a bodies p are exact owned c stood
+    class_here = looked.class_here entries files l all written ps a bodies p are exact owned c stood
 
     pub super_good : (d : Name) → its.class.superclass ≡ Some d → Good d
-    super_good d super = let above = looked.super_stood entries files l all written ps bytes a bodies p are exact owned c stood d super in record { is_live = (are_live d).1 above.lives; is_written = above.here }
+    super_good d super = let above = looked.super_stood entries files l all written ps a bodies p are exact owned c stood d super in record { is_live = (are_live d).1 above.lives; is_written = above.here }
 
     abbrev pub stands : Stands w Good c
     stands = record { class = its.class; found = own.are.class_is; free = free; up = super_good }
@@ -210,14 +209,14 @@ module _ (entries : List EntryPoint) (files : List SourceFile) (l : Linked) (all
   pub made_is_live : (c : Name) → has.made c ≡ true → has.live c ≡ true
   made_is_live c h =
       let q = and_parts (is_among written c) (list_any (makes c) l.facts) h in
-      and_from (is_among written c) (is_among live c) q.0 ((among live c).1 ((are_live c).1 (made_lives entries files w l.facts bytes a exact c (made_known l.facts c q.1))))
+      and_from (is_among written c) (is_among live c) q.0 ((among live c).1 ((are_live c).1 (made_lives entries files w l.facts a exact c (made_known l.facts c q.1))))
 
   -- methods that are looked up
 
   pub entry_called : (c : Name) (m : MethodName) → list_any (calls_on c m) l.facts ≡ true → (d : Name) → has.made d ≡ true → is_ancestor w d c ≡ true → FindsEntry l ps written d m
   entry_called c m called d made below =
       let r = and_parts (is_among written d) (list_any (makes d) l.facts) made in
-      looked.finds entries files l all written ps bytes a bodies p are exact owned c m (called_known l.facts c m called) d ((among written d).0 r.0) (made_known l.facts d r.1) (stands_above w d c below)
+      looked.finds entries files l all written ps a bodies p are exact owned c m (called_known l.facts c m called) d ((among written d).0 r.0) (made_known l.facts d r.1) (stands_above w d c below)
 
   pub entry_there : (c : Name) (m : MethodName) → has.looked_up c m ≡ true → (d : Name) → has.made d ≡ true → is_ancestor w d c ≡ true → FindsEntry l ps written d m
   entry_there c m h = entry_called c m (and_parts (list_any (calls_on c m) l.facts) (not (has_hijacked_in w c) || tells_apart w l.facts all written m) h).0
@@ -271,7 +270,7 @@ module _ (entries : List EntryPoint) (files : List SourceFile) (l : Linked) (all
 
   -- a class that a body names is there
   own_needed : (c : Name) → Reads w entries (Reachable w entries) (NamesClass c) → OwnPieces l all ps p c
-  own_needed c r = let k = made.present w entries a.resolved (classes_kept entries files w bytes a) c (closed w entries (NeededClass c) (class_named_by c r)) in own_pieces l all ps p c k.0 k.1
+  own_needed c r = let k = made.present w entries a.resolved (classes_kept entries files w a) c (closed w entries (NeededClass c) (class_named_by c r)) in own_pieces l all ps p c k.0 k.1
 
   reads_test : (c : Name) → HasForm w l.facts (forms.Test c) → Reads w entries (Reachable w entries) (NamesClass c)
   reads_test c form = record { member = form.member; needed = run.reached (Body form.member) form.needed; definition = form.definition; defined = form.defined; asked = body_tells form.definition.body (forms.Test c) form.has }
@@ -357,34 +356,34 @@ module _ (entries : List EntryPoint) (files : List SourceFile) (l : Linked) (all
       and_from (is_among written object) (list_any (IsNamed (helper_name h)) p.helpers) ((among written object).1 i.with_object) (list_any_at (IsNamed (helper_name h)) p.helpers j.0 h j.1 (subst (λ (g : Helper). IsNamed (helper_name h) g ≡ true) (sym j.2) (text-refl (helper_name h))))
 
   pub helper_listed : (h : Helper) → IsWritten h → Contains ps (helper_piece p.above h)
-  helper_listed h i = let k = made.present w entries a.resolved (classes_kept entries files w bytes a) object (closed w entries (NeededClass object) the_object) in helper_there l all ps p k.0 k.1 h i.among_helpers
+  helper_listed h i = let k = made.present w entries a.resolved (classes_kept entries files w a) object (closed w entries (NeededClass object) the_object) in helper_there l all ps p k.0 k.1 h i.among_helpers
 
 pub has_pieces : WhatIsUsedHasPieces
-has_pieces entries files l all live written ps bytes a bodies p are are_live run owned = record {
+has_pieces entries files l all live written ps a bodies p are are_live run owned = record {
   methods = λ m h.
-      let f = method_of entries files l all live written ps bytes a bodies p are are_live run owned m h in
+      let f = method_of entries files l all live written ps a bodies p are are_live run owned m h in
       let d = defined l.world f.method.member f.method.definition (bodies.found f.method f.listed).found in
       record { method = f.method; listed = f.listed; is = f.is; function = method_there l all ps p f.method f.listed d.class d.is_class };
-  entries = entry_there entries files l all live written ps bytes a bodies p are are_live run owned;
-  reflections = looked.reflection_there entries files l all written ps bytes a bodies p are (exact entries files l all live written ps bytes a bodies p are are_live run owned) owned;
+  entries = entry_there entries files l all live written ps a bodies p are are_live run owned;
+  reflections = looked.reflection_there entries files l all written ps a bodies p are (exact entries files l all live written ps a bodies p are are_live run owned) owned;
   names = λ m h d made.
-      let there = looked.reflection_there entries files l all written ps bytes a bodies p are (exact entries files l all live written ps bytes a bodies p are are_live run owned) owned m h in
+      let there = looked.reflection_there entries files l all written ps a bodies p are (exact entries files l all live written ps a bodies p are are_live run owned) owned m h in
       let q = and_parts (is_among written d) (list_any (makes d) l.facts) made in
-      looked.answer_there entries files l all written ps bytes a bodies p are (exact entries files l all live written ps bytes a bodies p are are_live run owned) owned m there.called d ((among written d).0 q.0) (made_known l.facts d q.1);
-  dispatched = looked.dispatch_there entries files l all written ps bytes a bodies p are (exact entries files l all live written ps bytes a bodies p are are_live run owned) owned;
-  classes = λ c h. let good = live_good entries files l all live written ps bytes a bodies p are are_live run owned c h in record {
-    parts = its entries files l all live written ps bytes a bodies p are are_live run owned c good;
-    are = (own entries files l all live written ps bytes a bodies p are are_live run owned c good).are;
-    constants = constants_here entries files l all live written ps bytes a bodies p are are_live run owned c good;
-    class = class_here entries files l all live written ps bytes a bodies p are are_live run owned c good;
+      looked.answer_there entries files l all written ps a bodies p are (exact entries files l all live written ps a bodies p are are_live run owned) owned m there.called d ((among written d).0 q.0) (made_known l.facts d q.1);
+  dispatched = looked.dispatch_there entries files l all written ps a bodies p are (exact entries files l all live written ps a bodies p are are_live run owned) owned;
+  classes = λ c h. let good = live_good entries files l all live written ps a bodies p are are_live run owned c h in record {
+    parts = its entries files l all live written ps a bodies p are are_live run owned c good;
+    are = (own entries files l all live written ps a bodies p are are_live run owned c good).are;
+    constants = constants_here entries files l all live written ps a bodies p are are_live run owned c good;
+    class = class_here entries files l all live written ps a bodies p are are_live run owned c good;
   };
-  statics = λ c f t h. let need = needed_static entries files l all live written ps bytes a bodies p are are_live run owned c f t h in record {
+  statics = λ c f t h. let need = needed_static entries files l all live written ps a bodies p are are_live run owned c f t h in record {
     field = need.field;
-    variable = variable_there entries files l all live written ps bytes a bodies p are are_live run owned c f t need;
-    setter = setter_there entries files l all live written ps bytes a bodies p are are_live run owned c f t need;
+    variable = variable_there entries files l all live written ps a bodies p are are_live run owned c f t need;
+    setter = setter_there entries files l all live written ps a bodies p are are_live run owned c f t need;
   };
-  tests = λ c h. class_test_there entries files l all live written ps bytes a bodies p are are_live run owned c h;
-  casts = λ c h. class_cast_there entries files l all live written ps bytes a bodies p are are_live run owned c h;
-  bases = λ c h. class_base_there entries files l all live written ps bytes a bodies p are are_live run owned c h;
-  helpers = λ h e. helper_listed entries files l all live written ps bytes a bodies p are are_live run owned h (helper_written entries files l all live written ps bytes a bodies p are are_live run owned h e);
+  tests = λ c h. class_test_there entries files l all live written ps a bodies p are are_live run owned c h;
+  casts = λ c h. class_cast_there entries files l all live written ps a bodies p are are_live run owned c h;
+  bases = λ c h. class_base_there entries files l all live written ps a bodies p are are_live run owned c h;
+  helpers = λ h e. helper_listed entries files l all live written ps a bodies p are are_live run owned h (helper_written entries files l all live written ps a bodies p are are_live run owned h e);
 }

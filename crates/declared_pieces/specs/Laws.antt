@@ -3,7 +3,6 @@ use Rattle.std.specs.Prelude.{codes, ◌≡◌, ◌↔◌, ◌&&◌, true, List,
 use Rattle.std.specs.List.{Contains}
 use Rattle.declared_pieces.specs.Closed.{IsClosed, items_of}
 use Rattle.file_declarations.specs.Declarations.{declare}
-use Rattle.sj_text_files.specs.Listed.{AreBytes}
 use Rattle.sj_emit_help_spec.specs.Helpers.{helper_name, helper_piece}
 use Rattle.sj_emit_help_spec.specs.Words.{all_kinds, told_kinds, helper, is_name, bound, entry_name, public_function, parameters_of}
 use Rattle.sj_emit_help_spec.specs.declared.kinds.Helper.{Helper}
@@ -151,7 +150,6 @@ pub record HasPieces (l : Linked) (all : List EmittedMethod) (live written : Lis
 -- where what is written can run, and uses nothing but what is written, what its code can use has its pieces
 abbrev pub WhatIsUsedHasPieces : Type 0
 WhatIsUsedHasPieces = (entries : List EntryPoint) (files : List SourceFile) (l : Linked) (all : List EmittedMethod) (live written : List Name) (ps : List Piece)
-    → ((file : SourceFile) → Contains files file → AreBytes file.bytes)
     → IsAccepted entries files l.world
     → AreBodies l.world entries all
     → (p : AreLinkedPieces l all ps)
@@ -164,7 +162,6 @@ WhatIsUsedHasPieces = (entries : List EntryPoint) (files : List SourceFile) (l :
 -- the items of what is written do nothing but declare, where the class of all objects is live if the class of arrays is there
 abbrev pub PiecesAreDeclarations : Type 0
 PiecesAreDeclarations = (entries : List EntryPoint) (files : List SourceFile) (l : Linked) (all : List EmittedMethod) (written : List Name) (ps : List Piece)
-    → ((file : SourceFile) → Contains files file → AreBytes file.bytes)
     → IsAccepted entries files l.world
     → ((f : Fact) → Contains l.facts f → Reachable l.world entries f)
     → (p : AreLinkedPieces l all ps)

@@ -1,8 +1,6 @@
 -- Files that are read, one after the other.
-use Rattle.std.proofs.Common.{◌≡◌, ℕ, zero, suc, ◌+◌, ◌<◌, ◌≤◌, List, [], ◌∷◌, ◌++◌, Some, Err, slice_get, length, refl, sym, ap, ◌∙◌, subst, inl, inr, arith, length-append}
+use Rattle.std.proofs.Common.{◌≡◌, ℕ, zero, suc, ◌+◌, ◌<◌, List, [], ◌∷◌, ◌++◌, Some, Err, slice_get, length, refl, sym, ap, ◌∙◌, subst, inl, inr, arith, length-append}
 use Rattle.std.specs.Prelude.{◌⊎◌, codes, decimal}
-use Rattle.std.specs.List.{All}
-use Rattle.std.proofs.lemmas.Option.{slice_get-get_or}
 use Rattle.sj_names.specs.declared.entry_points.EntryPoint.{EntryPoint}
 use Rattle.sj_names.specs.declared.folders.SourceFile.{SourceFile}
 use Rattle.sj_trees.specs.declared.classes.ClassDef.{ClassDef}
@@ -17,7 +15,7 @@ use Rattle.sj_world.specs.Known.{Classes}
 use Rattle.sj_world.specs.Paths.{IsFirst}
 use Rattle.folder_judging_spec.specs.Stages.{HasFault, AreRead}
 use Rattle.folder_judging_spec.specs.Verdicts.{refused, ByFiles, faulty}
-use Rattle.folder_judging.specs.Reading.{HaveBytes, IsFaultOf}
+use Rattle.folder_judging.specs.Reading.{IsFaultOf}
 use Rattle.folder_judging.specs.Refusals.{IsRefusal}
 use Rattle.folder_judging.specs.declared.errors.JudgeError.{JudgeError}
 use Rattle.folder_judging.specs.declared.errors.JudgeError.TheVariants.{Refused, NoMemory}
@@ -26,7 +24,6 @@ use Rattle.folder_judging.specs.declared.errors.JudgeError.TheVariants.{Refused,
 pub record AreFirstRead (files : List SourceFile) (n : ℕ) (classes : Classes) : Type 0 where
   pub many : length classes ≡ n
   pub each : (i : ℕ) (file : SourceFile) (class : ClassDef) → slice_get files i ≡ Some file → slice_get classes i ≡ Some class → FileIs file.bytes class
-  pub bytes : (i : ℕ) (file : SourceFile) → slice_get files i ≡ Some file → i < n → All (λ b. b < 256) file.bytes
 
 same_some : {X : Type 0} (x y : X) → Some x ≡ Some y → x ≡ y
 same_some x y e = cc
@@ -47,30 +44,18 @@ within [] i l = absurd (omega arith)
 within (x ∷ xs) zero l = record { item = x; at = refl }
 within (x ∷ xs) (suc i) l = let s = within xs i (omega arith) in record { item = s.item; at = s.at }
 
-last_or_earlier : (i n : ℕ) → i < n + 1 → (i < n) ⊎ (i ≡ n)
-last_or_earlier i n l = grind (arith, l)
-
 module _ (files : List SourceFile) where
   pub none_read : AreFirstRead files 0 []
-  none_read = record { many = refl; each = λ i file class at there. (let wrong : slice_get [] i ≡ Some class = there in cc); bytes = λ i file at l. absurd (omega (arith, l)) }
+  none_read = record { many = refl; each = λ i file class at there. (let wrong : slice_get [] i ≡ Some class = there in cc) }
 
-  pub more_read : (n : ℕ) (classes : Classes) (file : SourceFile) (class : ClassDef) → AreFirstRead files n classes → slice_get files n ≡ Some file → FileIs file.bytes class → All (λ b. b < 256) file.bytes → AreFirstRead files (n + 1) (classes ++ class ∷ [])
-  more_read n classes file class h at is of_bytes = record { many = omega (arith, length-append classes (class ∷ []), h.many); each = λ i other found there stands. go i other found there (older_or_new classes class i found stands); bytes = λ i other there l. with_bytes i other there (last_or_earlier i n l) }
+  pub more_read : (n : ℕ) (classes : Classes) (file : SourceFile) (class : ClassDef) → AreFirstRead files n classes → slice_get files n ≡ Some file → FileIs file.bytes class → AreFirstRead files (n + 1) (classes ++ class ∷ [])
+  more_read n classes file class h at is = record { many = omega (arith, length-append classes (class ∷ []), h.many); each = λ i other found there stands. go i other found there (older_or_new classes class i found stands) }
     where
       go : (i : ℕ) (other : SourceFile) (found : ClassDef) → slice_get files i ≡ Some other → (slice_get classes i ≡ Some found) ⊎ ((i ≡ length classes) × (class ≡ found)) → FileIs other.bytes found
       go i other found there (inl old) = h.each i other found there old
       go i other found there (inr new) =
           let same : file ≡ other = same_some file other (sym at ∙ ap (slice_get files) (sym h.many ∙ sym new.0) ∙ there) in
           subst (λ (f : SourceFile). FileIs f.bytes found) same (subst (FileIs file.bytes) new.1 is)
-
-      with_bytes : (i : ℕ) (other : SourceFile) → slice_get files i ≡ Some other → (i < n) ⊎ (i ≡ n) → All (λ b. b < 256) other.bytes
-      with_bytes i other there (inl l) = h.bytes i other there l
-      with_bytes i other there (inr e) =
-          let same : file ≡ other = same_some file other (sym at ∙ ap (slice_get files) (sym e) ∙ there) in
-          subst (λ (f : SourceFile). All (λ b. b < 256) f.bytes) same of_bytes
-
-  pub all_bytes : (n : ℕ) (classes : Classes) → AreFirstRead files n classes → length files ≤ n → HaveBytes files
-  all_bytes n classes h l file i = h.bytes i.0 file (slice_get-get_or files i.0 file i.1 ∙ ap Some i.2) (omega (arith, l, i.1))
 
   pub all_read : (n : ℕ) (classes : Classes) → AreFirstRead files n classes → n ≡ length files → AreRead files classes
   all_read n classes h e = record { whole = h.many ∙ e; each = h.each }

@@ -33,9 +33,6 @@ pub unchecked : (AreFacts : List Fact → Type 0) (m : Meter) (e : JudgeError) �
 unchecked AreFacts m (Refused code place) = (record { checks = 0; most = none; counted = refl }, λ other. refl)
 unchecked AreFacts m NoMemory = record { checks = 0; most = none; counted = refl }
 
-not_other : (n : ℕ) → n ≡ 20 → (n ≡ 20 → ⊥) → ⊥
-not_other n e other = other e
-
 code_told : (a b : ℕ) (p q : List ℕ) → refused a p ≡ refused b q → a ≡ b
 code_told a b p q e = cc
 

@@ -1,6 +1,5 @@
 -- What is told of a file that isn't the file of a class.
-use Rattle.std.specs.Prelude.{◌≡◌, ◌<◌, ◌++◌, List, codes, decimal}
-use Rattle.std.specs.List.{All, Contains}
+use Rattle.std.specs.Prelude.{◌≡◌, ◌++◌, codes, decimal}
 use Rattle.sj_names.specs.declared.folders.SourceFile.{SourceFile}
 use Rattle.sj_trees.specs.Refusals.{number_of}
 use Rattle.folder_judging_spec.specs.Stages.{HasFault}
@@ -10,7 +9,3 @@ use Rattle.folder_judging_spec.specs.Verdicts.{Verdict, refused}
 pub record IsFaultOf (file : SourceFile) (v : Verdict) : Type 0 where
   pub fault : HasFault file
   pub told : v ≡ refused (number_of fault.code) (file.path ++ codes ":" ++ decimal fault.place)
-
--- each file is a list of bytes
-abbrev pub HaveBytes : List SourceFile → Type 0
-HaveBytes files = (file : SourceFile) → Contains files file → All (λ b. b < 256) file.bytes

@@ -1,12 +1,11 @@
 // The verdict on a folder, stage by stage.
-ghost use Rattle.std.specs.Prelude.{◌≡◌, ◌++◌, List, IfOk, Ok, MatchOption, MatchResult, codes, decimal};
+ghost use Rattle.std.specs.Prelude.{◌≡◌, ◌++◌, List, Ok, MatchOption, MatchResult, codes, decimal};
 ghost use Rattle.sj_names.specs.declared.entry_points.EntryPoint.{EntryPoint};
 ghost use Rattle.sj_reach.specs.Answers.{AreReachable};
 ghost use Rattle.folder_judging_spec.specs.Stages.{KeepRules};
 ghost use Rattle.folder_judging_spec.specs.Verdicts.{IsVerdict, ByFiles, ByNames, ByReferences};
 ghost use Rattle.folder_judging.specs.Counts.{Counts, CountsChecks};
 ghost use Rattle.folder_judging.specs.Judging.{Judges, IsLinked, IsLinkedOf, IsLinkedFolder, AreFactsOf, AreFactsRead, AreFactsIn, IsKeptWorld};
-ghost use Rattle.folder_judging.specs.Reading.{HaveBytes};
 ghost use Rattle.folder_judging.specs.Rules.{IsLeastIn};
 ghost use Rattle.folder_judging.specs.Refusals.{IsRefusal, IsAt};
 
@@ -38,7 +37,6 @@ pub fn judge<W: Workers>(
     work: &mut W,
 ) -> Result<LinkedWorld, JudgeError>
     ensures verdict { Judges (IsVerdict entries.now files.now) (IsLinkedFolder entries.now files.now) result }
-    ensures bytes { IfOk result (λ _. HaveBytes files.now) }
     ensures counted { Counts files.now (AreFactsIn entries.now files.now) result (W.meter work.old) (W.meter work.new) }
 {
     let sizes = sizes_of(alloc, files)?;
@@ -55,7 +53,6 @@ fn judge_files<W: Workers>(
     work: &mut W,
 ) -> Result<LinkedWorld, JudgeError>
     ensures verdict { Judges (ByFiles entries.now files.now) (IsLinkedFolder entries.now files.now) result }
-    ensures bytes { IfOk result (λ _. HaveBytes files.now) }
     ensures counted { Counts files.now (AreFactsRead entries.now files.now) result (W.meter work.old) (W.meter work.new) }
 {
     let classes = read_files(alloc, files, work)?;

@@ -1,13 +1,12 @@
 // Files that are read.
-ghost use Rattle.std.specs.Prelude.{◌≡◌, ◌<◌, List, IfOk, MatchResult};
-ghost use Rattle.std.specs.List.{All};
+ghost use Rattle.std.specs.Prelude.{◌≡◌, List, MatchResult};
 ghost use Rattle.sj_read_spec.specs.Files.{FileIs};
 ghost use Rattle.sj_names.specs.declared.entry_points.EntryPoint.{EntryPoint};
 ghost use Rattle.folder_judging_spec.specs.Stages.{AreRead};
 ghost use Rattle.folder_judging_spec.specs.Verdicts.{ByFiles};
 ghost use Rattle.folder_judging.specs.Counts.{with_reads, HasRead};
 ghost use Rattle.folder_judging.specs.Refusals.{IsRefusal};
-ghost use Rattle.folder_judging.specs.Reading.{HaveBytes, IsFaultOf};
+ghost use Rattle.folder_judging.specs.Reading.{IsFaultOf};
 
 use crate::JudgeError;
 use crate::refusals::refusal_in_file;
@@ -23,7 +22,6 @@ pub fn read_files<W: Workers>(
     work: &mut W,
 ) -> Result<Vec<ClassDef>, JudgeError>
     ensures read { MatchResult result (λ classes. AreRead files.now classes.items) (IsRefusal (λ v. (entries : List EntryPoint) → ByFiles entries files.now v)) }
-    ensures bytes { IfOk result (λ _. HaveBytes files.now) }
     ensures counted { HasRead files.now result (W.meter work.old) (W.meter work.new) }
 {
     let mut classes = Vec::new(alloc);
@@ -41,7 +39,6 @@ fn read_file<W: Workers>(
     work: &mut W,
 ) -> Result<ClassDef, JudgeError>
     ensures read { MatchResult result (FileIs bytes.now) (IsRefusal (IsFaultOf (record { path = path.now; bytes = bytes.now }))) }
-    ensures bytes { All (λ b. b < 256) bytes.now }
     ensures counted { W.meter work.new ≡ with_reads 1 (W.meter work.old) }
 {
     match work.read_class(alloc, bytes) {

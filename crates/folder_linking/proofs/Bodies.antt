@@ -1,7 +1,7 @@
 -- The members whose bodies are needed, and their functions.
-use Rattle.std.proofs.Common.{◌≡◌, ◌+◌, ◌≤◌, ℕ, true, false, List, [], ◌∷◌, ◌++◌, ◌⊎◌, inl, inr, Option, Some, None, refl, sym, ap, subst, ◌∙◌, map, take, length, slice_get, Contains}
+use Rattle.std.proofs.Common.{◌≡◌, ◌+◌, ℕ, true, false, List, [], ◌∷◌, ◌++◌, ◌⊎◌, inl, inr, Option, Some, None, refl, sym, ap, subst, ◌∙◌, map, take, slice_get, Contains}
 use Rattle.std.specs.Prelude.{IsSome}
-use Rattle.std.proofs.lemmas.List.{take_all, map-append}
+use Rattle.std.proofs.lemmas.List.{map-append}
 use Rattle.std.proofs.lemmas.List.Elements.{Contains-push_cases}
 use Rattle.dispatch_laws.specs.Targets.{lookup_in}
 use Rattle.js_tree.specs.Rules.{IsPiece}
@@ -16,7 +16,6 @@ use Rattle.sj_world.specs.Known.{Classes}
 use Rattle.sj_world.specs.Members.{IsMethodOf}
 use Rattle.sj_world.specs.declared.facts.Fact.{Fact}
 use Rattle.sj_world.specs.declared.facts.Fact.TheVariants as fact
-use Rattle.worklist.proofs.Inserted.{nothing_in}
 use Rattle.linked_modules.proofs.Members.{found-member}
 use Rattle.folder_judging.specs.Counts.{members_of}
 use Rattle.folder_judging.specs.Stages.{IsDefined}
@@ -65,9 +64,6 @@ function_is w k d f has is member piece rules = go (some_of d.body (subst (λ (e
       rules = λ h. rules (subst BodyOnObjects (sym b.1) h);
     }
 
-pub no_functions : (w : Classes) → AreFunctions w [] []
-no_functions w = record { members_are = refl; each = λ f h. absurd (nothing_in f h) }
-
 pub more_functions : (w : Classes) (ms : List Member) (n : ℕ) (k : Member) (f : Function) (old new : List Function) → slice_get ms n ≡ Some k → f.member.now ≡ k → IsFunction w f → new ≡ old ++ f ∷ [] → AreFunctions w (take n ms) old → AreFunctions w (take (n + 1) ms) new
 more_functions w ms n k f old new at member is made h = record {
   members_are = ap (map member_of) made ∙ map-append member_of old (f ∷ []) ∙ ap (λ (ks : List Member). ks ++ f.member.now ∷ []) h.members_are ∙ ap (λ (j : Member). take n ms ++ j ∷ []) member ∙ sym (more_taken ms n k at);
@@ -77,6 +73,3 @@ more_functions w ms n k f old new at member is made h = record {
     each : (g : Function) → Contains old g ⊎ (f ≡ g) → IsFunction w g
     each g (inl there) = h.each g there
     each g (inr same) = subst (IsFunction w) same is
-
-pub all_functions : (w : Classes) (ms : List Member) (n : ℕ) (fs : List Function) → length ms ≤ n → AreFunctions w (take n ms) fs → AreFunctions w ms fs
-all_functions w ms n fs over h = subst (λ (l : List Member). AreFunctions w l fs) (take_all n ms over) h

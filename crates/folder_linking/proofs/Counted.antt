@@ -1,5 +1,5 @@
 -- What is counted while functions are emitted, one after the other.
-use Rattle.std.proofs.Common.{◌≡◌, ◌≤◌, ◌<◌, ◌+◌, ℕ, suc, zero, Result, Ok, Err, refl, ap, ◌∙◌, arith}
+use Rattle.std.proofs.Common.{◌≡◌, ◌≤◌, ◌<◌, ◌+◌, ℕ, suc, zero, Result, Ok, Err, ap, ◌∙◌, arith}
 use Rattle.sj_names.specs.Counting.{raised}
 use Rattle.sj_names.specs.declared.counters.Meter.{Meter}
 use Rattle.sj_names.specs.declared.memory.NoMemory.{NoMemory}
@@ -32,13 +32,6 @@ emits_end n most old middle new below first h = record { emits = h.emits + n; fe
 
 pub emits_some : (n most : ℕ) (old new : Meter) → n ≤ most → new ≡ with_emits n old → EmitsAtMost most old new
 emits_some n most old new few counted = record { emits = n; few = few; counted = counted }
-
-pub emits_none : (most : ℕ) (m : Meter) → EmitsAtMost most m m
-emits_none most m = record { emits = 0; few = omega arith; counted = refl }
-
--- so many are no more than more
-pub emits_weaker : (n most : ℕ) (old new : Meter) → n ≤ most → EmitsAtMost n old new → EmitsAtMost most old new
-emits_weaker n most old new l h = record { emits = h.emits; few = omega (arith, l, h.few); counted = h.counted }
 
 -- a call that emits one, whatever it answers
 pub emits_one : {A : Type 0} (r : Result A NoMemory) (old new : Meter) → new ≡ with_emits 1 old → Emits 1 r old new

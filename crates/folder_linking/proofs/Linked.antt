@@ -191,7 +191,7 @@ module _ (entries : List EntryPoint) (l : Linked) (can : IsLinkable entries l) (
   bodies = record { exact = exact; found = methods_found l.world fs are.each; own = own }
 
   pub tell : NamesTell all
-  tell = names_tell entries can.files l.world all can.are_bytes can.is_accepted bodies
+  tell = names_tell entries can.files l.world all can.is_accepted bodies
 
   -- the pieces of the functions are those of all needed bodies, and keep the rules of printing
   views : (gs : List Function) → map piece_view (map piece gs) ≡ map (λ (f : Function). piece_view f.piece) gs
@@ -202,7 +202,7 @@ module _ (entries : List EntryPoint) (l : Linked) (can : IsLinkable entries l) (
   pieces_of_bodies ps made = ap (map piece_view) made ∙ views fs ∙ sym (pieces_are l.world fs are.each)
 
   pub bodies_keep : (ps : List JsPiece) → ps ≡ map piece fs → All IsPiece (map piece_view ps)
-  bodies_keep ps made = subst (All IsPiece) (sym (ap (map piece_view) made ∙ views fs)) (pieces_keep l.world fs are.each (body_on_objects entries can.files l.world can.are_bytes can.is_accepted all bodies))
+  bodies_keep ps made = subst (All IsPiece) (sym (ap (map piece_view) made ∙ views fs)) (pieces_keep l.world fs are.each (body_on_objects entries can.files l.world can.is_accepted all bodies))
 
   -- and those with the pieces of the classes can be printed
   pub printable : (ps : List Piece) → AreLinkedPieces l all ps → All IsPiece ps → ArePrintable l.world entries ps

@@ -14,7 +14,6 @@ use Rattle.linked_modules.proofs.Given.{all_from}
 use Rattle.linked_modules.proofs.Standing.{Stands, each_stands}
 use Rattle.linked_modules.proofs.Uses.{ahead, after}
 use Rattle.linked_modules.proofs.Written as written
-use Rattle.sj_text_files.specs.Listed.{AreBytes}
 use Rattle.linked_modules.proofs.Fields.{field_there}
 use Rattle.sj_reach.specs.Refusals.{hijacked}
 use Rattle.sj_desugar_spec.specs.Desugar.{desugared_member}
@@ -158,12 +157,12 @@ item_of_object : (t u : IrType) → HasItems t u → is_sure_type t ≡ false
 item_of_object (types.Array r) u h = refl
 item_of_object _ u h = absurd h
 
-module _ (entries : List EntryPoint) (files : List SourceFile) (w : Classes) (bytes : (file : SourceFile) → Contains files file → AreBytes file.bytes) (a : IsAccepted entries files w) where
+module _ (entries : List EntryPoint) (files : List SourceFile) (w : Classes) (a : IsAccepted entries files w) where
   kept : AreClassesKept w
-  kept = objects.kept entries files w bytes a
+  kept = objects.kept entries files w a
 
   unbroken : (c : ClassDef) → Contains w c → FirstBroken c None
-  unbroken c i = (judged entries files w bytes a c i).unbroken
+  unbroken c i = (judged entries files w a c i).unbroken
 
   -- no primitive value has a field
   of_object : (t : IrType) (c f : Name) (u : IrType) → IsSub w t (class_type c) → HasFieldType w c f false u → is_sure_type t ≡ false

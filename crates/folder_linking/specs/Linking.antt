@@ -1,10 +1,9 @@
 -- When a folder can be linked, and its pieces.
 use Rattle.std.specs.Prelude.{List}
-use Rattle.std.specs.List.{All, Contains}
+use Rattle.std.specs.List.{All}
 use Rattle.folder_judging.specs.Entries.{AreEntries}
 use Rattle.js_tree.specs.Rules.{IsPiece}
 use Rattle.js_tree.specs.Terms.{Piece}
-use Rattle.sj_text_files.specs.Listed.{AreBytes}
 use Rattle.sj_names.specs.EntryPoints.{AreEntries as AreValid}
 use Rattle.sj_names.specs.declared.entry_points.EntryPoint.{EntryPoint}
 use Rattle.sj_names.specs.declared.folders.SourceFile.{SourceFile}
@@ -18,10 +17,9 @@ use Rattle.linked_modules.specs.Link.{IsLink}
 use Rattle.sj_split_laws.specs.Laws.{AreCountable}
 use Rattle.sj_split.specs.declared.plans.Style.{Style}
 
--- the world of a folder of bytes that is accepted, with all that is reachable in it and its method entries
+-- the world of a folder that is accepted, with all that is reachable in it and its method entries
 pub record IsLinkable (entries : List EntryPoint) (l : Linked) : Type 0 where
   pub files : List SourceFile
-  pub are_bytes : (file : SourceFile) → Contains files file → AreBytes file.bytes
   pub is_accepted : IsAccepted entries files l.world
   pub reached : AreReachable l.world entries l.facts
   pub method_entries : AreEntries l.world l.facts l.entries

@@ -33,7 +33,6 @@ use Rattle.declared_pieces.specs.Running.{CanBeThrown, CanRun}
 use Rattle.declared_pieces.specs.Used.{used_of, makes, calls_on, tells_apart, is_among, is_cast, uses_reflective, is_called_by}
 use Rattle.declared_pieces.specs.Written.{AreWrittenWith}
 use Rattle.declared_pieces.specs.Targets.{has_hijacked_in}
-use Rattle.sj_text_files.specs.Listed.{AreBytes}
 use Rattle.sj_emit_help_spec.specs.Helpers.{failure_class}
 use Rattle.sj_emit_help_spec.specs.Words.{kind_class}
 use Rattle.sj_emit_help_spec.specs.declared.kinds.Failure.{Failure}
@@ -60,7 +59,7 @@ use Rattle.sj_world.specs.declared.facts.Fact.{Fact}
 use Rattle.sj_world.specs.declared.facts.Fact.TheVariants.{Needed, Made, Body, Called}
 use Rattle.folder_soundness.proofs.Facts.{names_of, name_stands, made_there}
 
-module _ (entries : List EntryPoint) (files : List SourceFile) (w : Classes) (all : List EmittedMethod) (facts : List Fact) (bytes : (file : SourceFile) → Contains files file → AreBytes file.bytes) (a : IsAccepted entries files w) (bodies : AreBodies w entries all) (exact : (f : Fact) → Contains facts f ↔ Reachable w entries f) where
+module _ (entries : List EntryPoint) (files : List SourceFile) (w : Classes) (all : List EmittedMethod) (facts : List Fact) (a : IsAccepted entries files w) (bodies : AreBodies w entries all) (exact : (f : Fact) → Contains facts f ↔ Reachable w entries f) where
   abbrev l : Linked
   l = record { world = w; facts = facts; entries = [] }
 
@@ -88,10 +87,10 @@ module _ (entries : List EntryPoint) (files : List SourceFile) (w : Classes) (al
   stands c k = Contains-append_left (names_of w) (map owner_of (flat_map used_bindings all)) c (name_stands w c k)
 
   present : (c : Name) → Reachable w entries (Needed c) → (k : ClassDef) × (class_of w c ≡ Some k)
-  present = made.present w entries a.resolved (classes_kept entries files w bytes a)
+  present = made.present w entries a.resolved (classes_kept entries files w a)
 
   made_known_there : (c : Name) → Reachable w entries (Made c) → (k : ClassDef) × (class_of w c ≡ Some k)
-  made_known_there = made_there w entries a.resolved (classes_kept entries files w bytes a)
+  made_known_there = made_there w entries a.resolved (classes_kept entries files w a)
 
   object_stands : Contains written object
   object_stands = stands object (present object (closed w entries (Needed object) the_object))
@@ -123,17 +122,17 @@ module _ (entries : List EntryPoint) (files : List SourceFile) (w : Classes) (al
         record { is_made = (exact (Made c)).1 r.0; is_written = stands c (made_known_there c r.0); constructor = (bodies.exact (message_constructor c)).1 r.1 }
 
     casts : (c : Name) → is_cast all c ≡ true → Contains written object × Contains helpers (Throws Cast)
-    casts c h = (object_stands, (are_helpers (Throws Cast)).1 (pieces.cast_read entries files l all a bodies holds c (cast_form w entries facts all bodies (listed entries files w facts bytes a exact all bodies) c h)))
+    casts c h = (object_stands, (are_helpers (Throws Cast)).1 (pieces.cast_read entries files l all a bodies holds c (cast_form w entries facts all bodies (listed entries files w facts a exact all bodies) c h)))
 
     answered : (c : Name) (m : MethodName) (d : Name) → is_ancestor w d c ≡ true → (owner : Name) → IsReachedTarget w facts d m owner → Answers w has c d m
-    answered c m d below owner t = target_answers entries files w facts bytes a exact all bodies live helpers written c m d below owner t (body_stands owner m t.reached)
+    answered c m d below owner t = target_answers entries files w facts a exact all bodies live helpers written c m d below owner t (body_stands owner m t.reached)
 
     -- objects and primitive values alike have the target
     by_object : (c : Name) (m : MethodName) → Contains facts (Called c m) → (d : Name) → Contains facts (Made d) → is_ancestor w d c ≡ true → Answers w has c d m
-    by_object c m called d is_made e = let t = target_of entries files w facts bytes a exact d m (on_made d c (holds (Called c m) called) (holds (Made d) is_made) (stands_above w d c e)) in answered c m d e t.owner t.target
+    by_object c m called d is_made e = let t = target_of entries files w facts a exact d m (on_made d c (holds (Called c m) called) (holds (Made d) is_made) (stands_above w d c e)) in answered c m d e t.owner t.target
 
     by_kind : (c : Name) (m : MethodName) → Contains facts (Called c m) → (k : Kind) → is_ancestor w (kind_class k) c ≡ true → Answers w has c (kind_class k) m
-    by_kind c m called k e = let t = target_of entries files w facts bytes a exact (kind_class k) m (on_hijacked (kind_class k) c (holds (Called c m) called) (kind_hijacked k) (stands_above w (kind_class k) c e)) in answered c m (kind_class k) e t.owner t.target
+    by_kind c m called k e = let t = target_of entries files w facts a exact (kind_class k) m (on_hijacked (kind_class k) c (holds (Called c m) called) (kind_hijacked k) (stands_above w (kind_class k) c e)) in answered c m (kind_class k) e t.owner t.target
 
     made_fact : (d : Name) → has.made d ≡ true → Contains facts (Made d)
     made_fact d is_made = made_known facts d (and_parts (is_among written d) (list_any (makes d) facts) is_made).1
@@ -148,8 +147,8 @@ module _ (entries : List EntryPoint) (files : List SourceFile) (w : Classes) (al
         called = called_known facts c m (and_parts (list_any (calls_on c m) facts) (not (has_hijacked_in w c) || tells_apart w facts all written m) h).0
 
         by : (d : Name) → IsClassBelow w has c d → Answers w has c d m
-        by _ (made_below d is_made sub) = let k = known d (made_fact d is_made) in by_object c m called d (made_fact d is_made) (class_below w c (called_free entries files w facts bytes a exact c m called) d (known_class w d k.0 k.1) sub)
-        by _ (kind_below o d of sub) = let k = told_kind w c (called_free entries files w facts bytes a exact c m called) o d of sub in subst (λ (n : Name). Answers w has c n m) k.is (by_kind c m called k.kind k.below)
+        by _ (made_below d is_made sub) = let k = known d (made_fact d is_made) in by_object c m called d (made_fact d is_made) (class_below w c (called_free entries files w facts a exact c m called) d (known_class w d k.0 k.1) sub)
+        by _ (kind_below o d of sub) = let k = told_kind w c (called_free entries files w facts a exact c m called) o d of sub in subst (λ (n : Name). Answers w has c n m) k.is (by_kind c m called k.kind k.below)
 
     on_arrays : (m : MethodName) → has.on_arrays m ≡ true → has.made object ≡ true → Answers w has object object m
     on_arrays m h is_made = let k = known object (made_fact object is_made) in by_object object m (called_known facts object m h) object (made_fact object is_made) (class_below w object refl object (known_class w object k.0 k.1) (to_any refl (λ e. cc)))
@@ -158,13 +157,13 @@ module _ (entries : List EntryPoint) (files : List SourceFile) (w : Classes) (al
     named_answers m h d below = by d below
       where
         called : IsReflective w facts m
-        called = called_by entries files w facts bytes a exact all bodies m (and_parts (is_called_by all m) (list_any (uses_reflective w written m) all) h).0
+        called = called_by entries files w facts a exact all bodies m (and_parts (is_called_by all m) (list_any (uses_reflective w written m) all) h).0
 
         nothing : (e : Name) → proxy_target w e m ≡ None → AnswersByName w has e m
-        nothing = unnamed entries files w facts bytes a exact all bodies live helpers written (thrown Method (pieces.call_read entries files l all a bodies holds m called)) m
+        nothing = unnamed entries files w facts a exact all bodies live helpers written (thrown Method (pieces.call_read entries files l all a bodies holds m called)) m
 
         named : (e : Name) (t : MethodDef) → proxy_target w e m ≡ Some t → (owner : Name) → IsReachedTarget w facts e t.name owner → AnswersByName w has e m
-        named e t is owner target = name_answers entries files w facts bytes a exact all bodies live helpers written m e t is owner target (body_stands owner t.name target.reached)
+        named e t is owner target = name_answers entries files w facts a exact all bodies live helpers written m e t is owner target (body_stands owner t.name target.reached)
 
         by_name : (e : Name) → ((t : MethodDef) → proxy_target w e m ≡ Some t → AnswersByName w has e m) → AnswersByName w has e m
         by_name e found = go (proxy_target w e m) refl
@@ -178,21 +177,21 @@ module _ (entries : List EntryPoint) (files : List SourceFile) (w : Classes) (al
             let i = made_fact d is_made in
             let k = known d i in
             let its = proxy_right w d m t is in
-            let r = closed w entries (Called d t.name) (reflective d m t its.0 (name_read entries files w facts bytes a exact m called) (holds (Made d) i) its.1) in
-            let found = target_of entries files w facts bytes a exact d t.name (on_made d d r (holds (Made d) i) (record { known = known_class w d k.0 k.1; way = by_path stay })) in
+            let r = closed w entries (Called d t.name) (reflective d m t its.0 (name_read entries files w facts a exact m called) (holds (Made d) i) its.1) in
+            let found = target_of entries files w facts a exact d t.name (on_made d d r (holds (Made d) i) (record { known = known_class w d k.0 k.1; way = by_path stay })) in
             named d t is found.owner found.target)
-        by _ (kind_below o d of sub) = let k = told_kind w object refl o d of sub in subst (λ (n : Name). AnswersByName w has n m) k.is (by_name (kind_class k.kind) (λ t is. let found = kind_target entries files w facts bytes a exact m called k.kind t is in named (kind_class k.kind) t is found.owner found.target))
+        by _ (kind_below o d of sub) = let k = told_kind w object refl o d of sub in subst (λ (n : Name). AnswersByName w has n m) k.is (by_name (kind_class k.kind) (λ t is. let found = kind_target entries files w facts a exact m called k.kind t is in named (kind_class k.kind) t is found.owner found.target))
 
     pub run : CanRun w entries facts all live helpers written
     run = record {
       reached = holds;
       whole = λ f. (exact f).1;
-      are_built = λ e i here. accepted_bodies entries files w facts all live helpers written bytes a bodies uses e i here;
+      are_built = λ e i here. accepted_bodies entries files w facts all live helpers written a bodies uses e i here;
       closed = λ h g i u. (are_helpers g).1 (pieces.more_good entries files l all a bodies holds h g ((are_helpers h).0 i) u);
       thrown = λ f i here. thrown f ((are_helpers (Throws f)).0 i);
-      listed = listed entries files w facts bytes a exact all bodies;
+      listed = listed entries files w facts a exact all bodies;
       casts = λ c here h. casts c h;
-      loads = loaded entries files w facts bytes a exact all bodies;
+      loads = loaded entries files w facts a exact all bodies;
       on_arrays = on_arrays;
       looked = answers;
       reflected = named_answers;

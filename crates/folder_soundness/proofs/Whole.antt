@@ -13,7 +13,6 @@ use Rattle.declared_pieces.specs.Bodies.{AreBodies}
 use Rattle.declared_pieces.specs.EmittedMethods.{EmittedMethod}
 use Rattle.declared_pieces.specs.Entries.{IsLive}
 use Rattle.declared_pieces.specs.Reachable.{Reachable}
-use Rattle.sj_text_files.specs.Listed.{AreBytes}
 use Rattle.folder_judging_spec.proofs.Undenied.{Undenied, granted, and_so}
 use Rattle.sj_emit_help_spec.specs.declared.kinds.Helper.{Helper}
 use Rattle.ir_mean.specs.Shows.{ir_shows}
@@ -35,35 +34,35 @@ not_wrong (Done a) u = tt
 not_wrong Going u = tt
 not_wrong Wrong u = u (λ x. x)
 
-module _ (entries : List EntryPoint) (files : List SourceFile) (w : Classes) (id : List ℕ) (n : ℕ) (bytes : (file : SourceFile) → Contains files file → AreBytes file.bytes) (a : IsAccepted entries files w) where
+module _ (entries : List EntryPoint) (files : List SourceFile) (w : Classes) (id : List ℕ) (n : ℕ) (a : IsAccepted entries files w) where
   abbrev Shown : Type 0
   Shown = IsNotWrong (ir_shows w entries id n).end
 
   module _ (all : List EmittedMethod) (bodies : AreBodies w entries all) (facts : List Fact) (exact : (f : Fact) → Contains facts f ↔ Reachable w entries f) where
     abbrev IsFine : Helper → Type 0
-    IsFine = running.IsFine entries files w all facts bytes a bodies exact
+    IsFine = running.IsFine entries files w all facts a bodies exact
 
     abbrev written : List Name
-    written = running.written entries files w all facts bytes a bodies exact
+    written = running.written entries files w all facts a bodies exact
 
     lives_there : (c : Name) → IsLive w facts c → Contains (names_of w) c
-    lives_there c h = name_stands w c (live_there entries files w bytes a facts (λ f. (exact f).0) c h)
+    lives_there c h = name_stands w c (live_there entries files w a facts (λ f. (exact f).0) c h)
 
     shown_by : Chosen (IsLive w facts) (names_of w) → Chosen IsFine every_helper → Shown
     shown_by live helpers =
         let are_live = all_chosen (IsLive w facts) (names_of w) lives_there live in
         let are_helpers = all_chosen IsFine every_helper (λ h fine. stands_in_table h) helpers in
-        let run = running.run entries files w all facts bytes a bodies exact live.those are_live helpers.those are_helpers in
-        never_wrong w w (judged_plain w (judged entries files w bytes a)) (running.has entries files w all facts bytes a bodies exact live.those are_live helpers.those are_helpers)
-        (laws_of w (running.has entries files w all facts bytes a bodies exact live.those are_live helpers.those are_helpers) (carry entries files w facts all live.those helpers.those written bytes a bodies run))
-        (link_right entries files w facts all live.those helpers.those written bytes a bodies run)
-        entries id (λ e i. running.starts entries files w all facts bytes a bodies exact live.those are_live helpers.those are_helpers e (initializers_among id entries e i)) n
+        let run = running.run entries files w all facts a bodies exact live.those are_live helpers.those are_helpers in
+        never_wrong w w (judged_plain w (judged entries files w a)) (running.has entries files w all facts a bodies exact live.those are_live helpers.those are_helpers)
+        (laws_of w (running.has entries files w all facts a bodies exact live.those are_live helpers.those are_helpers) (carry entries files w facts all live.those helpers.those written a bodies run))
+        (link_right entries files w facts all live.those helpers.those written a bodies run)
+        entries id (λ e i. running.starts entries files w all facts a bodies exact live.those are_live helpers.those are_helpers e (initializers_among id entries e i)) n
 
     shown : Undenied Shown
     shown = and_so (chosen (IsLive w facts) (names_of w)) (λ live. and_so (chosen IsFine every_helper) (λ helpers. granted (shown_by live helpers)))
 
   listed : (all : List EmittedMethod) → AreBodies w entries all → Undenied Shown
-  listed all bodies = and_so (facts_listed w entries (λ c i. (judged entries files w bytes a c i).unbroken) a.resolved (classes_kept entries files w bytes a)) (λ its. shown all bodies its.facts its.exact)
+  listed all bodies = and_so (facts_listed w entries (λ c i. (judged entries files w a c i).unbroken) a.resolved (classes_kept entries files w a)) (λ its. shown all bodies its.facts its.exact)
 
 pub never_wrong_folders : AcceptedFoldersAreNeverWrong
-never_wrong_folders entries files w id n bytes a = not_wrong (ir_shows w entries id n).end (λ deny. have_bodies entries files w a (λ all bodies. listed entries files w id n bytes a all bodies deny))
+never_wrong_folders entries files w id n a = not_wrong (ir_shows w entries id n).end (λ deny. have_bodies entries files w a (λ all bodies. listed entries files w id n a all bodies deny))

@@ -1,7 +1,6 @@
 -- The law on what an accepted folder shows.
-use Rattle.std.specs.Prelude.{ℕ, List, Contains}
+use Rattle.std.specs.Prelude.{ℕ, List}
 use Rattle.declared_pieces.specs.Accepted.{IsAccepted}
-use Rattle.sj_text_files.specs.Listed.{AreBytes}
 use Rattle.ir_mean.specs.Shows.{ir_shows}
 use Rattle.outcomes.specs.Agreement.{IsNotWrong}
 use Rattle.sj_names.specs.declared.entry_points.EntryPoint.{EntryPoint}
@@ -11,6 +10,5 @@ use Rattle.sj_world.specs.Known.{Classes}
 -- where a folder of bytes is accepted, what its classes show is wrong at no bound
 abbrev pub AcceptedFoldersAreNeverWrong : Type 0
 AcceptedFoldersAreNeverWrong = (entries : List EntryPoint) (files : List SourceFile) (w : Classes) (id : List ℕ) (n : ℕ)
-    → ((file : SourceFile) → Contains files file → AreBytes file.bytes)
     → IsAccepted entries files w
     → IsNotWrong (ir_shows w entries id n).end

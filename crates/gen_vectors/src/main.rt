@@ -8,7 +8,7 @@ use anyhow::Result;
 use sj_gen::folder;
 use sj_names::{Meter, NoMemory, SourceFile};
 use sj_read::read_class;
-use sj_text_files::{each_class_of_a_file_has_a_listing, each_is_a_byte};
+use sj_text_files::each_class_of_a_file_has_a_listing;
 use sj_text_print::print_listing;
 use sj_trees::ReadRefusal;
 use std::alloc::Global;
@@ -64,7 +64,6 @@ fn shown(alloc: Global, file: &SourceFile, listed: bool) -> result::Result<Strin
 
 // The listing of the class that the bytes are the file of.
 fn listing(alloc: Global, file: &[u8]) -> result::Result<String, NoMemory> {
-    each_is_a_byte(file);
     each_class_of_a_file_has_a_listing();
     match read_class(alloc, file, &mut Meter::new()) {
         Ok(class) => {

@@ -1,6 +1,5 @@
 -- What is read is the class of a file.
-use Rattle.std.proofs.Common.{ℕ, ◌<◌, List, Ok}
-use Rattle.std.specs.List.{All}
+use Rattle.std.proofs.Common.{ℕ, List, Ok}
 use Rattle.sj_units.proofs.Exact as units
 use Rattle.sj_trees.specs.declared.classes.ClassDef.{ClassDef}
 use Rattle.sj_read_spec.specs.Answers.{Reads}
@@ -8,5 +7,5 @@ use Rattle.sj_write_spec.specs.Classes.{NamesItsFiles}
 use Rattle.sj_write_spec.proofs.WrittenFile.{files_there}
 
 -- each position of a class that is read names one of its source files
-pub names_files : (file : List ℕ) (class : ClassDef) → All (λ b. b < 256) file → Reads file (Ok class) → NamesItsFiles class
-names_files file class bytes reads = files_there units.reads_what_is_written class (record { file = file; bytes = bytes; is_file = reads.right })
+pub names_files : (file : List ℕ) (class : ClassDef) → Reads file (Ok class) → NamesItsFiles class
+names_files file class reads = files_there units.reads_what_is_written class (record { file = file; is_file = reads.right })

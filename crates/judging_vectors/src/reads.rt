@@ -2,7 +2,7 @@
 use crate::texts::add;
 use sj_names::{Meter, NameError};
 use sj_read::read_class;
-use sj_text_files::{each_class_of_a_file_has_a_listing, each_is_a_byte};
+use sj_text_files::each_class_of_a_file_has_a_listing;
 use sj_text_print::print_listing;
 use sj_trees::{Code, ReadRefusal};
 use std::alloc::Global;
@@ -17,7 +17,6 @@ pub(crate) fn add_answer(alloc: Global, file: &str, text: &mut String) -> Result
 }
 
 fn add_read(alloc: Global, file: &[u8], text: &mut String) -> Result<(), NameError> {
-    each_is_a_byte(file);
     each_class_of_a_file_has_a_listing();
     match read_class(alloc, file, &mut Meter::new()) {
         Ok(class) => {

@@ -2,7 +2,6 @@
 use crate::texts::add;
 use sj_names::{Meter, NameError};
 use sj_read::read_class;
-use sj_text_files::each_is_a_byte;
 use sj_write::write_class;
 use std::alloc::Global;
 
@@ -15,7 +14,6 @@ pub(crate) fn add_answer(alloc: Global, file: &str, text: &mut String) -> Result
 }
 
 fn add_written(alloc: Global, file: &[u8], text: &mut String) -> Result<(), NameError> {
-    each_is_a_byte(file);
     match read_class(alloc, file, &mut Meter::new()) {
         Ok(class) => {
             let written = write_class(alloc, &class)?;

@@ -1,9 +1,6 @@
-mod Spelled
 mod Parents
 pub mod Below
-pub mod Names
 pub mod One
-pub mod Read
 pub mod Targets
 pub use Rattle.accepted_folders.proofs.Assembled
 pub use Rattle.accepted_folders.proofs.Bodies

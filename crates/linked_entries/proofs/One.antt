@@ -20,8 +20,9 @@ use Rattle.proxy_targets.specs.Proxies.{IsTargetName}
 use Rattle.accepted_folders.specs.Rules.{public_member}
 use Rattle.accepted_folders.proofs.Classes.{keeps-superclass, keeps-hijacked, result-keeps}
 use Rattle.sj_local.specs.Broken.{FirstBroken}
+use Rattle.sj_text_files.proofs.ListedClasses.{file_is_listed}
 use Rattle.sj_names.proofs.Same.{impossible}
-use Rattle.sj_names.specs.MethodNames.{spelled_method}
+use Rattle.sj_names.specs.MethodNames.{IsMethodName, spelled_method}
 use Rattle.sj_names.specs.declared.entry_points.EntryPoint.{EntryPoint}
 use Rattle.sj_names.specs.declared.folders.SourceFile.{SourceFile}
 use Rattle.sj_names.specs.declared.method_names.MethodName.{MethodName}
@@ -36,9 +37,7 @@ use Rattle.sj_world.specs.declared.facts.Fact.{Fact}
 use Rattle.sj_world.specs.declared.facts.Fact.TheVariants as fact
 use Rattle.sj_world.specs.declared.linked.MethodEntry.{MethodEntry}
 use Rattle.linked_entries.specs.Laws.{EntriesAreOne}
-use Rattle.linked_entries.proofs.Names.{IsWideName, names_differ}
-use Rattle.linked_entries.proofs.Read.{methods_are_wide}
-use Rattle.linked_entries.proofs.Targets.{IsMethodsName, target_named, IsReached, proxy_reached, one_target_name}
+use Rattle.linked_entries.proofs.Targets.{names_differ, IsMethodsName, target_named, IsReached, proxy_reached, one_target_name}
 
 -- ---- the same facts give the same entries
 
@@ -78,19 +77,19 @@ neither_before a b h k =
 some_none : {A : Type 0} (o : Option TypeRef) → is_some o ≡ true → o ≡ None → A
 some_none o h e = impossible (subst (λ (x : Option TypeRef). is_some x ≡ true) e h)
 
-module _ (w : Classes) (one_proxy : (c : Name) (p t u : MethodName) → IsTargetName w c p t → IsTargetName w c p u → t ≡ u) (kept : (c : ClassDef) → Contains w c → FirstBroken c None) (wide : (c : ClassDef) → Contains w c → (m : MethodDef) → Contains c.methods m → IsWideName m.name) (facts : List Fact) where
-  wide_method : (m : MethodName) → IsMethodsName w m → IsWideName m
-  wide_method m h = subst IsWideName h.name_is (wide h.is_defined.class h.is_defined.in_world h.definition h.is_defined.among)
+module _ (w : Classes) (one_proxy : (c : Name) (p t u : MethodName) → IsTargetName w c p t → IsTargetName w c p u → t ≡ u) (kept : (c : ClassDef) → Contains w c → FirstBroken c None) (named : (c : ClassDef) → Contains w c → (m : MethodDef) → Contains c.methods m → IsMethodName m.name) (facts : List Fact) where
+  named_method : (m : MethodName) → IsMethodsName w m → IsMethodName m
+  named_method m h = subst IsMethodName h.name_is (named h.is_defined.class h.is_defined.in_world h.definition h.is_defined.among)
 
   with_result : (m : MethodName) → IsMethodsName w m → is_some m.result ≡ true
   with_result m h = subst (λ (n : MethodName). is_some n.result ≡ true) h.name_is (result-keeps h.is_defined.class (kept h.is_defined.class h.is_defined.in_world) h.definition h.is_defined.among)
 
   -- a reflective name has the parts of the method's that it reaches, and no result
-  wide_proxy : (p t : MethodName) → p.result ≡ None → IsReached w p t → IsWideName p
-  wide_proxy p t none h = subst IsWideName same (record { simple = of_method.simple; params = of_method.params; result = tt })
+  named_proxy : (p t : MethodName) → p.result ≡ None → IsReached w p t → IsMethodName p
+  named_proxy p t none h = subst IsMethodName same (record { simple = of_method.simple; params = of_method.params; result = tt })
     where
-      of_method : IsWideName h.definition.name
-      of_method = wide h.is_defined.class h.is_defined.in_world h.definition h.is_defined.among
+      of_method : IsMethodName h.definition.name
+      of_method = named h.is_defined.class h.is_defined.in_world h.definition h.is_defined.among
 
       without : MethodName
       without = record { simple = h.definition.name.simple; params = h.definition.name.params; result = None }
@@ -101,24 +100,24 @@ module _ (w : Classes) (one_proxy : (c : Name) (p t u : MethodName) → IsTarget
   of_direct : (c owner : Name) (m : MethodName) → IsDirect w facts c m owner → IsMethodsName w m
   of_direct c owner m h = target_named w c m owner h.is_target
 
-  wide_of_proxy : (c : Name) (p t : MethodName) → IsProxy w facts c p t → IsWideName p
-  wide_of_proxy c p t h = wide_proxy p t (without_result w facts p h.reflective) (proxy_reached w c p t h.is_target)
+  name_of_proxy : (c : Name) (p t : MethodName) → IsProxy w facts c p t → IsMethodName p
+  name_of_proxy c p t h = named_proxy p t (without_result w facts p h.reflective) (proxy_reached w c p t h.is_target)
 
   -- a name with a method's spelling isn't reflective
   apart : {A : Type 0} (c owner d : Name) (m p t : MethodName) → IsDirect w facts c m owner → IsProxy w facts d p t → spelled_method m ≡ spelled_method p → A
   apart c owner d m p t h k e =
-      let same : m ≡ p = names_differ m p (wide_method m (of_direct c owner m h)) (wide_of_proxy d p t k) e in
+      let same : m ≡ p = names_differ m p (named_method m (of_direct c owner m h)) (name_of_proxy d p t k) e in
       some_none p.result (subst (λ (n : MethodName). is_some n.result ≡ true) same (with_result m (of_direct c owner m h))) (without_result w facts p k.reflective)
 
   one_entry : (a b : MethodEntry) → IsMethodEntry w facts a → IsMethodEntry w facts b → AreTied a b → a ≡ b
   one_entry _ _ (direct c owner m h) (direct d other n k) t =
-      let names : m ≡ n = names_differ m n (wide_method m (of_direct c owner m h)) (wide_method n (of_direct d other n k)) t.spellings in
+      let names : m ≡ n = names_differ m n (named_method m (of_direct c owner m h)) (named_method n (of_direct d other n k)) t.spellings in
       let owners : owner ≡ other = one_owner w d n owner other (subst (λ (x : MethodName). IsTarget w d x owner) names (subst (λ (x : Name). IsTarget w x m owner) t.classes h.is_target)) k.is_target in
       (λ i. record { class = t.classes i; name = names i; target = public_member (owners i) (names i) })
   one_entry _ _ (direct c owner m h) (proxy d p u k) t = apart c owner d m p u h k t.spellings
   one_entry _ _ (proxy d p u k) (direct c owner m h) t = apart c owner d m p u h k (sym t.spellings)
   one_entry _ _ (proxy c p u h) (proxy d q v k) t =
-      let names : p ≡ q = names_differ p q (wide_of_proxy c p u h) (wide_of_proxy d q v k) t.spellings in
+      let names : p ≡ q = names_differ p q (name_of_proxy c p u h) (name_of_proxy d q v k) t.spellings in
       let targets : u ≡ v = one_proxy d q u v (subst (λ (x : MethodName). IsTargetName w d x u) names (subst (λ (x : Name). IsTargetName w x p u) t.classes h.is_target)) k.is_target in
       (λ i. record { class = t.classes i; name = names i; target = public_member (t.classes i) (targets i) })
 
@@ -159,21 +158,22 @@ module _ (entries : List EntryPoint) (files : List SourceFile) (w : Classes) (a 
   kept : (c : ClassDef) → Contains w c → FirstBroken c None
   kept c h = a.kept c (given c h)
 
-  wide : (c : ClassDef) → Contains w c → (m : MethodDef) → Contains c.methods m → IsWideName m.name
-  wide c h m i =
+  named : (c : ClassDef) → Contains w c → (m : MethodDef) → Contains c.methods m → IsMethodName m.name
+  named c h m i =
       let at = stands_at a.classes c (given c h) in
       let s = standing files a.classes (given c h).0 c (sym a.read.whole) at in
-      methods_are_wide s.item.bytes c (a.read.each (given c h).0 s.item c s.at at) m i
+      let listing = file_is_listed s.item.bytes c (a.read.each (given c h).0 s.item c s.at at) in
+      subst (λ (d : MethodDef). IsMethodName d.name) i.2 (listing.methods i.0 m i.1).0.0
 
   plain : IsPlain w
   plain = plain_world w (λ c h. keeps-superclass c (kept c h)) (λ c h. keeps-hijacked c (kept c h))
 
   -- a reflective call on a class reaches methods of one name
   pub one_method : HasOneTarget w
-  one_method c p d e owner other h k = one_target_name w a.world.no_cycle plain kept wide c p d.name e.name (record { definition = d; owner = owner; is_target = h; name_is = refl }) (record { definition = e; owner = other; is_target = k; name_is = refl })
+  one_method c p d e owner other h k = one_target_name w a.world.no_cycle plain kept named c p d.name e.name (record { definition = d; owner = owner; is_target = h; name_is = refl }) (record { definition = e; owner = other; is_target = k; name_is = refl })
 
   unique : (facts : List Fact) (x y : MethodEntry) → IsMethodEntry w facts x → IsMethodEntry w facts y → AreTied x y → x ≡ y
-  unique facts = one_entry w (one_target_name w a.world.no_cycle plain kept wide) kept wide facts
+  unique facts = one_entry w (one_target_name w a.world.no_cycle plain kept named) kept named facts
 
 moved : (w : Classes) (facts more : List Fact) → ((f : Fact) → Contains facts f ↔ Contains more f) → (es : List MethodEntry) → AreEntries w more es → AreEntries w facts es
 moved w facts more same es are = record {

@@ -1,5 +1,5 @@
 -- A reflective name has one target in a class, and the name of each method that is found stands in its class.
-use Rattle.std.proofs.Common.{◌≡◌, true, Option, Some, None, sym, ap, subst, ◌∙◌, Contains}
+use Rattle.std.proofs.Common.{◌≡◌, true, Option, Some, None, refl, sym, ap, subst, ◌∙◌, Contains}
 use Rattle.std.specs.Prelude.{is_some}
 use Rattle.accepted_folders.proofs.Plain.{class_found}
 use Rattle.accepted_folders.specs.Entries.{IsTarget}
@@ -9,6 +9,8 @@ use Rattle.proxy_targets.proofs.Named.{SomeChosen, chosen_named, not_lacking, on
 use Rattle.accepted_folders.proofs.Classes.{result-keeps, signature-keeps}
 use Rattle.sj_local.specs.Broken.{FirstBroken}
 use Rattle.sj_names.proofs.Same.{impossible}
+use Rattle.sj_names.proofs.ReadMethodNames.{reads_method_names}
+use Rattle.sj_names.specs.MethodNames.{IsMethodName, method_name_of, spelled_method}
 use Rattle.sj_names.specs.declared.method_names.MethodName.{MethodName}
 use Rattle.sj_names.specs.declared.references.TypeRef.{TypeRef}
 use Rattle.sj_trees.specs.declared.classes.ClassDef.{ClassDef}
@@ -22,7 +24,12 @@ use Rattle.sj_world.specs.Refusals.{HasNoCycle}
 use Rattle.sj_world.specs.Resolution.{IsBody, Answer, target, abstract, missing, Resolves, by_chain, by_ancestors, ResolvesAbove, by_default, undeclared, declared}
 use Rattle.accepted_folders.specs.SjTypingSpecRules.{call_type}
 use Rattle.linked_entries.proofs.Below.{one_type, one_reference}
-use Rattle.linked_entries.proofs.Names.{IsWideName, names_differ}
+
+-- no two method names have one spelling
+pub names_differ : (a b : MethodName) → IsMethodName a → IsMethodName b → spelled_method a ≡ spelled_method b → a ≡ b
+names_differ a b h k e =
+    let both : Some a ≡ Some b = sym ((reads_method_names (spelled_method a) a).1 (h, refl)) ∙ ap method_name_of e ∙ (reads_method_names (spelled_method b) b).1 (k, refl) in
+    cc
 
 one_result : (o p : Option TypeRef) → is_some o ≡ true → is_some p ≡ true → call_type o ≡ call_type p → o ≡ p
 one_result None p h k e = impossible h
@@ -76,7 +83,7 @@ module _ (w : Classes) where
       let chosen = chosen_named w p q.is_target.chosen.class.methods q.definition q.is_target.chosen.chosen in
       record { definition = q.definition; is_defined = record { class = q.is_target.chosen.class; in_world = (class_found w q.owner q.is_target.chosen.class q.is_target.chosen.is_class).0; among = chosen.0 }; named = chosen.1; name_is = q.name_is }
 
-  module _ (none : HasNoCycle w) (plain : IsPlain w) (kept : (c : ClassDef) → Contains w c → FirstBroken c None) (wide : (c : ClassDef) → Contains w c → (m : MethodDef) → Contains c.methods m → IsWideName m.name) where
+  module _ (none : HasNoCycle w) (plain : IsPlain w) (kept : (c : ClassDef) → Contains w c → FirstBroken c None) (named : (c : ClassDef) → Contains w c → (m : MethodDef) → Contains c.methods m → IsMethodName m.name) where
     -- what is chosen of the methods of one class has one name
     one_chosen : (p : MethodName) (class : ClassDef) → Contains w class → (d e : MethodDef) → IsChosen w p class.methods d → IsChosen w p class.methods e → d.name ≡ e.name
     one_chosen p class i d e (narrowest h) (narrowest k) =
@@ -89,7 +96,7 @@ module _ (w : Classes) where
         (λ j. record { simple = simple j; params = params j; result = results j })
     one_chosen p class i d e (narrowest h) (least n k) = absurd (n.none d h)
     one_chosen p class i d e (least n h) (narrowest k) = absurd (n.none e k)
-    one_chosen p class i d e (least n h) (least o k) = names_differ d.name e.name (wide class i d h.among) (wide class i e k.among) (tied_name _ _ (k.least d h.among h.named) (h.least e k.among k.named))
+    one_chosen p class i d e (least n h) (least o k) = names_differ d.name e.name (named class i d h.among) (named class i e k.among) (tied_name _ _ (k.least d h.among h.named) (h.least e k.among k.named))
 
     pub one_target_name : (c : Name) (p t u : MethodName) → IsTargetName w c p t → IsTargetName w c p u → t ≡ u
     one_target_name c p t u q r =

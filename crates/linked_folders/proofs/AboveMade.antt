@@ -3,7 +3,6 @@ use Rattle.std.proofs.Common.{◌≡◌, ◌&&◌, ◌∙◌, Bool, true, false,
 use Rattle.std.specs.Prelude.{not, is_some, ◌↔◌}
 use Rattle.declared_pieces.proofs.Chains.{Stands, whole_chain}
 use Rattle.declared_pieces.proofs.Live.{next_is, live_next, live_free, classes_kept}
-use Rattle.sj_text_files.specs.Listed.{AreBytes}
 use Rattle.declared_pieces.proofs.Defined.{last}
 use Rattle.declared_pieces.proofs.Derivations.{closed}
 use Rattle.declared_pieces.proofs.Made as made
@@ -46,7 +45,7 @@ is_the_top k kept other none = go (is_object k.name) refl (subst (λ (b : Bool).
     go true e h = e
     go false e h = impossible (sym (ap is_some none) ∙ h)
 
-module _ (entries : List EntryPoint) (files : List SourceFile) (w : Classes) (bytes : (file : SourceFile) → Contains files file → AreBytes file.bytes) (a : IsAccepted entries files w) (facts : List Fact) (holds : (f : Fact) → Contains facts f → Reachable w entries f) where
+module _ (entries : List EntryPoint) (files : List SourceFile) (w : Classes) (a : IsAccepted entries files w) (facts : List Fact) (holds : (f : Fact) → Contains facts f → Reachable w entries f) where
   -- a class that is live, is needed and is no interface
   record IsGood (c : Name) : Type 0 where
     live : IsLive w facts c
@@ -57,7 +56,7 @@ module _ (entries : List EntryPoint) (files : List SourceFile) (w : Classes) (by
 
   -- a class that is of this kind is no interface
   of_kind : (c : Name) (kind : ClassKind) → is_interface kind ≡ false → IsLive w facts c → Reachable w entries (Needed c) → (IsOtherKind w kind c → ⊥) → IsGood c
-  of_kind c kind is live r right = let k = made.present w entries a.resolved (classes_kept entries files w bytes a) c r in record { live = live; reached = r; class = k.0; found = k.1; other = go k.0 k.1 (is_interface k.0.kind) refl }
+  of_kind c kind is live r right = let k = made.present w entries a.resolved (classes_kept entries files w a) c r in record { live = live; reached = r; class = k.0; found = k.1; other = go k.0 k.1 (is_interface k.0.kind) refl }
     where
       go : (k : ClassDef) → class_of w c ≡ Some k → (b : Bool) → is_interface k.kind ≡ b → is_interface k.kind ≡ false
       go k found false e = e
@@ -69,7 +68,7 @@ module _ (entries : List EntryPoint) (files : List SourceFile) (w : Classes) (by
   -- what it extends is so too
   module _ (c : Name) (g : IsGood c) where
     free : is_hijacked c ≡ false
-    free = live_free entries files w bytes a facts holds c g.live
+    free = live_free entries files w a facts holds c g.live
 
     next : (d : Name) → g.class.superclass ≡ Some d → IsNext w c d
     next d super = next_is w c g.class g.found free ∙ super
@@ -86,7 +85,7 @@ module _ (entries : List EntryPoint) (files : List SourceFile) (w : Classes) (by
     at_top : g.class.superclass ≡ None → c ≡ object
     at_top none =
         let at = class_found w c g.class g.found in
-        let top = is_the_top g.class ((classes_kept entries files w bytes a).superclass g.class at.0) g.other none in
+        let top = is_the_top g.class ((classes_kept entries files w a).superclass g.class at.0) g.other none in
         text-same c object (subst (λ (n : Name). is_object n ≡ true) at.1 top)
 
   -- the chain of these classes comes to `java.lang.Object`
@@ -96,7 +95,7 @@ module _ (entries : List EntryPoint) (files : List SourceFile) (w : Classes) (by
 
   climbs : (c : Name) → IsGood c → IsLive w facts object
   climbs c g =
-      let chain = whole_chain w (classes_kept entries files w bytes a) a.world.no_cycle IsGood stands Ends
+      let chain = whole_chain w (classes_kept entries files w a) a.world.no_cycle IsGood stands Ends
       (λ d h none. subst (IsOnChain w d) (at_top d h none) stay)
       (λ d e es h super rest. joined (IsNext w) d e object (on d e stay (next d h e super)) rest)
       c g in
@@ -113,11 +112,11 @@ module _ (entries : List EntryPoint) (files : List SourceFile) (w : Classes) (by
   object_lives c i = by_rule c (last w entries (Made c) (holds (Made c) i)) i
 
 -- where the class of arrays is a helper, the class that it extends is live
-pub arrays_extend : (entries : List EntryPoint) (files : List SourceFile) (l : Linked) (all : List EmittedMethod) (ps : List Piece) → ((file : SourceFile) → Contains files file → AreBytes file.bytes) → IsAccepted entries files l.world → AreBodies l.world entries all → ((f : Fact) → Contains l.facts f ↔ Reachable l.world entries f) → (p : AreLinkedPieces l all ps) → Contains p.helpers ArrayClass → IsLive l.world l.facts object
-arrays_extend entries files l all ps bytes a bodies exact p i = elim (extending entries files l all ps a bodies (λ f. (exact f).0) p i) [
+pub arrays_extend : (entries : List EntryPoint) (files : List SourceFile) (l : Linked) (all : List EmittedMethod) (ps : List Piece) → IsAccepted entries files l.world → AreBodies l.world entries all → ((f : Fact) → Contains l.facts f ↔ Reachable l.world entries f) → (p : AreLinkedPieces l all ps) → Contains p.helpers ArrayClass → IsLive l.world l.facts object
+arrays_extend entries files l all ps a bodies exact p i = elim (extending entries files l all ps a bodies (λ f. (exact f).0) p i) [
   | inl r ↦ lives object r
   | inr r ↦ lives (failure_class Store) r
 ]
   where
     lives : (c : Name) → Reachable l.world entries (Made c) → IsLive l.world l.facts object
-    lives c r = object_lives entries files l.world bytes a l.facts (λ f. (exact f).0) c ((exact (Made c)).1 r)
+    lives c r = object_lives entries files l.world a l.facts (λ f. (exact f).0) c ((exact (Made c)).1 r)

@@ -1,5 +1,5 @@
 -- An accepted folder has one world, and as many needed bodies however they are listed.
-use Rattle.std.proofs.Common.{◌≡◌, ◌≤◌, ℕ, suc, List, [], ◌∷◌, ◌⊎◌, inl, inr, refl, sym, ap, subst, ◌∙◌, Contains, length, arith}
+use Rattle.std.proofs.Common.{◌≡◌, ◌≤◌, suc, List, [], ◌∷◌, ◌⊎◌, inl, inr, refl, sym, ap, subst, ◌∙◌, Contains, length, arith}
 use Rattle.declared_pieces.specs.EmittedMethods.{EmittedMethod, HaveOwnMembers}
 use Rattle.sj_read_spec.proofs.ExactFiles.{one_answer}
 use Rattle.sj_names.specs.declared.entry_points.EntryPoint.{EntryPoint}
@@ -10,10 +10,8 @@ use Rattle.sj_world.specs.Known.{Classes}
 use Rattle.sj_world.specs.Refusals.{IsWorldOf}
 use Rattle.worklist.proofs.Inserted.{nothing_in}
 use Rattle.declared_pieces.proofs.Firsts.{standing, same_lists}
-use Rattle.declared_pieces.proofs.Verdict.{one_verdict}
 use Rattle.declared_pieces.specs.Stages.{AreRead}
-use Rattle.declared_pieces.specs.Verdicts.{accepted, refused, IsVerdict}
-use Rattle.declared_pieces.proofs.Worlds.{have_worlds}
+use Rattle.declared_pieces.specs.Verdicts.{accepted}
 use Rattle.declared_pieces.specs.Accepted.{IsAccepted}
 use Rattle.declared_pieces.specs.Bodies.{AreBodies}
 use Rattle.linked_folders.proofs.One.{same_bodies}
@@ -29,12 +27,6 @@ module _ (entries : List EntryPoint) (files : List SourceFile) where
   -- the world of the classes that are read
   pub world_is : (classes w u : Classes) → IsAccepted entries files w → AreRead files classes → IsWorldOf classes u → w ≡ u
   world_is classes w u a are world = one_world a.classes w u a.world (subst (λ (c : Classes). IsWorldOf c u) (same_classes classes a.classes are a.read) world)
-
-  pub not_accepted : (code : ℕ) (place : List ℕ) → IsVerdict entries files (refused code place) → IsVerdict entries files accepted → ⊥
-  not_accepted code place h k = let e : refused code place ≡ accepted = one_verdict entries files (refused code place) accepted h k in cc
-
-  pub accepted_by : (w : Classes) → IsAccepted entries files w → IsVerdict entries files accepted
-  accepted_by w a = (have_worlds entries files).1 (w, a)
 
 -- a list without one of its things
 data Without {X : Type 0} (x : X) : List X → List X → Type 0 where

@@ -33,7 +33,6 @@ use Rattle.declared_pieces.proofs.Plain.{class_found}
 use Rattle.declared_pieces.specs.Closed.{IsClosed}
 use Rattle.declared_pieces.specs.Entries.{AreEntries, IsLive}
 use Rattle.declared_pieces.specs.EmittedMethods.{EmittedMethod}
-use Rattle.sj_text_files.specs.Listed.{AreBytes}
 use Rattle.sj_emit_help_spec.specs.Helpers.{failure_class, helper_name, helper_piece, init_name, of, used_helpers}
 use Rattle.sj_emit_help_spec.specs.Words.{bound, class_name, helper, kind_class}
 use Rattle.sj_emit_help_spec.specs.declared.kinds.Failure.{Failure}
@@ -82,7 +81,7 @@ use Rattle.linked_folders.proofs.Live.{live, are_live}
 use Rattle.linked_folders.specs.Laws.{WrittenPiecesRun}
 use Rattle.declared_pieces.proofs.BodyForms.{accepted_bodies}
 
-module _ (entries : List EntryPoint) (files : List SourceFile) (l : Linked) (all : List EmittedMethod) (ps : List Piece) (bytes : (file : SourceFile) → Contains files file → AreBytes file.bytes) (a : IsAccepted entries files l.world) (bodies : AreBodies l.world entries all) (exact : (f : Fact) → Contains l.facts f ↔ Reachable l.world entries f) (p : AreLinkedPieces l all ps) (methods : AreEntries l.world l.facts l.entries) (written : List Name) (owned : IsClosed ps written) where
+module _ (entries : List EntryPoint) (files : List SourceFile) (l : Linked) (all : List EmittedMethod) (ps : List Piece) (a : IsAccepted entries files l.world) (bodies : AreBodies l.world entries all) (exact : (f : Fact) → Contains l.facts f ↔ Reachable l.world entries f) (p : AreLinkedPieces l all ps) (methods : AreEntries l.world l.facts l.entries) (written : List Name) (owned : IsClosed ps written) where
   abbrev w : Classes
   w = l.world
 
@@ -90,7 +89,7 @@ module _ (entries : List EntryPoint) (files : List SourceFile) (l : Linked) (all
   holds f = (exact f).0
 
   pub live_there : (c : Name) → IsLive w l.facts c → (k : ClassDef) × (class_of w c ≡ Some k)
-  live_there = made.live_there w entries a.resolved (classes_kept entries files w bytes a) l.facts holds
+  live_there = made.live_there w entries a.resolved (classes_kept entries files w a) l.facts holds
 
   abbrev pub its_live : List Name
   its_live = live l all live_there ps p
@@ -119,7 +118,7 @@ module _ (entries : List EntryPoint) (files : List SourceFile) (l : Linked) (all
     its_owner = owner_of w e.member e.definition (bodies.found e i).found
 
     pub once : DefinesOnce e.definition e.its_body
-    once = body_keeps its_owner.owner e.definition e.its_body (bodies.found e i).has_body (class-keeps its_owner.owner (judged entries files w bytes a its_owner.owner its_owner.in_world).unbroken e.definition its_owner.listed)
+    once = body_keeps its_owner.owner e.definition e.its_body (bodies.found e i).has_body (class-keeps its_owner.owner (judged entries files w a its_owner.owner its_owner.in_world).unbroken e.definition its_owner.listed)
 
   uses : AreWrittenWith w entries l.facts all its_live p.helpers written
   uses = record {
@@ -133,7 +132,7 @@ module _ (entries : List EntryPoint) (files : List SourceFile) (l : Linked) (all
   thrown f i here =
       let c = failure_class f in
       let r = reached entries files l all ps a bodies holds p f i in
-      let k = made.present w entries a.resolved (classes_kept entries files w bytes a) object (closed w entries (Needed object) the_object) in
+      let k = made.present w entries a.resolved (classes_kept entries files w a) object (closed w entries (Needed object) the_object) in
       record {
         is_made = (exact (Made c)).1 r.0;
         is_written = owned (helper_piece p.above (helpers.Throws f)) (helper_there l all ps p k.0 k.1 (helpers.Throws f) i) here (bound c (init_name c)) (at_first (bound c (init_name c)) (bound c (class_name c) ∷ map of (used_helpers (helpers.Throws f))));
@@ -143,8 +142,8 @@ module _ (entries : List EntryPoint) (files : List SourceFile) (l : Linked) (all
   -- the cast of a written class uses what throws, which is a helper with `java.lang.Object` behind it
   cast_throws : (c : Name) → Contains written c → is_cast all c ≡ true → Contains written object × Contains p.helpers (helpers.Throws CastFails)
   cast_throws c here h =
-      let form = cast_form w entries l.facts all bodies (listed entries files w l.facts bytes a exact all bodies) c h in
-      let k = made.present w entries a.resolved (classes_kept entries files w bytes a) c (closed w entries (Needed c) (class_named_by c (record { member = form.member; needed = (exact (Body form.member)).0 form.needed; definition = form.definition; defined = form.defined; asked = body_tells form.definition.body (forms.Cast c) form.has }))) in
+      let form = cast_form w entries l.facts all bodies (listed entries files w l.facts a exact all bodies) c h in
+      let k = made.present w entries a.resolved (classes_kept entries files w a) c (closed w entries (Needed c) (class_named_by c (record { member = form.member; needed = (exact (Body form.member)).0 form.needed; definition = form.definition; defined = form.defined; asked = body_tells form.definition.body (forms.Cast c) form.has }))) in
       let its = own_pieces l all ps p c k.0 k.1 in
       let named : its.parts.class.name ≡ c = (class_found w c its.parts.class its.are.class_is).1 in
       let q : Piece = cast_piece its.parts.class.name in
@@ -153,10 +152,10 @@ module _ (entries : List EntryPoint) (files : List SourceFile) (l : Linked) (all
       (owned q (its.there q among_its) (subst (Contains written) (sym named) here) (helper (codes "$cce")) used, (p.are_helpers.exact (helpers.Throws CastFails)).1 (by_piece q (helpers.Throws CastFails) (Contains-append_left own_pieces_there p.told q (its.in_blocks q among_its)) used))
 
   abbrev Target : Name → MethodName → Type 0
-  Target = HasTarget entries files w l.facts bytes a exact
+  Target = HasTarget entries files w l.facts a exact
 
   answered : (c : Name) (m : MethodName) (d : Name) → is_ancestor w d c ≡ true → (owner : Name) → IsReachedTarget w l.facts d m owner → Contains written owner → Answers w has c d m
-  answered = target_answers entries files w l.facts bytes a exact all bodies its_live p.helpers written
+  answered = target_answers entries files w l.facts a exact all bodies its_live p.helpers written
 
   -- objects find it by the entries of their classes, and a primitive value has a case in the function that tells it apart
   answers : (c : Name) (m : MethodName) → has.looked_up c m ≡ true → (d : Name) → IsClassBelow w has c d → Answers w has c d m
@@ -169,15 +168,15 @@ module _ (entries : List EntryPoint) (files : List SourceFile) (l : Linked) (all
       called = called_known l.facts c m q.0
 
       free : is_hijacked c ≡ false
-      free = called_free entries files w l.facts bytes a exact c m called
+      free = called_free entries files w l.facts a exact c m called
 
       told : has_hijacked_in w c ≡ true → tells_apart w l.facts all written m ≡ true
       told e = subst (λ (b : Bool). (not b || tells_apart w l.facts all written m) ≡ true) e q.1
 
       by_kind : (k : Kind) → is_told k ≡ true → is_ancestor w (kind_class k) c ≡ true → Answers w has c (kind_class k) m
       by_kind k is e =
-          let t : Target (kind_class k) m = target_of entries files w l.facts bytes a exact (kind_class k) m (on_hijacked (kind_class k) c (holds (Called c m) called) (kind_hijacked k) (stands_above w (kind_class k) c e)) in
-          let there = dispatch_there entries files l all written ps bytes a bodies p methods exact owned m (told (some_below w c free k e)) in
+          let t : Target (kind_class k) m = target_of entries files w l.facts a exact (kind_class k) m (on_hijacked (kind_class k) c (holds (Called c m) called) (kind_hijacked k) (stands_above w (kind_class k) c e)) in
+          let there = dispatch_there entries files l all written ps a bodies p methods exact owned m (told (some_below w c free k e)) in
           let case = has_case w l.facts m there.cases there.are_told k is t.owner t.target in
           let its = told_case w l.facts m there.cases there.are_told case.case case.among in
           let target = subst (λ (x : Kind). IsReachedTarget w l.facts (kind_class x) m case.case.owner) case.kind_is its.target in
@@ -187,9 +186,9 @@ module _ (entries : List EntryPoint) (files : List SourceFile) (l : Linked) (all
       by _ (made_below d is_made sub) =
           let r = and_parts (is_among written d) (list_any (makes d) l.facts) is_made in
           let made_fact = made_known l.facts d r.1 in
-          let k = live_there d (made_lives entries files w l.facts bytes a exact d made_fact) in
+          let k = live_there d (made_lives entries files w l.facts a exact d made_fact) in
           let e = class_below w c free d (known_class w d k.0 k.1) sub in
-          let there = finds entries files l all written ps bytes a bodies p methods exact owned c m called d ((among written d).0 r.0) made_fact (stands_above w d c e) in
+          let there = finds entries files l all written ps a bodies p methods exact owned c m called d ((among written d).0 r.0) made_fact (stands_above w d c e) in
           answered c m d e there.owner there.target there.here
       by _ (kind_below o d of sub) = let k = told_kind w c free o d of sub in subst (λ (n : Name). Answers w has c n m) k.is (by_kind k.kind k.told k.below)
 
@@ -199,9 +198,9 @@ module _ (entries : List EntryPoint) (files : List SourceFile) (l : Linked) (all
       let r = and_parts (is_among written object) (list_any (makes object) l.facts) is_made in
       let called : Contains l.facts (Called object m) = called_known l.facts object m h in
       let made_fact : Contains l.facts (Made object) = made_known l.facts object r.1 in
-      let k = live_there object (made_lives entries files w l.facts bytes a exact object made_fact) in
+      let k = live_there object (made_lives entries files w l.facts a exact object made_fact) in
       let e = class_below w object refl object (known_class w object k.0 k.1) (to_any refl (λ e. cc)) in
-      let there = finds entries files l all written ps bytes a bodies p methods exact owned object m called object ((among written object).0 r.0) made_fact (stands_above w object object e) in
+      let there = finds entries files l all written ps a bodies p methods exact owned object m called object ((among written object).0 r.0) made_fact (stands_above w object object e) in
       answered object m object e there.owner there.target there.here
 
   -- a reflective name by which receivers are called has an answer in each class: objects find it by their entries, a primitive value has a case, and where there is no method its exception can be
@@ -210,16 +209,16 @@ module _ (entries : List EntryPoint) (files : List SourceFile) (l : Linked) (all
   named_answers m h d below = by d below
     where
       there : ReflectionThere l ps written p.helpers m
-      there = reflection_there entries files l all written ps bytes a bodies p methods exact owned m h
+      there = reflection_there entries files l all written ps a bodies p methods exact owned m h
 
       nothing : (e : Name) → proxy_target w e m ≡ None → AnswersByName w has e m
-      nothing = unnamed entries files w l.facts bytes a exact all bodies its_live p.helpers written (thrown Method there.thrower there.here) m
+      nothing = unnamed entries files w l.facts a exact all bodies its_live p.helpers written (thrown Method there.thrower there.here) m
 
       named : (e : Name) (t : MethodDef) → proxy_target w e m ≡ Some t → (owner : Name) → IsReachedTarget w l.facts e t.name owner → Contains written owner → AnswersByName w has e m
-      named = name_answers entries files w l.facts bytes a exact all bodies its_live p.helpers written m
+      named = name_answers entries files w l.facts a exact all bodies its_live p.helpers written m
 
       by_object : (e : Name) → Contains written e → Contains l.facts (Made e) → AnswersByName w has e m
-      by_object e here is_made = go (answer_there entries files l all written ps bytes a bodies p methods exact owned m there.called e here is_made)
+      by_object e here is_made = go (answer_there entries files l all written ps a bodies p methods exact owned m there.called e here is_made)
         where
           go : NamedThere l ps written p.helpers e m → AnswersByName w has e m
           go (not_named none entries) = nothing e none
@@ -235,7 +234,7 @@ module _ (entries : List EntryPoint) (files : List SourceFile) (l : Linked) (all
           go : (o : Option MethodDef) → proxy_target w (kind_class k) m ≡ o → AnswersByName w has (kind_class k) m
           go None e = nothing (kind_class k) e
           go (Some t) e =
-              let case = kind_case (kind_reflected w l.facts m there.cases there.are_reflected k is (λ d f. let its = kind_target entries files w l.facts bytes a exact m there.called k d f in (its.owner, its.target))) e in
+              let case = kind_case (kind_reflected w l.facts m there.cases there.are_reflected k is (λ d f. let its = kind_target entries files w l.facts a exact m there.called k d f in (its.owner, its.target))) e in
               let its = reflected_case w l.facts m there.cases there.are_reflected case.case case.among in
               let reached_case = subst (λ (x : Kind). IsReflectedTarget w l.facts (kind_class x) m case.case.method case.case.owner) case.kind_is its.target in
               let proxy = proxy_right w (kind_class k) m t e in
@@ -250,12 +249,12 @@ module _ (entries : List EntryPoint) (files : List SourceFile) (l : Linked) (all
   run = record {
     reached = holds;
     whole = λ f. (exact f).1;
-    are_built = λ e i here. accepted_bodies entries files w l.facts all its_live p.helpers written bytes a bodies uses e i here;
+    are_built = λ e i here. accepted_bodies entries files w l.facts all its_live p.helpers written a bodies uses e i here;
     closed = λ h g i u. (p.are_helpers.exact g).1 (by_helper h g ((p.are_helpers.exact h).0 i) u);
     thrown = thrown;
-    listed = listed entries files w l.facts bytes a exact all bodies;
+    listed = listed entries files w l.facts a exact all bodies;
     casts = cast_throws;
-    loads = loaded entries files w l.facts bytes a exact all bodies;
+    loads = loaded entries files w l.facts a exact all bodies;
     on_arrays = on_arrays;
     looked = answers;
     reflected = named_answers;
@@ -263,18 +262,18 @@ module _ (entries : List EntryPoint) (files : List SourceFile) (l : Linked) (all
 
   -- where the class of arrays is a helper, the class that it extends is live
   pub extends : Contains p.helpers ArrayClass → IsLive w l.facts object
-  extends = arrays_extend entries files l all ps bytes a bodies exact p
+  extends = arrays_extend entries files l all ps a bodies exact p
 
   pub named : AreNamed w
-  named = record { kept = λ c i. (judged entries files w bytes a c i).unbroken; class_names = class_named entries files w bytes a }
+  named = record { kept = λ c i. (judged entries files w a c i).unbroken; class_names = class_named entries files w a }
 
   -- an initializer of a written class is linked
   pub starts : (e : EntryPoint) → Contains entries e → Contains written e.class → has.linked (initializer_member e) ≡ true
   starts e i here = and_from (is_among written e.class) (has_function all (initializer_member e)) ((among written e.class).1 here) (entry w entries all bodies e i)
 
 pub runs : WrittenPiecesRun
-runs entries files l all ps bytes a bodies exact p methods written owned = record {
-  live = its_live entries files l all ps bytes a bodies exact p methods written owned;
-  are_live = lives entries files l all ps bytes a bodies exact p methods written owned;
-  can_run = run entries files l all ps bytes a bodies exact p methods written owned;
+runs entries files l all ps a bodies exact p methods written owned = record {
+  live = its_live entries files l all ps a bodies exact p methods written owned;
+  are_live = lives entries files l all ps a bodies exact p methods written owned;
+  can_run = run entries files l all ps a bodies exact p methods written owned;
 }

@@ -2,7 +2,6 @@
 use Rattle.std.proofs.Common.{◌≡◌, ℕ, List, Contains, IsTrue, sym, subst}
 use Rattle.std.proofs.lemmas.List.Elements.{All-contains}
 use Rattle.sj_text_files.proofs.ListedClasses.{file_is_listed}
-use Rattle.sj_text_files.specs.Listed.{AreBytes}
 use Rattle.sj_text_spec.specs.Rules.{HasListing, IsListedMethod}
 use Rattle.declared_pieces.specs.EmittedMethods.{EmittedMethod}
 use Rattle.sj_emit_expr_spec.specs.Templates.{member_name}
@@ -18,16 +17,16 @@ use Rattle.declared_pieces.proofs.Worlds.{judged}
 use Rattle.declared_pieces.specs.Accepted.{IsAccepted}
 use Rattle.declared_pieces.specs.Bodies.{AreBodies}
 
-module _ (entries : List EntryPoint) (files : List SourceFile) (w : Classes) (all : List EmittedMethod) (are_bytes : (file : SourceFile) → Contains files file → AreBytes file.bytes) (a : IsAccepted entries files w) (bodies : AreBodies w entries all) where
+module _ (entries : List EntryPoint) (files : List SourceFile) (w : Classes) (all : List EmittedMethod) (a : IsAccepted entries files w) (bodies : AreBodies w entries all) where
   module _ (e : EmittedMethod) (i : Contains all e) where
     its : OwnerOf w e.member e.definition
     its = owner_of w e.member e.definition (bodies.found e i).found
 
     owner_judged : IsJudgedClass its.owner
-    owner_judged = judged entries files w are_bytes a its.owner its.in_world
+    owner_judged = judged entries files w a its.owner its.in_world
 
     listing : HasListing its.owner
-    listing = file_is_listed owner_judged.bytes its.owner owner_judged.are_bytes owner_judged.read
+    listing = file_is_listed owner_judged.bytes its.owner owner_judged.read
 
     method : IsListedMethod e.definition
     method = All-contains IsListedMethod its.owner.methods e.definition listing.methods its.listed

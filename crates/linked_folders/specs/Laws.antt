@@ -1,7 +1,6 @@
 -- Laws of the pieces of accepted folders.
 use Rattle.std.specs.Prelude.{◌≡◌, ◌↔◌, List}
 use Rattle.std.specs.List.{Contains}
-use Rattle.sj_text_files.specs.Listed.{AreBytes}
 use Rattle.declared_pieces.specs.Accepted.{IsAccepted}
 use Rattle.declared_pieces.specs.Bodies.{AreBodies}
 use Rattle.declared_pieces.specs.Closed.{IsClosed}
@@ -31,7 +30,6 @@ pub record Runs (entries : List EntryPoint) (l : Linked) (all : List EmittedMeth
 -- of the pieces of an accepted folder, what is written can run, where it uses nothing but what is written
 abbrev pub WrittenPiecesRun : Type 0
 WrittenPiecesRun = (entries : List EntryPoint) (files : List SourceFile) (l : Linked) (all : List EmittedMethod) (ps : List Piece)
-    → ((file : SourceFile) → Contains files file → AreBytes file.bytes)
     → IsAccepted entries files l.world
     → AreBodies l.world entries all
     → ((f : Fact) → Contains l.facts f ↔ Reachable l.world entries f)

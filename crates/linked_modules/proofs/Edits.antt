@@ -18,5 +18,5 @@ one_work entries files one other h k =
     h.is ∙ ap (λ (n : ℕ). record { read = length files; checked = n; optimised = 0; emitted = n }) (as_many h.world entries h.all k.all h.bodies moved) ∙ sym k.is
 
 pub linked_folders_agree : LinkedFoldersAgree
-linked_folders_agree entries files style id links bytes valid linked entered =
-    linked_modules_agree entries files linked.world style id links bytes linked.is_accepted valid linked.link linked.countable entered
+linked_folders_agree entries files style id links valid linked entered =
+    linked_modules_agree entries files linked.world style id links linked.is_accepted valid linked.link linked.countable entered

@@ -26,7 +26,6 @@ use Rattle.declared_modules.specs.Pieces.{AreLinkedPieces}
 use Rattle.declared_modules.specs.Reachable.{Reachable}
 use Rattle.declared_modules.specs.Rules.{entry_member, of_entry, asked_body}
 use Rattle.declared_modules.specs.Running.{CanRun}
-use Rattle.sj_text_files.specs.Listed.{AreBytes}
 use Rattle.ir_mean.specs.Shows.{initializers}
 use Rattle.js_mean.specs.Files.{running_order}
 use Rattle.js_mean.specs.Shows.{File}
@@ -80,7 +79,7 @@ use Rattle.linked_modules.specs.Laws.{LinkedModulesAgree}
 one_file : (f g : Name) → Some f ≡ Some g → f ≡ g
 one_file f g e = cc
 
-module _ (entries : List EntryPoint) (files : List SourceFile) (l : Linked) (all : List EmittedMethod) (ps : List Piece) (bytes : (file : SourceFile) → Contains files file → AreBytes file.bytes) (a : IsAccepted entries files l.world) (bodies : AreBodies l.world entries all) (exact : (f : Fact) → Contains l.facts f ↔ Reachable l.world entries f) (p : AreLinkedPieces l all ps) (methods : AreMethodEntries l.world l.facts l.entries)
+module _ (entries : List EntryPoint) (files : List SourceFile) (l : Linked) (all : List EmittedMethod) (ps : List Piece) (a : IsAccepted entries files l.world) (bodies : AreBodies l.world entries all) (exact : (f : Fact) → Contains l.facts f ↔ Reachable l.world entries f) (p : AreLinkedPieces l all ps) (methods : AreMethodEntries l.world l.facts l.entries)
     (uses : (q : Piece) → Contains ps q → (b : Binding) → Contains q.uses b → IsDeclared ps b) (graph : Graph) (style : Style) (modules : List PlannedModule) (valid : AreEntries entries) (countable : AreCountable graph entries) (is_graph : IsGraph ps graph) (is : IsPlan sha1_digest graph entries style modules) (id : Id) (entered : Contains (map module_of entries) id) where
   abbrev w : Classes
   w = l.world
@@ -90,7 +89,7 @@ module _ (entries : List EntryPoint) (files : List SourceFile) (l : Linked) (all
 
   -- the functions of entries are declared, and so is all that files use
   entry_declared : (e : EntryPoint) → Contains entries e → IsDeclared ps (called e)
-  entry_declared e i = (declares entries files l all ps bytes a bodies exact p).functions (entry_member e) (closed_under w entries (Body (entry_member e)) (asked_body (entry_member e) (of_entry e i)))
+  entry_declared e i = (declares entries files l all ps a bodies exact p).functions (entry_member e) (closed_under w entries (Body (entry_member e)) (asked_body (entry_member e) (of_entry e i)))
 
   closed : AreClosed modules ps
   closed = files_closed sha1_digest graph entries style modules ps is uses entry_declared
@@ -134,16 +133,16 @@ module _ (entries : List EntryPoint) (files : List SourceFile) (l : Linked) (all
   owned = written_closed modules ps order stands whole first
 
   abbrev its_live : List Name
-  its_live = links.its_live entries files l all ps bytes a bodies exact p methods written owned
+  its_live = links.its_live entries files l all ps a bodies exact p methods written owned
 
   abbrev has : Usable
-  has = links.has entries files l all ps bytes a bodies exact p methods written owned
+  has = links.has entries files l all ps a bodies exact p methods written owned
 
   run : CanRun w entries l.facts all its_live p.helpers written
-  run = links.run entries files l all ps bytes a bodies exact p methods written owned
+  run = links.run entries files l all ps a bodies exact p methods written owned
 
   proper : AreProper modules ps
-  proper = linked_pieces_are_proper l all ps modules (links.named entries files l all ps bytes a bodies exact p methods written owned) (links.once entries files l all ps bytes a bodies exact p methods written owned) p closed
+  proper = linked_pieces_are_proper l all ps modules (links.named entries files l all ps a bodies exact p methods written owned) (links.once entries files l all ps a bodies exact p methods written owned) p closed
 
   abbrev z : Spread
   z = spread_of modules ps w has runs_last.front last own_items
@@ -159,21 +158,21 @@ module _ (entries : List EntryPoint) (files : List SourceFile) (l : Linked) (all
       in_last e = item_in_last program runs_last.front last own_items q.item (into_map item_of (filter (is_owned_in (file_with modules) last) ps) q (into_filter (is_owned_in (file_with modules) last) ps q i (is_it last (file_with modules q.owner) e)))
 
       go : Contains runs_last.front f ⊎ (last ≡ f) → Contains (all_items z) (placed f q.item)
-      go (inl j) = item_in_front program runs_last.front last own_items f q.item j (item_at sha1_digest graph entries style modules files l all ps bytes a (λ g. (exact g).0) p (links.extends entries files l all ps bytes a bodies exact p methods written owned) valid keep is_graph is closed q f i is_in)
+      go (inl j) = item_in_front program runs_last.front last own_items f q.item j (item_at sha1_digest graph entries style modules files l all ps a (λ g. (exact g).0) p (links.extends entries files l all ps a bodies exact p methods written owned) valid keep is_graph is closed q f i is_in)
       go (inr e) = subst (λ (g : Name). Contains (all_items z) (placed g q.item)) e (in_last (is_in ∙ ap Some (sym e)))
 
   -- the objects of those files are constants of classes
   marks : DeclaresConstants z
-  marks g x qs i = modules_declare_constants sha1_digest graph entries style modules files l all ps bytes a (λ f. (exact f).0) p (links.extends entries files l all ps bytes a bodies exact p methods written owned) valid keep is_graph is closed there.planned there.among runs_last.front runs_last.order g x qs i
+  marks g x qs i = modules_declare_constants sha1_digest graph entries style modules files l all ps a (λ f. (exact f).0) p (links.extends entries files l all ps a bodies exact p methods written owned) valid keep is_graph is closed there.planned there.among runs_last.front runs_last.order g x qs i
 
   declared : Declared z
-  declared = modules_declare entries files l all its_live written modules ps runs_last.front last own_items bytes a bodies p methods (links.lives entries files l all ps bytes a bodies exact p methods written owned) run owned (links.extends entries files l all ps bytes a bodies exact p methods written owned) proper.together whole all_stand marks
+  declared = modules_declare entries files l all its_live written modules ps runs_last.front last own_items a bodies p methods (links.lives entries files l all ps a bodies exact p methods written owned) run owned (links.extends entries files l all ps a bodies exact p methods written owned) proper.together whole all_stand marks
 
   lawful : IsLawful z has
   lawful = record {
     among = λ f. among_all has (uses_in modules ps f);
-    objects = laws_of w has (carry entries files w l.facts all its_live p.helpers written bytes a bodies run);
-    linked = link_right entries files w l.facts all its_live p.helpers written bytes a bodies run;
+    objects = laws_of w has (carry entries files w l.facts all its_live p.helpers written a bodies run);
+    linked = link_right entries files w l.facts all its_live p.helpers written a bodies run;
   }
 
   -- the file calls its initializers
@@ -183,7 +182,7 @@ module _ (entries : List EntryPoint) (files : List SourceFile) (l : Linked) (all
   initializer_linked : (e : EntryPoint) → Contains (initializers entries id) e → (z.has last).linked (initializer_member e) ≡ true
   initializer_linked e i =
       and_from (has.linked (initializer_member e)) (uses_in modules ps last (called e))
-      (links.starts entries files l all ps bytes a bodies exact p methods written owned e (links.initializers_among id entries e i) (use_written modules ps order stands whole first last (called e) last_runs (calls e i)))
+      (links.starts entries files l all ps a bodies exact p methods written owned e (links.initializers_among id entries e i) (use_written modules ps order stands whole first last (called e) last_runs (calls e i)))
       ((used_there modules ps last (called e)).1 (calls e i))
 
   public : IsPublic z id (initializers entries id)
@@ -192,7 +191,7 @@ module _ (entries : List EntryPoint) (files : List SourceFile) (l : Linked) (all
     order = runs_last.order;
     good = reached_files_are_good modules ps proper there.planned there.among;
     items = modules_have_their_items sha1_digest graph entries style modules ps keep is there.planned there.among ∙ ap (λ (es : List EntryPoint). own_items ++ map call_item_of es) there.calls;
-    declares = modules_declare_in_order sha1_digest graph entries style modules files l all ps bytes a (λ f. (exact f).0) p (links.extends entries files l all ps bytes a bodies exact p methods written owned) valid keep is_graph is closed there.planned there.among runs_last.front runs_last.order;
+    declares = modules_declare_in_order sha1_digest graph entries style modules files l all ps a (λ f. (exact f).0) p (links.extends entries files l all ps a bodies exact p methods written owned) valid keep is_graph is closed there.planned there.among runs_last.front runs_last.order;
     linked = initializer_linked;
   }
 
@@ -200,7 +199,7 @@ module _ (entries : List EntryPoint) (files : List SourceFile) (l : Linked) (all
   files_show link_files are = record {
     program = program;
     read = files_are_read modules ps link_files are;
-    agree = files_agree z has entries id (judged_plain w (judged entries files w bytes a)) public declared lawful;
+    agree = files_agree z has entries id (judged_plain w (judged entries files w a)) public declared lawful;
   }
 
 -- what is shown of the classes that these pieces are of
@@ -208,7 +207,7 @@ abbrev Agreed : List EntryPoint → List SourceFile → Id → List File → Lis
 Agreed entries files id link_files all facts w = IsAccepted entries files w → AreBodies w entries all → ((f : Fact) → Contains facts f ↔ Reachable w entries f) → Agrees w entries link_files id
 
 pub linked_modules_agree : LinkedModulesAgree
-linked_modules_agree entries files w style id link_files bytes a valid link countable entered = subst (Agreed entries files id link_files pieces.all pieces.facts) pieces.is_linked.world at_linked a pieces.bodies pieces.are_facts
+linked_modules_agree entries files w style id link_files a valid link countable entered = subst (Agreed entries files id link_files pieces.all pieces.facts) pieces.is_linked.world at_linked a pieces.bodies pieces.are_facts
   where
     pieces : ArePieces w entries link.pieces
     pieces = link.are_pieces
@@ -220,4 +219,4 @@ linked_modules_agree entries files w style id link_files bytes a valid link coun
     its_methods = subst (λ (fs : List Fact). AreMethodEntries l.world fs l.entries) (sym pieces.is_linked.facts_are) (subst (λ (x : Classes). AreMethodEntries x pieces.facts l.entries) (sym pieces.is_linked.world) pieces.is_linked.entries)
 
     at_linked : Agreed entries files id link_files pieces.all pieces.facts l.world
-    at_linked accepted bodies facts = files_show entries files l pieces.all link.pieces bytes accepted bodies (subst (λ (fs : List Fact). (f : Fact) → Contains fs f ↔ Reachable l.world entries f) (sym pieces.is_linked.facts_are) facts) pieces.are its_methods (uses_are_declared entries files w link.pieces bytes a pieces) link.graph style link.plan valid countable link.is_graph link.is_plan id entered link_files link.files_are
+    at_linked accepted bodies facts = files_show entries files l pieces.all link.pieces accepted bodies (subst (λ (fs : List Fact). (f : Fact) → Contains fs f ↔ Reachable l.world entries f) (sym pieces.is_linked.facts_are) facts) pieces.are its_methods (uses_are_declared entries files w link.pieces a pieces) link.graph style link.plan valid countable link.is_graph link.is_plan id entered link_files link.files_are

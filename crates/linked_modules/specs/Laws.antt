@@ -2,7 +2,6 @@
 use Rattle.std.specs.Prelude.{◌≡◌, List, map}
 use Rattle.std.specs.List.{Contains}
 use Rattle.declared_modules.specs.Accepted.{IsAccepted}
-use Rattle.sj_text_files.specs.Listed.{AreBytes}
 use Rattle.js_mean.specs.Shows.{File}
 use Rattle.sj_split_laws.specs.Laws.{AreCountable}
 use Rattle.sj_agree.specs.Agrees.{Agrees}
@@ -20,7 +19,6 @@ use Rattle.linked_modules.specs.Link.{IsLink}
 -- the files that an accepted folder is linked to show of each public module what the folder's classes show
 abbrev pub LinkedModulesAgree : Type 0
 LinkedModulesAgree = (entries : List EntryPoint) (files : List SourceFile) (w : Classes) (style : Style) (id : Id) (links : List File)
-    → ((file : SourceFile) → Contains files file → AreBytes file.bytes)
     → IsAccepted entries files w
     → AreEntries entries
     → (link : IsLink w entries style links)
@@ -53,7 +51,6 @@ WorkIsOne = (entries : List EntryPoint) (files : List SourceFile) (one other : M
 -- the files that a folder is linked to show of each public module what the folder's classes show
 abbrev pub LinkedFoldersAgree : Type 0
 LinkedFoldersAgree = (entries : List EntryPoint) (files : List SourceFile) (style : Style) (id : Id) (links : List File)
-    → ((file : SourceFile) → Contains files file → AreBytes file.bytes)
     → AreEntries entries
     → (linked : IsLinkOf entries files style links)
     → Contains (map module_of entries) id

@@ -13,7 +13,6 @@ use Rattle.linked_entries.specs.Typing.{is_built_with}
 use Rattle.linked_entries.specs.Rules.{RightMember}
 use Rattle.linked_entries.specs.Built.{Usable}
 use Rattle.sj_text_files.proofs.ListedClasses.{file_is_listed}
-use Rattle.sj_text_files.specs.Listed.{AreBytes}
 use Rattle.ir_mean.specs.World.{member_of}
 use Rattle.sj_text_spec.specs.Rules.{HasListing, IsListedMethod, IsListedTree}
 use Rattle.linked_entries.specs.EmittedMethods.{EmittedMethod, HasFunction}
@@ -33,10 +32,10 @@ use Rattle.linked_entries.proofs.Bodies.{rules_kept}
 use Rattle.linked_entries.proofs.Values.{parameters_have_values}
 use Rattle.sj_world.specs.Known.{Classes}
 
-module _ (entries : List EntryPoint) (files : List SourceFile) (w : Classes) (bytes : (file : SourceFile) → Contains files file → AreBytes file.bytes) (a : IsAccepted entries files w) where
+module _ (entries : List EntryPoint) (files : List SourceFile) (w : Classes) (a : IsAccepted entries files w) where
   -- whatever the method of a member is, it defines no name twice
   abbrev once : (m : Member) (d : MethodDef) (e : Term) → member_of w m.class m.namespace m.method ≡ Some d → d.body ≡ Some e → NamesOnce d e
-  once m d e found has_body = let its = owner_of w m d found in methods.names_keep its.owner d e has_body (class-keeps its.owner (judged entries files w bytes a its.owner its.in_world).unbroken d its.listed)
+  once m d e found has_body = let its = owner_of w m d found in methods.names_keep its.owner d e has_body (class-keeps its.owner (judged entries files w a its.owner its.in_world).unbroken d its.listed)
 
   module _ (all : List EmittedMethod) (bodies : AreBodies w entries all) (has : Usable) where
     module _ (e : EmittedMethod) (i : Contains all e) (built : is_built_with has e.definition e.its_body ≡ true) where
@@ -44,10 +43,10 @@ module _ (entries : List EntryPoint) (files : List SourceFile) (w : Classes) (by
       its = owner_of w e.member e.definition (bodies.found e i).found
 
       owner_judged : IsJudgedClass its.owner
-      owner_judged = judged entries files w bytes a its.owner its.in_world
+      owner_judged = judged entries files w a its.owner its.in_world
 
       listing : HasListing its.owner
-      listing = file_is_listed owner_judged.bytes its.owner owner_judged.are_bytes owner_judged.read
+      listing = file_is_listed owner_judged.bytes its.owner owner_judged.read
 
       method : IsListedMethod e.definition
       method = All-contains IsListedMethod its.owner.methods e.definition listing.methods its.listed

@@ -12,7 +12,6 @@ use Rattle.linked_entries.specs.Bodies.{AreBodies}
 use Rattle.linked_entries.specs.Rules.{RightMember}
 use Rattle.linked_entries.specs.Worlds.{AreClassesKept}
 use Rattle.linked_entries.specs.Built.{has_static, is_static}
-use Rattle.sj_text_files.specs.Listed.{AreBytes}
 use Rattle.sj_emit_help_spec.specs.declared.kinds.Helper.{Helper}
 use Rattle.linked_entries.proofs.Statics.{static_is}
 use Rattle.linked_entries.proofs.Facts.{made_known}
@@ -39,27 +38,27 @@ use Rattle.sj_world.specs.Known.{Name, Classes, class_of}
 use Rattle.sj_world.specs.declared.facts.Fact.{Fact}
 
 -- a member that is written and has a method keeps the rules, of whatever members it is asked
-pub member_right : (entries : List EntryPoint) (files : List SourceFile) (w : Classes) (facts : List Fact) (all : List EmittedMethod) (live : List Name) (helpers : List Helper) (written : List Name) → ((file : SourceFile) → Contains files file → AreBytes file.bytes) → IsAccepted entries files w → AreBodies w entries all → CanRun w entries facts all live helpers written → (test : Member → Bool) (m : Member) → (test m && (is_among written m.class && has_function all m)) ≡ true → RightMember w w (used_of w facts all live helpers written) m
-member_right entries files w facts all live helpers written bytes a bodies run test m h =
+pub member_right : (entries : List EntryPoint) (files : List SourceFile) (w : Classes) (facts : List Fact) (all : List EmittedMethod) (live : List Name) (helpers : List Helper) (written : List Name) → IsAccepted entries files w → AreBodies w entries all → CanRun w entries facts all live helpers written → (test : Member → Bool) (m : Member) → (test m && (is_among written m.class && has_function all m)) ≡ true → RightMember w w (used_of w facts all live helpers written) m
+member_right entries files w facts all live helpers written a bodies run test m h =
     let p = and_parts (test m) (is_among written m.class && has_function all m) h in
     let q = and_parts (is_among written m.class) (has_function all m) p.1 in
     let f = has_function-is all m q.1 in
     let is_written : Contains written f.method.member.class = subst (λ (k : Member). Contains written k.class) (sym f.is) ((among written m.class).0 q.0) in
-    right_member entries files w bytes a all bodies (used_of w facts all live helpers written) m f (run.are_built f.method f.listed is_written)
+    right_member entries files w a all bodies (used_of w facts all live helpers written) m f (run.are_built f.method f.listed is_written)
 
 pub link_right : AcceptedFoldersLinkRightMembers
-link_right entries files w facts all live helpers written bytes a bodies run = member_right entries files w facts all live helpers written bytes a bodies run (λ m. is_static m.namespace)
+link_right entries files w facts all live helpers written a bodies run = member_right entries files w facts all live helpers written a bodies run (λ m. is_static m.namespace)
 
 pub carry : AcceptedFoldersCarryObjects
-carry entries files w facts all live helpers written bytes a bodies run = record {
+carry entries files w facts all live helpers written a bodies run = record {
   kept = kept;
   acyclic = a.world.no_cycle;
-  received = member_right entries files w facts all live helpers written bytes a bodies run is_received;
+  received = member_right entries files w facts all live helpers written a bodies run is_received;
   targets = λ m h. targets_run w (topped w (plain_world w kept.superclass kept.hijacked)) m;
   looked = run.looked;
   on_arrays = run.on_arrays;
   reflected = run.reflected;
-  built = member_right entries files w facts all live helpers written bytes a bodies run is_constructor_without_value;
+  built = member_right entries files w facts all live helpers written a bodies run is_constructor_without_value;
   made = λ c h. let p = and_parts (is_among written c) (list_any (makes c) facts) h in live_free w entries a.resolved kept facts run.reached c (record { made = c; is_made = made_known facts c p.1; on_chain = stay });
   primitives = λ h is. objects.write_interfaces entries files w a h (hijacked is);
   fields = field_there w unbroken;
@@ -81,7 +80,7 @@ carry entries files w facts all live helpers written bytes a bodies run = record
     static_known c f t h = (and_parts (list_any (needs_static c f) facts) (has_static_in (class_of w c) f t) (and_parts (is_among written c) (list_any (needs_static c f) facts && has_static_in (class_of w c) f t) (static_is w facts all live helpers written c f t h)).1).1
 
     kept : AreClassesKept w
-    kept = objects.kept entries files w bytes a
+    kept = objects.kept entries files w a
 
     unbroken : (c : ClassDef) → Contains w c → FirstBroken c None
-    unbroken c i = (judged entries files w bytes a c i).unbroken
+    unbroken c i = (judged entries files w a c i).unbroken

@@ -1,11 +1,9 @@
 -- Laws of accepted folders of which the pieces of some classes are written.
 use Rattle.std.specs.Prelude.{◌≡◌, true, List}
-use Rattle.std.specs.List.{Contains}
 use Rattle.linked_entries.specs.Accepted.{IsAccepted}
 use Rattle.linked_entries.specs.Bodies.{AreBodies}
 use Rattle.linked_entries.specs.Rules.{RightMember}
 use Rattle.linked_entries.specs.Worlds.{ObjectWorld}
-use Rattle.sj_text_files.specs.Listed.{AreBytes}
 use Rattle.sj_emit_help_spec.specs.declared.kinds.Helper.{Helper}
 use Rattle.linked_entries.specs.Used.{used_of}
 use Rattle.object_folders.specs.Running.{CanRun}
@@ -19,7 +17,6 @@ use Rattle.sj_world.specs.declared.facts.Fact.{Fact}
 -- where what is written can run, the world of an accepted folder of bytes has what the laws on objects ask
 abbrev pub AcceptedFoldersCarryObjects : Type 0
 AcceptedFoldersCarryObjects = (entries : List EntryPoint) (files : List SourceFile) (w : Classes) (facts : List Fact) (all : List EmittedMethod) (live : List Name) (helpers : List Helper) (written : List Name)
-    → ((file : SourceFile) → Contains files file → AreBytes file.bytes)
     → IsAccepted entries files w
     → AreBodies w entries all
     → CanRun w entries facts all live helpers written
@@ -28,7 +25,6 @@ AcceptedFoldersCarryObjects = (entries : List EntryPoint) (files : List SourceFi
 -- and the static members that are linked there keep the rules
 abbrev pub AcceptedFoldersLinkRightMembers : Type 0
 AcceptedFoldersLinkRightMembers = (entries : List EntryPoint) (files : List SourceFile) (w : Classes) (facts : List Fact) (all : List EmittedMethod) (live : List Name) (helpers : List Helper) (written : List Name)
-    → ((file : SourceFile) → Contains files file → AreBytes file.bytes)
     → IsAccepted entries files w
     → AreBodies w entries all
     → CanRun w entries facts all live helpers written

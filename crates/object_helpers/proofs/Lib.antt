@@ -35,7 +35,7 @@ pub use Rattle.body_uses.proofs.Objects
 pub use Rattle.body_uses.proofs.One
 pub use Rattle.body_uses.proofs.Plain
 pub use Rattle.body_uses.proofs.Same
-pub use Rattle.body_uses.proofs.LinkedPiecesStatics as Statics
+pub use Rattle.body_uses.proofs.Statics
 pub use Rattle.body_uses.proofs.Throwing
 pub use Rattle.body_uses.proofs.Verdict
 pub use Rattle.body_uses.proofs.ObjectFoldersWorlds

@@ -120,9 +120,6 @@ module _ (entries : List EntryPoint) (files : List SourceFile) where
       f : SourceFile
       f = found.file
 
-      sizes_read : take (place + 1) ns ≡ sizes read
-      sizes_read = take-map size_of (place + 1) (map front files)
-
       small : (i : ℕ) → i < place → (n : ℕ) → slice_get ns i ≡ Some n → largest_file < n → ⊥
       small i l n e h = first.first i l (record { size = n; at = e; over = inl h })
 

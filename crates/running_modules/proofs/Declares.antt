@@ -18,7 +18,6 @@ use Rattle.closed_pieces.proofs.Worlds.{judged}
 use Rattle.closed_pieces.specs.Closed.{IsClosed, items_of}
 use Rattle.closed_pieces.specs.Entries.{IsLive}
 use Rattle.declared_files.specs.Declarations.{declare}
-use Rattle.sj_text_files.specs.Listed.{AreBytes}
 use Rattle.sj_emit_help_spec.specs.declared.kinds.Helper.TheVariants.{ArrayClass}
 use Rattle.js_mean.specs.Files.{module_among, items_in, owner, running_order}
 use Rattle.js_mean.specs.Proper.{is_among, are_distinct}
@@ -87,7 +86,7 @@ last_is_new (y ∷ ys) x d i =
     let k = and_parts (not (is_among (ys ++ x ∷ []) y)) (are_distinct (ys ++ x ∷ [])) d in
     elim (cons_cases y x ys i) [ inl e ↦ never_both (is_among (ys ++ x ∷ []) y) k.0 (among_is (ys ++ x ∷ []) y (subst (λ (z : Name). Contains (ys ++ x ∷ []) z) (sym e) (Contains-push ys x))) | inr later ↦ last_is_new ys x k.1 later ]
 
-module _ (digest_of : Key → Digest) (graph : Graph) (entries : List EntryPoint) (style : Style) (modules : List PlannedModule) (files : List SourceFile) (l : Linked) (all : List EmittedMethod) (ps : List Piece) (bytes : (file : SourceFile) → Contains files file → AreBytes file.bytes) (a : IsAccepted entries files l.world) (reached : (f : Fact) → Contains l.facts f → Reachable l.world entries f) (p : AreLinkedPieces l all ps) (arrays : Contains p.helpers ArrayClass → IsLive l.world l.facts object) (valid : AreEntries entries) (keep : KeepsNamesApart digest_of graph entries) (is_graph : IsGraph ps graph) (is : IsPlan digest_of graph entries style modules) (closed : AreClosed modules ps) where
+module _ (digest_of : Key → Digest) (graph : Graph) (entries : List EntryPoint) (style : Style) (modules : List PlannedModule) (files : List SourceFile) (l : Linked) (all : List EmittedMethod) (ps : List Piece) (a : IsAccepted entries files l.world) (reached : (f : Fact) → Contains l.facts f → Reachable l.world entries f) (p : AreLinkedPieces l all ps) (arrays : Contains p.helpers ArrayClass → IsLive l.world l.facts object) (valid : AreEntries entries) (keep : KeepsNamesApart digest_of graph entries) (is_graph : IsGraph ps graph) (is : IsPlan digest_of graph entries style modules) (closed : AreClosed modules ps) where
   abbrev program : Program
   program = program_of modules ps
 
@@ -98,7 +97,7 @@ module _ (digest_of : Key → Digest) (graph : Graph) (entries : List EntryPoint
   own_items f qs = map item_of (filter (owned_in f) qs)
 
   named : AreNamed l.world
-  named = record { kept = λ c i. (judged entries files l.world bytes a c i).unbroken; class_names = class_named entries files l.world bytes a }
+  named = record { kept = λ c i. (judged entries files l.world a c i).unbroken; class_names = class_named entries files l.world a }
 
   known : AreInOrder HaveOwnNames ps × ((q : Piece) → Contains ps q → DeclaresItself q)
   known = linked_differ l all named ps p
@@ -129,7 +128,7 @@ module _ (digest_of : Key → Digest) (graph : Graph) (entries : List EntryPoint
       is_written b.owner t.its_file t.is
 
   in_order : declare [] (items_of written ps) ≡ true
-  in_order = pieces_are_declarations entries files l all written ps bytes a reached p is_closed arrays
+  in_order = pieces_are_declarations entries files l all written ps a reached p is_closed arrays
 
   items_at : (m : PlannedModule) → Contains modules m → items_in (module_among program (file m)) ≡ own_items (file m) ps ++ map call_item_of m.initializers
   items_at m h = modules_have_their_items digest_of graph entries style modules ps keep is m h
@@ -246,10 +245,10 @@ module _ (digest_of : Key → Digest) (graph : Graph) (entries : List EntryPoint
           ]
 
 pub modules_declare_in_order : ModulesDeclareInOrder
-modules_declare_in_order digest_of graph entries style modules files l all ps bytes a reached p arrays valid keep is_graph is closed planned there front order =
+modules_declare_in_order digest_of graph entries style modules files l all ps a reached p arrays valid keep is_graph is closed planned there front order =
     files_declare_in_order (program_of modules ps) front (file planned) (map item_of (filter (is_owned_in (file_with modules) (file planned)) ps))
-    (in_front_declares digest_of graph entries style modules files l all ps bytes a reached p arrays valid keep is_graph is closed planned there front order)
-    (file_declares digest_of graph entries style modules files l all ps bytes a reached p arrays valid keep is_graph is closed planned there front [] (file planned) order)
+    (in_front_declares digest_of graph entries style modules files l all ps a reached p arrays valid keep is_graph is closed planned there front order)
+    (file_declares digest_of graph entries style modules files l all ps a reached p arrays valid keep is_graph is closed planned there front [] (file planned) order)
 
 pub modules_declare_constants : ModulesDeclareConstants
-modules_declare_constants digest_of graph entries style modules files l all ps bytes a reached p arrays valid keep is_graph is closed planned there front order = constants_declared digest_of graph entries style modules files l all ps bytes a reached p arrays valid keep is_graph is closed planned there front order
+modules_declare_constants digest_of graph entries style modules files l all ps a reached p arrays valid keep is_graph is closed planned there front order = constants_declared digest_of graph entries style modules files l all ps a reached p arrays valid keep is_graph is closed planned there front order

@@ -3,7 +3,6 @@ use Rattle.std.specs.Prelude.{◌≡◌, true, List, [], ◌∷◌, ◌++◌, Co
 use Rattle.closed_pieces.specs.Entries.{IsLive}
 use Rattle.declared_files.specs.Declared.{AreConstants}
 use Rattle.declared_files.specs.Placed.{placed, items_until, declare}
-use Rattle.sj_text_files.specs.Listed.{AreBytes}
 use Rattle.sj_emit_help_spec.specs.declared.kinds.Helper.TheVariants.{ArrayClass}
 use Rattle.ir_mean.specs.Shows.{initializers}
 use Rattle.js_mean.specs.Files.{module_among, items_in, running_order}
@@ -76,7 +75,6 @@ ReachedFilesOnlyDeclare = (digest_of : Key → Digest) (graph : Graph) (entries 
 -- stands behind the one that it extends
 abbrev pub ModulesDeclareInOrder : Type 0
 ModulesDeclareInOrder = (digest_of : Key → Digest) (graph : Graph) (entries : List EntryPoint) (style : Style) (modules : List PlannedModule) (files : List SourceFile) (l : Linked) (all : List EmittedMethod) (ps : List Piece)
-    → ((file : SourceFile) → Contains files file → AreBytes file.bytes)
     → IsAccepted entries files l.world
     → ((f : Fact) → Contains l.facts f → Reachable l.world entries f)
     → (p : AreLinkedPieces l all ps)
@@ -95,7 +93,6 @@ ModulesDeclareInOrder = (digest_of : Key → Digest) (graph : Graph) (entries : 
 -- and each object that they declare is the constants of a class
 abbrev pub ModulesDeclareConstants : Type 0
 ModulesDeclareConstants = (digest_of : Key → Digest) (graph : Graph) (entries : List EntryPoint) (style : Style) (modules : List PlannedModule) (files : List SourceFile) (l : Linked) (all : List EmittedMethod) (ps : List Piece)
-    → ((file : SourceFile) → Contains files file → AreBytes file.bytes)
     → IsAccepted entries files l.world
     → ((f : Fact) → Contains l.facts f → Reachable l.world entries f)
     → (p : AreLinkedPieces l all ps)

@@ -5,7 +5,7 @@ use Rattle.std.specs.List.{flat_map, list_any}
 use Rattle.std.proofs.lemmas.List.Elements.{All-nil, All-cons, All-head, All-tail, All-append}
 use Rattle.sj_emit_class_printing.specs.Fits.{FitsEntry, FitsField, FitParts, FitTold, FitReflected}
 use Rattle.sj_emit_class_printing.proofs.Named.{choose, class-named, field-named, property-named, marker-named, entry-named, entry-units, method-named, marker-units, parameters-named}
-use Rattle.sj_emit_class_printing.proofs.Units.{text-units}
+use Rattle.sj_emit_expr_pieces.proofs.Units.{text-units}
 use Rattle.sj_emit_help_spec.specs.Helpers.{constants, own_marker, marker_property}
 use Rattle.sj_emit_help_spec.specs.Words.{uses, x, parameters_of, is_name as test_name, all_kinds, units_of, helper, bound, call1}
 use Rattle.sj_emit_help_spec.specs.declared.kinds.Kind.{Kind}

@@ -1,4 +1,3 @@
 pub mod HelpersKept
 pub mod Kept
 pub mod Named
-pub mod Units

@@ -4,7 +4,6 @@ use Rattle.std.specs.Prelude.{pos}
 use Rattle.std.specs.List.{list_all}
 use Rattle.std.proofs.lemmas.Str.{IsUtf8-from_ascii, is_utf8-from_IsUtf8}
 use Rattle.std.proofs.lemmas.Bool.Decides.{nat_tests}
-use Rattle.std.proofs.lemmas.List.Elements.{All-from_recursion}
 use Rattle.std.proofs.lemmas.Fmt.{length-decimal-le}
 use Rattle.sj_names.specs.Grammar.{is_class_name, is_plain_name, is_simple_name, is_digit}
 use Rattle.sj_names.specs.declared.references.TypeRef.{TypeRef}
@@ -37,7 +36,7 @@ use Rattle.sj_write_spec.specs.Written.{written_class}
 use Rattle.sj_write_spec.proofs.WrittenFile as written
 use Rattle.sj_gen.specs.Classes.{object_name, function_name, main_name, parameter_name, parameters, with_number, class_name, body_of, function_of, main_body, main_of, class_with, class_of, object_of}
 use Rattle.sj_gen.proofs.Names.{numbered_class, decimal_digits}
-use Rattle.sj_gen.proofs.Made.{Made, AreBytes, seq, gives, one_byte, number, found, tested, coded, entry, named, as_bytes, text, none_of, one_more, list_of, marked, nothing_there, something_there}
+use Rattle.sj_gen.proofs.Made.{Made, seq, gives, one_byte, number, found, tested, coded, entry, named, as_bytes, text, none_of, one_more, list_of, marked, nothing_there, something_there}
 use Rattle.sj_gen.proofs.SpelledTrees.{tables_for, placed, int_type, no_type, static_there, parameter_made, int_made, empty_made, operation_made, call_made, log_made}
 
 -- texts of ASCII
@@ -61,12 +60,8 @@ ascii_at [] h i = omega arith
 ascii_at (b ∷ t) h zero = is_small b (first_holds (is_ascii b) (list_all is_ascii t) h)
 ascii_at (b ∷ t) h (suc i) = ascii_at t (rest_holds (is_ascii b) (list_all is_ascii t) h) i
 
-ascii_bytes : (t : List ℕ) → list_all is_ascii t ≡ true → AreBytes t
-ascii_bytes [] h = tt
-ascii_bytes (b ∷ t) h = let k = is_small b (first_holds (is_ascii b) (list_all is_ascii t) h) in (omega (arith, k), ascii_bytes t (rest_holds (is_ascii b) (list_all is_ascii t) h))
-
 ascii_text : (t : List ℕ) → length t < 256 ^ 4 → list_all is_ascii t ≡ true → Made IsText t
-ascii_text t h a = text t h (ascii_bytes t a) (is_utf8-from_IsUtf8 t (IsUtf8-from_ascii t (ascii_at t a)))
+ascii_text t h a = text t h (is_utf8-from_IsUtf8 t (IsUtf8-from_ascii t (ascii_at t a)))
 
 digit_is_ascii : (b : ℕ) → is_digit b ≡ true → is_ascii b ≡ true
 unfolding is_ascii
@@ -94,10 +89,6 @@ usable_class k h =
     let short : length (decimal k) ≤ 5 = length-decimal-le 5 k (omega arith) (omega arith) (omega arith) in
     record { is_class = numbered_class k (omega arith); is_text = ascii_text (class_name k) (omega arith) (digits_are_ascii (decimal k) (decimal_digits k (omega arith))) }
 
--- the tables
-IsNamesOf : List (List ℕ) → Type 0
-IsNamesOf names = Made (IsEach IsText (length names)) names
-
 names_made : (own called : List ℕ) → Usable own → Usable called → Made (IsEach IsText 6) (tables_for own called).names
 unfolding is_ascii
 names_made own called u v = one_more IsText 5 _ _ (usable_object.is_text) (one_more IsText 4 _ _ (ascii_text (codes "f") (omega arith) refl) (one_more IsText 3 _ _ (ascii_text parameter_name (omega arith) refl) (one_more IsText 2 _ _ (ascii_text (codes "main") (omega arith) refl) (one_more IsText 1 _ _ u.is_text (one_more IsText 0 _ _ v.is_text (none_of IsText))))))
@@ -115,7 +106,7 @@ main_name_made own called =
     seq (codes "main") (named is_simple_name names 3 (codes "main") (omega arith) refl refl) (seq [] (list_of (IsParameter names) 0 [] (omega arith) (none_of (IsParameter names))) (seq (Some TypeRef.Void) (seq 1 (one_byte 1 (omega arith)) (gives (Some TypeRef.Void))) (gives main_name)))
 
 string_made : Made IsString []
-string_made = seq 0 (number 4 0 (omega arith)) (seq [] (as_bytes [] tt) (found (modified_units []) [] refl))
+string_made = seq 0 (number 4 0 (omega arith)) (seq [] (as_bytes []) (found (modified_units []) [] refl))
 
 tables_made : (own called : List ℕ) → Usable own → Usable called → Made IsTables (tables_for own called)
 unfolding IsTables is_ascii
@@ -160,14 +151,13 @@ magic_made : Made IsMagic 0xCAFE4A53
 magic_made = seq 0xCAFE4A53 (number 4 0xCAFE4A53 (omega arith)) (tested true 0xCAFE4A53 refl)
 
 version_made : Made IsVersion (codes "1.0-i1")
-unfolding is_ascii
-version_made = seq (codes "1.0-i1") (seq 6 (number 2 6 (omega arith)) (as_bytes (codes "1.0-i1") (ascii_bytes (codes "1.0-i1") refl))) (tested true (codes "1.0-i1") refl)
+version_made = seq (codes "1.0-i1") (seq 6 (number 2 6 (omega arith)) (as_bytes (codes "1.0-i1"))) (tested true (codes "1.0-i1") refl)
 
 file_made : (own called : List ℕ) (class : ClassDef) → Usable own → Usable called → Made (IsClass (tables_for own called)) class → IsOfSomeFile class
 unfolding FileIs IsContents
 file_made own called class u v m =
     let whole : Made IsContents class = seq 0xCAFE4A53 magic_made (seq (codes "1.0-i1") version_made (seq (tables_for own called) (tables_made own called u v) m)) in
-    record { file = whole.text; bytes = All-from_recursion (λ b. b < 256) whole.text whole.bytes; is_file = whole.spelled }
+    record { file = whole.text; is_file = whole.spelled }
 
 -- what such a class is written as is read back as itself
 found_first : (n : ℕ) → slice_get {X = List ℕ} ([] ∷ []) n ≡ Some [] → n ≡ 0

@@ -1,7 +1,5 @@
--- What can be spelled with bytes.
+-- What can be spelled.
 use Rattle.std.proofs.Common.{◌≡◌, ℕ, zero, suc, ◌<◌, ◌^◌, List, [], ◌∷◌, ◌++◌, length, refl, sym, arith, subst, Bool, true, false, Option, Some, None, slice_get}
-use Rattle.std.specs.List.{AllByRecursion}
-use Rattle.std.specs.Int.{bytes_high_first, byte_at}
 use Rattle.std.specs.Str.{is_utf8}
 use Rattle.byteorder.specs.Endian.{big_bytes}
 use Rattle.exact_place.specs.Grammar.{Spelling, ◌then◌, IsValue}
@@ -10,37 +8,21 @@ use Rattle.sj_read_spec.specs.Types.{IsCode, IsMark, mark_with, IsOption}
 use Rattle.sj_read_spec.specs.Tables.{IsEntry, IsName, IsText}
 use Rattle.sj_write_spec.proofs.Bytes.{number_spelled}
 
-abbrev pub AreBytes : List ℕ → Type 0
-AreBytes = AllByRecursion (λ b. b < 256)
-
 pub record Made {A : Type 0} (P : Spelling A) (x : A) : Type 0 where
   pub text : List ℕ
   pub spelled : P x text
-  pub bytes : AreBytes text
-
-joined : (xs ys : List ℕ) → AreBytes xs → AreBytes ys → AreBytes (xs ++ ys)
-joined [] ys a b = b
-joined (x ∷ xs) ys a b = (a.0, joined xs ys a.1 b)
 
 pub seq : {A B : Type 0} {P : Spelling A} {Q : A → Spelling B} {y : B} (x : A) → Made P x → Made (Q x) y → Made (P then Q) y
-seq x m n = record { text = m.text ++ n.text; spelled = record { value = x; front = m.text; back = n.text; first = m.spelled; second = n.spelled; parts = refl }; bytes = joined m.text n.text m.bytes n.bytes }
+seq x m n = record { text = m.text ++ n.text; spelled = record { value = x; front = m.text; back = n.text; first = m.spelled; second = n.spelled; parts = refl } }
 
 pub gives : {A : Type 0} (v : A) → Made (IsValue v) v
-gives v = record { text = []; spelled = record { same = refl; empty = refl }; bytes = tt }
+gives v = record { text = []; spelled = record { same = refl; empty = refl } }
 
 pub one_byte : (b : ℕ) → b < 256 → Made IsByte b
-one_byte b h = record { text = b ∷ []; spelled = record { byte = refl }; bytes = (h, tt) }
-
-byte_small : (k n : ℕ) → byte_at k n < 256
-byte_small zero n = omega arith
-byte_small (suc k) n = omega arith
-
-digits_small : (k n : ℕ) → AreBytes (bytes_high_first k n)
-digits_small zero n = tt
-digits_small (suc k) n = (byte_small k n, digits_small k n)
+one_byte b h = record { text = b ∷ []; spelled = record { byte = refl; small = h } }
 
 pub number : (n x : ℕ) → x < 256 ^ n → Made (IsNumber n) x
-number n x h = record { text = big_bytes n x; spelled = number_spelled n x h; bytes = digits_small n x }
+number n x h = record { text = big_bytes n x; spelled = number_spelled n x h }
 
 pub found : {A : Type 0} (o : Option A) (x : A) → o ≡ Some x → Made (Found o) x
 found {A} o x e = let P : Option A → Type 0 = λ v. Made (Found v) x in subst P (sym e) (gives x)
@@ -57,11 +39,11 @@ entry table i x h e = seq i (number 4 i h) (found (slice_get table i) x e)
 pub named : (grammar : List ℕ → Bool) (table : List (List ℕ)) (i : ℕ) (x : List ℕ) → i < 256 ^ 4 → slice_get table i ≡ Some x → grammar x ≡ true → Made (IsName grammar table) x
 named grammar table i x h e g = seq x (entry table i x h e) (tested (grammar x) x g)
 
-pub as_bytes : (t : List ℕ) → AreBytes t → Made (IsBytes (length t)) t
-as_bytes t all = record { text = t; spelled = record { count = refl; same = refl }; bytes = all }
+pub as_bytes : (t : List ℕ) → Made (IsBytes (length t)) t
+as_bytes t = record { text = t; spelled = record { count = refl; same = refl } }
 
-pub text : (t : List ℕ) → length t < 256 ^ 4 → AreBytes t → is_utf8 t ≡ true → Made IsText t
-text t h all u = seq (length t) (number 4 (length t) h) (seq t (as_bytes t all) (tested (is_utf8 t) t u))
+pub text : (t : List ℕ) → length t < 256 ^ 4 → is_utf8 t ≡ true → Made IsText t
+text t h u = seq (length t) (number 4 (length t) h) (seq t (as_bytes t) (tested (is_utf8 t) t u))
 
 pub none_of : {A : Type 0} (P : Spelling A) → Made (IsEach P zero) []
 unfolding IsEach

@@ -7,8 +7,8 @@ use Rattle.std.proofs.lemmas.Bool.{and_parts}
 use Rattle.std.proofs.lemmas.Bool.Decides.{nat_tests}
 use Rattle.std.proofs.lemmas.List.Splits.{slice_split-cons_yes, slice_split-cons_no, length-slice_split}
 use Rattle.sj_outside.specs.declared.answers.Entry.{Entry}
-use Rattle.sj_outside.specs.Reading.{Lists, lacks_folder, lacks_file}
-use Rattle.sj_outside.specs.Contents.{Parts, no_parts, file_part, folder_part, Held, file_held, folder_held, part_named, held_under, held_below, held_at, folder_of, file_of, path_texts, entries_of, entry_name, are_names, is_name, is_same_text, is_folder_held}
+use Rattle.sj_outside.specs.Reading.{Lists, lacks_folder}
+use Rattle.sj_outside.specs.Contents.{Parts, no_parts, file_part, folder_part, Held, file_held, folder_held, part_named, held_under, held_below, held_at, folder_of, path_texts, entries_of, entry_name, are_names, is_name, is_same_text, is_folder_held}
 
 -- A path and a name
 
@@ -133,17 +133,7 @@ folder_held_as None is_folder kind there = absurd there
 folder_held_as (Some (file_held bytes)) is_folder kind there = absurd (let e : false ≡ true = there ∙ kind in cc)
 folder_held_as (Some (folder_held parts)) is_folder kind there = refl
 
-file_held_as : (o : Option Held) (is_folder : Bool) → is_folder ≡ false → IsHeldAs is_folder o → not (is_some (option_and_then file_of o)) ≡ false
-file_held_as None is_folder kind there = absurd there
-file_held_as (Some (file_held bytes)) is_folder kind there = refl
-file_held_as (Some (folder_held parts)) is_folder kind there = absurd (let e : true ≡ false = there ∙ kind in cc)
-
 -- a folder that is listed is held under the folder's path, `/` and its name
 pub lacks_folder-listed : (contents : Parts) (path : List ℕ) (entries : List Entry) → Lists (Some contents) path entries → are_names (map entry_name entries) ≡ true → All (λ e. e.is_folder ≡ true → lacks_folder (Some contents) (path ++ 47 ∷ e.name) ≡ false) entries
 lacks_folder-listed contents path entries lists names k d below kind =
     folder_held_as (held_at contents (path ++ 47 ∷ (slice_index_or entries k d).name)) _ kind (all_held contents path entries (held_at contents path) refl lists names k d below)
-
--- so is a file
-pub lacks_file-listed : (contents : Parts) (path : List ℕ) (entries : List Entry) → Lists (Some contents) path entries → are_names (map entry_name entries) ≡ true → All (λ e. e.is_folder ≡ false → lacks_file (Some contents) (path ++ 47 ∷ e.name) ≡ false) entries
-lacks_file-listed contents path entries lists names k d below kind =
-    file_held_as (held_at contents (path ++ 47 ∷ (slice_index_or entries k d).name)) _ kind (all_held contents path entries (held_at contents path) refl lists names k d below)

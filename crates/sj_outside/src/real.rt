@@ -4,8 +4,9 @@ ghost use Rattle.std.specs.IoError.{error_kind};
 ghost use Rattle.sj_outside.specs.Faults.{Rose, raised_by};
 
 use crate::OutsideError;
-use std::io;
-use std::io::ErrorKind;
+use std::io::{ErrorKind, Write};
+use std::rt::Files;
+use std::{fs, io};
 
 /// What a refusal by the system comes to. Want of memory is `NoMemory`; everything else is counted in `faults`.
 pub fn failure(faults: &mut u64, error: io::Error) -> OutsideError
@@ -19,4 +20,10 @@ pub fn failure(faults: &mut u64, error: io::Error) -> OutsideError
     }
     *faults = faults.saturating_add(1);
     OutsideError::Failed
+}
+
+/// Writes the file at the path, in place of what it held.
+pub fn write_file<R: Files>(rt: &R, path: &str, bytes: &[u8]) -> io::Result<()> {
+    let mut file = fs::create(rt, path)?;
+    file.write_all(bytes)
 }

@@ -4,10 +4,9 @@ ghost use Rattle.sj_outside.specs.declared.answers.PutFile.{PutFile};
 ghost use Rattle.sj_outside.specs.Faults.{HasCause, faults_after};
 ghost use Rattle.sj_outside.specs.Writing.{Appends};
 
-use crate::real::failure;
+use crate::real::{failure, write_file};
 use crate::{Outputs, OutsideError};
 use std::alloc::Global;
-use std::io::Write;
 use std::rt::Files;
 use std::{fs, io};
 
@@ -66,6 +65,5 @@ fn put_file<R: Files>(
     let folder = format!(in alloc; "{out}/{edit}")?;
     fs::create_dir_all(rt, folder.as_str())?;
     let path = format!(in alloc; "{folder}/{name}")?;
-    let mut file = fs::create(rt, path.as_str())?;
-    file.write_all(bytes)
+    write_file(rt, path.as_str(), bytes)
 }

@@ -1,6 +1,6 @@
 -- What is read is spelled so, and what is spelled so is read, whatever follows.
-use Rattle.std.proofs.Common.{◌≡◌, ℕ, zero, suc, ◌≤◌, Bool, true, false, cond, ltb, List, [], ◌∷◌, ◌++◌, length, take, drop, Option, Some, None, Result, Ok, Err, refl, sym, ap, ◌∙◌, append_assoc, arith}
-use Rattle.std.proofs.lemmas.Bool.{ltb-false, le-ltb}
+use Rattle.std.proofs.Common.{◌≡◌, ℕ, zero, suc, ◌≤◌, ◌<◌, ◌^◌, ◌&&◌, Bool, true, false, cond, ltb, leb, List, [], ◌∷◌, ◌++◌, length, take, drop, Option, Some, None, Result, Ok, Err, refl, sym, ap, ap₂, subst, ◌∙◌, append_assoc, arith}
+use Rattle.std.proofs.lemmas.Bool.{ltb-true, ltb-false, lt-ltb, le-ltb, leb-true, le-leb}
 use Rattle.std.proofs.lemmas.List.{take_at, drop_at, take-append-drop, length-append, length-take}
 use Rattle.byteorder.specs.Endian.{big_number}
 use Rattle.byteorder.specs.Numbers.{big_from-append, big_from-take}
@@ -91,12 +91,28 @@ pub exact_tested : {A : Type 0} (code : Code) (b : Bool) (x : A) (front : List �
 exact_tested code true x front = exact_value x
 exact_tested code false x front = exact_never (λ rest. fault code front)
 
+-- a test that held
+held_ok : {A : Type 0} (b : Bool) (d : Fault) (x y : A) → cond b (Ok x) (Err d) ≡ Ok y → (b ≡ true) × (x ≡ y)
+held_ok true d x y e = (refl, cc)
+held_ok false d x y e = absurd cc
+
 byte_takes : (bytes : List ℕ) (x : ℕ) (rest : List ℕ) → byte_at bytes ≡ Ok (x, rest) → Takes IsByte bytes x rest
 byte_takes [] x rest e = absurd cc
-byte_takes (b ∷ bytes) x rest e = record { text = b ∷ []; spelled = record { byte = ap (λ (v : ℕ). v ∷ []) (pair_first b x bytes rest e) }; parts = ap (λ (t : List ℕ). b ∷ t) (pair_second b x bytes rest e) }
+byte_takes (b ∷ bytes) x rest e =
+    let held = held_ok (ltb b 256) (fault Truncated (b ∷ bytes)) (b, bytes) (x, rest) e in
+    let x-is : b ≡ x = ap (λ (p : ℕ × List ℕ). p.0) held.1 in
+    let rest-is : bytes ≡ rest = ap (λ (p : ℕ × List ℕ). p.1) held.1 in
+    record {
+      text = b ∷ [];
+      spelled = record { byte = ap (λ (v : ℕ). v ∷ []) x-is; small = omega (arith, ltb-true _ _ held.0, x-is) };
+      parts = ap (λ (t : List ℕ). b ∷ t) rest-is;
+    }
+
+byte_there : (x : ℕ) (rest : List ℕ) → x < 256 → byte_at (x ∷ rest) ≡ Ok (x, rest)
+byte_there x rest small = let e : ltb x 256 ≡ true = lt-ltb _ _ small in rw e refl
 
 byte_again : (x : ℕ) (text rest : List ℕ) → IsByte x text → byte_at (text ++ rest) ≡ Ok (x, rest)
-byte_again x text rest p = ap (λ (t : List ℕ). byte_at (t ++ rest)) p.byte
+byte_again x text rest p = ap (λ (t : List ℕ). byte_at (t ++ rest)) p.byte ∙ byte_there x rest p.small
 
 pub exact_byte : Exact byte_at IsByte
 exact_byte = record { takes = byte_takes; again = byte_again }
@@ -106,23 +122,39 @@ guard_ok : {A : Type 0} (b : Bool) (d : Fault) (x y : A) → cond b (Err d) (Ok 
 guard_ok true d x y e = absurd cc
 guard_ok false d x y e = (refl, cc)
 
+both_hold : (a b : Bool) → (a && b) ≡ true → (a ≡ true) × (b ≡ true)
+both_hold true b e = (refl, e)
+both_hold false b e = absurd cc
+
 number_takes : (n : ℕ) (bytes : List ℕ) (x : ℕ) (rest : List ℕ) → number_at n bytes ≡ Ok (x, rest) → Takes (IsNumber n) bytes x rest
 number_takes n bytes x rest e =
-    let g = guard_ok (ltb (length bytes) n) (fault Truncated bytes) (big_number n bytes, drop n bytes) (x, rest) e in
-    let long : n ≤ length bytes = ltb-false _ _ g.0 in
+    let g = held_ok (leb n (length bytes) && ltb (big_number n bytes) (256 ^ n)) (fault Truncated bytes) (big_number n bytes, drop n bytes) (x, rest) e in
+    let both = both_hold (leb n (length bytes)) (ltb (big_number n bytes) (256 ^ n)) g.0 in
+    let long : n ≤ length bytes = leb-true _ _ both.0 in
+    let small : big_number n bytes < 256 ^ n = ltb-true _ _ both.1 in
     let x-is : big_number n bytes ≡ x = ap (λ (p : ℕ × List ℕ). p.0) g.1 in
     let rest-is : drop n bytes ≡ rest = ap (λ (p : ℕ × List ℕ). p.1) g.1 in
     record {
       text = take n bytes;
-      spelled = record { count = omega (arith, length-take n bytes); value = sym x-is ∙ sym (big_from-take 0 n n bytes (omega arith)) };
+      spelled = record {
+        count = omega (arith, length-take n bytes);
+        value = sym x-is ∙ sym (big_from-take 0 n n bytes (omega arith));
+        small = subst (λ (v : ℕ). v < 256 ^ n) x-is small;
+      };
       parts = sym (take-append-drop n bytes) ∙ ap (λ (t : List ℕ). take n bytes ++ t) rest-is;
     }
 
+number_there : (n : ℕ) (bytes : List ℕ) → n ≤ length bytes → big_number n bytes < 256 ^ n → number_at n bytes ≡ Ok (big_number n bytes, drop n bytes)
+number_there n bytes long small =
+    let first : leb n (length bytes) ≡ true = le-leb _ _ long in
+    let second : ltb (big_number n bytes) (256 ^ n) ≡ true = lt-ltb _ _ small in
+    rw (first, second) refl
+
 number_again : (n x : ℕ) (text rest : List ℕ) → IsNumber n x text → number_at n (text ++ rest) ≡ Ok (x, rest)
 number_again n x text rest p =
-    let long : ltb (length (text ++ rest)) n ≡ false = le-ltb _ _ (omega (arith, length-append text rest, p.count)) in
     let same : big_number n (text ++ rest) ≡ x = big_from-append n text rest (omega (arith, p.count)) ∙ sym p.value in
-    rw (long, drop_at text rest n p.count) (ap (λ (v : ℕ). taken v rest) same)
+    let there = number_there n (text ++ rest) (omega (arith, length-append text rest, p.count)) (subst (λ (v : ℕ). v < 256 ^ n) (sym same) p.small) in
+    there ∙ ap₂ taken same (drop_at text rest n p.count)
 
 pub exact_number : (n : ℕ) → Exact (number_at n) (IsNumber n)
 exact_number n = record { takes = number_takes n; again = number_again n }

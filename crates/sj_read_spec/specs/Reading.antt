@@ -1,6 +1,6 @@
 -- Reading a list of bytes from left to right: a value and the bytes after it, or the first fault. A fault holds how many bytes
 -- are left at its place, so that no reader is handed an offset.
-use Rattle.std.specs.Prelude.{ℕ, zero, suc, Bool, true, false, List, [], ◌∷◌, length, take, drop, nat_lt, Option, Some, None, Result, Ok, Err, if◌then◌else◌}
+use Rattle.std.specs.Prelude.{ℕ, zero, suc, ◌^◌, ◌&&◌, Bool, true, false, List, [], ◌∷◌, length, take, drop, nat_lt, nat_le, Option, Some, None, Result, Ok, Err, if◌then◌else◌}
 use Rattle.byteorder.specs.Endian.{big_number}
 use Rattle.exact_place.specs.Reading.{◌>>=◌}
 use Rattle.sj_read_spec.specs.declared.faults.Fault.{Fault}
@@ -17,11 +17,11 @@ fault code bytes = record { code = code; left = length bytes }
 -- one byte
 abbrev pub byte_at : List ℕ → Reading ℕ
 byte_at [] = Err (fault Truncated [])
-byte_at (b ∷ rest) = Ok (b, rest)
+byte_at (b ∷ rest) = if nat_lt b 256 then Ok (b, rest) else Err (fault Truncated (b ∷ rest))
 
 -- n bytes, high byte first, as a number
 abbrev pub number_at : ℕ → List ℕ → Reading ℕ
-number_at n bytes = if nat_lt (length bytes) n then Err (fault Truncated bytes) else Ok (big_number n bytes, drop n bytes)
+number_at n bytes = if nat_le n (length bytes) && nat_lt (big_number n bytes) (256 ^ n) then Ok (big_number n bytes, drop n bytes) else Err (fault Truncated bytes)
 
 -- n bytes as they are
 abbrev pub bytes_at : ℕ → List ℕ → Reading (List ℕ)

@@ -1,5 +1,5 @@
 -- What the grammar of class files is put together from, beside the grammars of `exact_place`: numbers, counts and values that a table names.
-use Rattle.std.specs.Prelude.{◌≡◌, ℕ, zero, suc, Bool, true, false, List, [], ◌∷◌, length, Option, Some, None}
+use Rattle.std.specs.Prelude.{◌≡◌, ◌<◌, ◌^◌, ℕ, zero, suc, Bool, true, false, List, [], ◌∷◌, length, Option, Some, None}
 use Rattle.byteorder.specs.Endian.{big_number}
 use Rattle.exact_place.specs.Grammar.{Spelling, ◌then◌, IsValue}
 
@@ -20,11 +20,13 @@ Tested false value = Never
 -- one byte
 pub record IsByte (b : ℕ) (text : List ℕ) : Type 0 where
   pub byte : text ≡ b ∷ []
+  pub small : b < 256
 
 -- the n bytes of a number, high byte first
 pub record IsNumber (n : ℕ) (number : ℕ) (text : List ℕ) : Type 0 where
   pub count : length text ≡ n
   pub value : number ≡ big_number n text
+  pub small : number < 256 ^ n
 
 -- n bytes as they are
 pub record IsBytes (n : ℕ) (bytes : List ℕ) (text : List ℕ) : Type 0 where

@@ -14,7 +14,6 @@ use Rattle.folder_linking.specs.Verdicts.{accepted, refused, IsVerdict}
 use Rattle.folder_judging.specs.Counts.{Counts, bodies_among, with_reads, with_checks, ChecksAtMost}
 use Rattle.folder_judging.specs.Counts as judging
 use Rattle.folder_judging.specs.Judging.{IsLinkedFolder, AreFactsIn}
-use Rattle.folder_judging.specs.Reading.{HaveBytes}
 use Rattle.folder_judging.specs.declared.errors.JudgeError.{JudgeError}
 use Rattle.folder_judging.specs.declared.errors.JudgeError.TheVariants as judged
 use Rattle.folder_linking.proofs.Edits.{same_world, world_is}
@@ -36,7 +35,7 @@ pub counts_refused : (entries : List EntryPoint) (files : List SourceFile) (e : 
 counts_refused entries files (judged.Refused code place) old new h = let c = h.checked.0 in record { reads = h.reads; checks = c.checks; few_reads = h.whole; few_checks = c.most; counted = c.counted ∙ ap (with_checks c.checks) refl }
 counts_refused entries files judged.NoMemory old new h = let c = h.checked in record { reads = h.reads; checks = c.checks; emits = 0; few_reads = h.whole; few_checks = c.most; few_emits = counts.none; counted = c.counted }
 
-module _ (entries : List EntryPoint) (files : List SourceFile) (l : Linked) (judge : IsVerdict entries files accepted × IsLinkedFolder entries files l) (bytes : HaveBytes files) where
+module _ (entries : List EntryPoint) (files : List SourceFile) (l : Linked) (judge : IsVerdict entries files accepted × IsLinkedFolder entries files l) where
   known : IsLinkedFolder entries files l
   known = judge.1
 
@@ -57,7 +56,7 @@ module _ (entries : List EntryPoint) (files : List SourceFile) (l : Linked) (jud
   }
 
   pub linkable : IsLinkable entries l
-  linkable = record { files = files; are_bytes = bytes; is_accepted = world_accepted; reached = reached; method_entries = known.linked.linked.method_entries }
+  linkable = record { files = files; is_accepted = world_accepted; reached = reached; method_entries = known.linked.linked.method_entries }
 
   all_checked : ChecksAtMost (AreFactsIn entries files) (bodies_among l.facts)
   all_checked = judging.bodies l.facts (bodies_among l.facts) facts_in (omega arith)
@@ -97,7 +96,7 @@ module _ (entries : List EntryPoint) (files : List SourceFile) (l : Linked) (jud
         bodies = link.link.are_pieces.bodies;
         is = ap work_told told ∙ ap (λ (n : ℕ). record { read = length files; checked = n; optimised = 0; emitted = n }) (sym (bodies_many l.world entries l.facts link.link.are_pieces.all reached link.link.are_pieces.bodies));
       };
-      agrees = λ w id a among. subst (λ (u : Classes). Agrees u entries (map as_file edit.files.items) id) (same_world entries files l.world w world_accepted a) (linked_folders_agree entries files style id (map as_file edit.files.items) bytes link.valid (linked_to edit.files.items same) among);
+      agrees = λ w id a among. subst (λ (u : Classes). Agrees u entries (map as_file edit.files.items) id) (same_world entries files l.world w world_accepted a) (linked_folders_agree entries files style id (map as_file edit.files.items) link.valid (linked_to edit.files.items same) among);
     }
       where
         same : IsCountableLink l.world entries style (map as_file edit.files.items)

@@ -1,9 +1,7 @@
 -- What every value meets that a grammar of class files spells.
-use Rattle.std.proofs.Common.{◌≡◌, ℕ, zero, suc, ◌<◌, ◌≤◌, ◌^◌, ◌*◌, Bool, true, false, List, [], ◌∷◌, ◌++◌, Option, Some, None, refl, sym, subst, arith, slice_index}
-use Rattle.std.proofs.Math.Nat.{mul-le-mul_right}
+use Rattle.std.proofs.Common.{◌≡◌, ℕ, zero, suc, ◌<◌, ◌^◌, Bool, true, false, List, [], ◌∷◌, Option, Some, None, refl, sym, subst, arith}
 use Rattle.std.specs.Prelude.{All, MatchOption}
 use Rattle.std.specs.List.{slice_get}
-use Rattle.byteorder.specs.Endian.{big_from}
 use Rattle.exact_place.specs.Grammar.{Spelling, ◌then◌, IsValue, chosen}
 use Rattle.sj_read_spec.specs.Spelling.{Never, Found, Tested, IsByte, IsNumber, IsEach, IsCounted}
 
@@ -27,35 +25,26 @@ all_first x xs all = all.at 0 x (omega arith)
 pub all_others : {A : Type 0} {Q : A → Type 0} (x : A) (xs : List A) → AllOf Q (x ∷ xs) → AllOf Q xs
 all_others x xs all = record { at = λ k d h. all.at (suc k) d (omega (arith, h)) }
 
-abbrev pub IsSmall : ℕ → Type 0
-IsSmall b = b < 256
-
 pub record Ensures {A : Type 0} (Q : A → Type 0) (P : Spelling A) : Type 0 where
-  pub meets : (x : A) (text : List ℕ) → AllOf IsSmall text → P x text → Q x
+  pub meets : (x : A) (text : List ℕ) → P x text → Q x
 
 -- nothing is said of the value
 abbrev pub Anything : {A : Type 0} → A → Type 0
 Anything x = Unit {0}
 
-halves : (xs ys : List ℕ) → AllOf IsSmall (xs ++ ys) → AllOf IsSmall xs × AllOf IsSmall ys
-halves [] ys all = (all_none, all)
-halves (x ∷ xs) ys all = let rest = halves xs ys (all_others x (xs ++ ys) all) in (all_more (all_first x (xs ++ ys) all) rest.0, rest.1)
-
 pub anything : {A : Type 0} (P : Spelling A) → Ensures Anything P
-anything P = record { meets = λ x text bytes s. tt }
+anything P = record { meets = λ x text s. tt }
 
 pub behind : {A B : Type 0} {Q : A → Type 0} {R : B → Type 0} {P : Spelling A} {next : A → Spelling B} → Ensures Q P → ((x : A) → Q x → Ensures R (next x)) → Ensures R (P then next)
 behind {A} {B} {Q} {R} {P} {next} first second = record {
-  meets = λ y text bytes s.
-      let parts = halves s.front s.back (subst (AllOf IsSmall) s.parts bytes) in
-      (second s.value (first.meets s.value s.front parts.0 s.first)).meets y s.back parts.1 s.second;
+  meets = λ y text s. (second s.value (first.meets s.value s.front s.first)).meets y s.back s.second;
 }
 
 pub gives : {A : Type 0} {Q : A → Type 0} {v : A} → Q v → Ensures Q (IsValue v)
-gives {A} {Q} {v} q = record { meets = λ x text bytes s. subst Q (sym s.same) q }
+gives {A} {Q} {v} q = record { meets = λ x text s. subst Q (sym s.same) q }
 
 pub never : {A : Type 0} {Q : A → Type 0} → Ensures {A = A} Q Never
-never = record { meets = λ x text bytes s. absurd s.never }
+never = record { meets = λ x text s. absurd s.never }
 
 pub either : {A : Type 0} {Q : A → Type 0} (b : Bool) {P R : Spelling A} → Ensures Q P → Ensures Q R → Ensures Q (chosen b P R)
 either true p r = p
@@ -78,23 +67,10 @@ pub listed : {A : Type 0} {Q : A → Type 0} {P : Spelling A} → Ensures Q P �
 listed p = behind (anything (IsNumber 4)) (λ n k. each p n)
 
 pub a_byte : Ensures (λ b. b < 256) IsByte
-a_byte = record { meets = λ b text bytes s. all_first b [] (subst (AllOf IsSmall) s.byte bytes) }
-
-index_below : (xs : List ℕ) (i : ℕ) → AllOf IsSmall xs → slice_index xs i < 256
-index_below [] i all = omega arith
-index_below (x ∷ xs) zero all = all_first x xs all
-index_below (x ∷ xs) (suc i) all = index_below xs i (all_others x xs all)
-
-big_from_below : (n i : ℕ) (xs : List ℕ) → AllOf IsSmall xs → big_from i n xs < 256 ^ n
-big_from_below zero i xs all = omega arith
-big_from_below (suc n) i xs all =
-    let here = index_below xs i all in
-    let rest = big_from_below n (suc i) xs all in
-    let most : slice_index xs i * 256 ^ n ≤ 255 * 256 ^ n = mul-le-mul_right (256 ^ n) (omega (arith, here)) in
-    omega (arith, most, rest)
+a_byte = record { meets = λ b text s. s.small }
 
 pub a_number : (n : ℕ) → Ensures (λ x. x < 256 ^ n) (IsNumber n)
-a_number n = record { meets = λ x text bytes s. subst (λ y. y < 256 ^ n) (sym s.value) (big_from_below n 0 text bytes) }
+a_number n = record { meets = λ x text s. s.small }
 
 pub entry_meets : {A : Type 0} (Q : A → Type 0) (table : List A) (n : ℕ) → AllOf Q table → MatchOption (slice_get table n) (Unit {0}) Q
 entry_meets Q [] n all = tt

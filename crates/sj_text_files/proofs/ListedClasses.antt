@@ -76,4 +76,4 @@ contents_meet = behind (anything _) (λ magic k. behind (anything _) (λ version
 
 pub file_is_listed : EachFileIsListed
 unfolding FileIs
-file_is_listed bytes class below is = contents_meet.meets class bytes (record { at = below }) is
+file_is_listed bytes class is = contents_meet.meets class bytes is

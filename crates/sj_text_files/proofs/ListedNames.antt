@@ -101,11 +101,6 @@ pub an_array_reference : (names : List (List ℕ)) → AllOf IsUtf8 names → En
 unfolding refs.IsArrayReference
 an_array_reference names utf8 = behind (anything IsByte) (λ code k. behind (anything (Tested (code == 9) code)) (λ nine k. an_array names utf8))
 
--- a reference with its spelling
-pub record IsTextReference (reference : TypeRef) : Type 0 where
-  pub is : IsReference reference
-  pub utf8 : IsUtf8 (spelled reference)
-
 -- the same of one that is a parameter's
 pub record IsTextParameter (reference : TypeRef) : Type 0 where
   pub is : IsParameter reference

@@ -13,6 +13,6 @@ pub listed_names_its_files : EachListedNamesItsFiles
 listed_names_its_files class text lists = subst NamesItsFiles (listed_is_bare class text lists) (bare_names_its_files class)
 
 pub listed_is_made : EachListedIsMade
-listed_is_made class text file lists bytes is_file =
-    let back = read_back units.reads_what_is_written class (record { file = file; bytes = bytes; is_file = is_file }) in
+listed_is_made class text file lists is_file =
+    let back = read_back units.reads_what_is_written class (record { file = file; is_file = is_file }) in
     (_, back.is_file, bare_again back.number (tables_of (class_fields class)).files class ∙ listed_is_bare class text lists)

@@ -1,5 +1,5 @@
 -- Class files and listings.
-use Rattle.std.specs.Prelude.{◌≡◌, ℕ, ◌<◌, List, All}
+use Rattle.std.specs.Prelude.{◌≡◌, ℕ, List}
 use Rattle.sj_trees.specs.declared.classes.ClassDef.{ClassDef}
 use Rattle.sj_read_spec.specs.Files.{FileIs}
 use Rattle.sj_text_spec.specs.Rules.{HasListing, bare}
@@ -7,12 +7,9 @@ use Rattle.sj_text_spec.specs.Spelling.{Lists}
 use Rattle.sj_write_spec.specs.Classes.{NamesItsFiles}
 use Rattle.sj_write_spec.specs.Written.{written_class}
 
-abbrev pub AreBytes : List ℕ → Type 0
-AreBytes bytes = All (λ b. b < 256) bytes
-
 -- the class of a file has a listing
 abbrev pub EachFileIsListed : Type 0
-EachFileIsListed = (bytes : List ℕ) (class : ClassDef) → AreBytes bytes → FileIs bytes class → HasListing class
+EachFileIsListed = (bytes : List ℕ) (class : ClassDef) → FileIs bytes class → HasListing class
 
 -- a listing is that of a class without positions, source files and hashes
 abbrev pub EachListedIsBare : Type 0
@@ -24,4 +21,4 @@ EachListedNamesItsFiles = (class : ClassDef) (text : List ℕ) → Lists class t
 
 -- a class that is listed and has a file is written as the file of a class with the same listing
 abbrev pub EachListedIsMade : Type 0
-EachListedIsMade = (class : ClassDef) (text file : List ℕ) → Lists class text → AreBytes file → FileIs file class → (other : ClassDef) × FileIs (written_class class) other × (bare other ≡ class)
+EachListedIsMade = (class : ClassDef) (text file : List ℕ) → Lists class text → FileIs file class → (other : ClassDef) × FileIs (written_class class) other × (bare other ≡ class)

@@ -91,7 +91,7 @@ one_byte code h = ap (λ (b : ℕ). b ∷ []) (rw-byte code h)
 
 -- one byte
 pub carried_byte : (code : ℕ) → code < 256 → IsByte code (big_bytes 1 code)
-carried_byte code h = record { byte = one_byte code h }
+carried_byte code h = record { byte = one_byte code h; small = h }
 
 pub byte_carried : {old : Tables} (code : ℕ) → code < 256 → Carried old (λ new text. IsByte code text) (λ new. byte code) (byte code)
 byte_carried code h = record { inside = omega arith; same = λ new cover. refl; again = λ new fit cover. carried_byte code h }
@@ -100,7 +100,7 @@ pub carried_code : {A : Type 0} {old : Tables} (meaning : ℕ → Option A) (cod
 carried_code meaning code x h e = record {
   inside = omega arith;
   same = λ new cover. refl;
-  again = λ new fit cover. record { value = code; front = big_bytes 1 code; back = []; first = record { byte = one_byte code h }; second = subst (λ o. Found o x []) (sym e) (record { same = refl; empty = refl }); parts = sym (append-nil (big_bytes 1 code)) };
+  again = λ new fit cover. record { value = code; front = big_bytes 1 code; back = []; first = carried_byte code h; second = subst (λ o. Found o x []) (sym e) (record { same = refl; empty = refl }); parts = sym (append-nil (big_bytes 1 code)) };
 }
 
 pub found_is : {A : Type 0} (o : Option A) (x : A) (text : List ℕ) → Found o x text → o ≡ Some x

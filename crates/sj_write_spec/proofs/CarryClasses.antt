@@ -25,46 +25,46 @@ use Rattle.sj_write_spec.specs.Trees.{term_fields}
 use Rattle.sj_write_spec.specs.Classes.{kind_code, param_fields, field_fields, method_fields, members_fields, class_fields}
 use Rattle.sj_write_spec.specs.Renumbered.{renumbered_position, renumbered, renumbered_field, renumbered_method, renumbered_class}
 use Rattle.sj_write_spec.specs.Written.{spelled}
-use Rattle.sj_write_spec.proofs.Bytes.{AreBytes, step, number_fits, number_spelled}
+use Rattle.sj_write_spec.proofs.Bytes.{step, number_spelled}
 use Rattle.sj_write_spec.proofs.Carry.{Carried, join, last, value, carried_code, carried_name, carried_method}
 use Rattle.sj_write_spec.proofs.CarryLists.{carried_list, carried_mark, carried_option, carried_bytes}
 use Rattle.sj_write_spec.proofs.CarryNames.{carried_type}
 use Rattle.sj_write_spec.proofs.CarryTrees.{number, Known, carried_position, carried_namespace, carried_tree, length_map}
 
-carried_param : (old : Tables) (p : ParamDef) (text : List ℕ) → IsParam old p text → AreBytes text → Carried old (λ new text. IsParam new p text) (λ new. param_fields p) (param_fields p)
+carried_param : (old : Tables) (p : ParamDef) (text : List ℕ) → IsParam old p text → Carried old (λ new text. IsParam new p text) (λ new. param_fields p) (param_fields p)
 unfolding IsParam
-carried_param old p text h b =
-    step h b (λ name f1 k1 h1 b1 h b. step h b (λ mutable f2 k2 h2 b2 h b. step h b (λ tpe f3 k3 h3 b3 h b.
+carried_param old p text h =
+    step h (λ name f1 k1 h1 h. step h (λ mutable f2 k2 h2 h. step h (λ tpe f3 k3 h3 h.
     subst (λ (p : ParamDef). Carried old (λ new text. IsParam new p text) (λ new. param_fields p) (param_fields p)) (sym h.same)
-    (join _ (carried_name is_plain_name old name _ h1) (join _ (carried_mark mutable) (last _ (carried_type old tpe _ h3 b3)))))))
+    (join _ (carried_name is_plain_name old name _ h1) (join _ (carried_mark mutable) (last _ (carried_type old tpe _ h3)))))))
 
-carried_params : (old : Tables) (ps : List ParamDef) (text : List ℕ) → IsCounted (IsParam old) ps text → AreBytes text → Carried old (λ new text. IsCounted (IsParam new) ps text) (λ new. list_fields param_fields ps) (list_fields param_fields ps)
-carried_params old ps text h b =
-    let one = carried_list old (IsParam old) (λ new. IsParam new) (λ new p. p) (λ new. param_fields) param_fields (carried_param old) ps text h b in
+carried_params : (old : Tables) (ps : List ParamDef) (text : List ℕ) → IsCounted (IsParam old) ps text → Carried old (λ new text. IsCounted (IsParam new) ps text) (λ new. list_fields param_fields ps) (list_fields param_fields ps)
+carried_params old ps text h =
+    let one = carried_list old (IsParam old) (λ new. IsParam new) (λ new p. p) (λ new. param_fields) param_fields (carried_param old) ps text h in
     subst (λ (qs : List ParamDef). Carried old (λ new text. IsCounted (IsParam new) qs text) (λ new. count (length ps) ▸ each param_fields qs) (list_fields param_fields ps)) (map-id ps) one
 
-carried_names : (old : Tables) (names : List (List ℕ)) (text : List ℕ) → IsCounted (IsName is_class_name old.names) names text → AreBytes text → Carried old (λ new text. IsCounted (IsName is_class_name new.names) names text) (λ new. list_fields name_field names) (list_fields name_field names)
-carried_names old names text h b =
-    let one = carried_list old (IsName is_class_name old.names) (λ new. IsName is_class_name new.names) (λ new x. x) (λ new. name_field) name_field (λ x text h b. carried_name is_class_name old x text h) names text h b in
+carried_names : (old : Tables) (names : List (List ℕ)) (text : List ℕ) → IsCounted (IsName is_class_name old.names) names text → Carried old (λ new text. IsCounted (IsName is_class_name new.names) names text) (λ new. list_fields name_field names) (list_fields name_field names)
+carried_names old names text h =
+    let one = carried_list old (IsName is_class_name old.names) (λ new. IsName is_class_name new.names) (λ new x. x) (λ new. name_field) name_field (λ x text h. carried_name is_class_name old x text h) names text h in
     subst (λ (xs : List (List ℕ)). Carried old (λ new text. IsCounted (IsName is_class_name new.names) xs text) (λ new. count (length names) ▸ each name_field xs) (list_fields name_field names)) (map-id names) one
 
 option_map_id : {A : Type 0} (o : Option A) → option_map (λ x. x) o ≡ o
 option_map_id None = refl
 option_map_id (Some x) = refl
 
-carried_superclass : (old : Tables) (o : Option (List ℕ)) (text : List ℕ) → IsOption (IsName is_class_name old.names) o text → AreBytes text → Carried old (λ new text. IsOption (IsName is_class_name new.names) o text) (λ new. option_fields name_field o) (option_fields name_field o)
-carried_superclass old o text h b =
-    let one = carried_option old (IsName is_class_name old.names) (λ new. IsName is_class_name new.names) (λ new x. x) (λ new. name_field) name_field (λ x text h b. carried_name is_class_name old x text h) o text h b in
+carried_superclass : (old : Tables) (o : Option (List ℕ)) (text : List ℕ) → IsOption (IsName is_class_name old.names) o text → Carried old (λ new text. IsOption (IsName is_class_name new.names) o text) (λ new. option_fields name_field o) (option_fields name_field o)
+carried_superclass old o text h =
+    let one = carried_option old (IsName is_class_name old.names) (λ new. IsName is_class_name new.names) (λ new x. x) (λ new. name_field) name_field (λ x text h. carried_name is_class_name old x text h) o text h in
     subst (λ (p : Option (List ℕ)). Carried old (λ new text. IsOption (IsName is_class_name new.names) p text) (λ new. option_fields name_field p) (option_fields name_field o)) (option_map_id o) one
 
-carried_hash : (old : Tables) (o : Option (List ℕ)) (text : List ℕ) → IsOption (IsBytes 20) o text → AreBytes text → Carried old (λ new text. IsOption (IsBytes 20) o text) (λ new. option_fields plain_field o) (option_fields plain_field o)
-carried_hash old o text h b =
-    let one = carried_option old (IsBytes 20) (λ new. IsBytes 20) (λ new x. x) (λ new. plain_field) plain_field (λ x text h b. carried_bytes old 20 x text h b) o text h b in
+carried_hash : (old : Tables) (o : Option (List ℕ)) (text : List ℕ) → IsOption (IsBytes 20) o text → Carried old (λ new text. IsOption (IsBytes 20) o text) (λ new. option_fields plain_field o) (option_fields plain_field o)
+carried_hash old o text h =
+    let one = carried_option old (IsBytes 20) (λ new. IsBytes 20) (λ new x. x) (λ new. plain_field) plain_field (λ x text h. carried_bytes old 20 x text h) o text h in
     subst (λ (p : Option (List ℕ)). Carried old (λ new text. IsOption (IsBytes 20) p text) (λ new. option_fields plain_field p) (option_fields plain_field o)) (option_map_id o) one
 
-carried_body : (old : Tables) → Known old → (y : Term) (text : List ℕ) → IsBody old y text → AreBytes text → Carried old (λ new text. IsBody new (renumbered (number old new) y) text) (λ new. term_fields new.files (renumbered (number old new) y)) (term_fields old.files y)
+carried_body : (old : Tables) → Known old → (y : Term) (text : List ℕ) → IsBody old y text → Carried old (λ new text. IsBody new (renumbered (number old new) y) text) (λ new. term_fields new.files (renumbered (number old new) y)) (term_fields old.files y)
 unfolding IsBody
-carried_body old known y text h b = carried_tree old known 200 y text h b
+carried_body old known y text h = carried_tree old known 200 y text h
 
 -- ---- members
 
@@ -82,22 +82,22 @@ tagged_method : (old : Tables) (d : MethodDef) (fs' : Tables → Fields) (fs : F
 unfolding IsMember
 tagged_method old d fs' fs one = join (λ new. tags.Method) (carried_code (among member_tags) 2 tags.Method (omega arith) refl) (last (λ new. renumbered_method (number old new) d) one)
 
-carried_field : (old : Tables) (d : FieldDef) (text : List ℕ) → IsField old d text → AreBytes text → FieldCarried old d
+carried_field : (old : Tables) (d : FieldDef) (text : List ℕ) → IsField old d text → FieldCarried old d
 unfolding IsField
-carried_field old d text h b =
-    step h b (λ pos f1 k1 h1 b1 h b. step h b (λ is_static f2 k2 h2 b2 h b. step h b (λ mutable f3 k3 h3 b3 h b. step h b (λ name f4 k4 h4 b4 h b. step h b (λ tpe f5 k5 h5 b5 h b.
+carried_field old d text h =
+    step h (λ pos f1 k1 h1 h. step h (λ is_static f2 k2 h2 h. step h (λ mutable f3 k3 h3 h. step h (λ name f4 k4 h4 h. step h (λ tpe f5 k5 h5 h.
     subst (FieldCarried old) (sym h.same)
     (tagged_field old (record { pos = pos; is_static = is_static; mutable = mutable; name = name; tpe = tpe }) _ _
-    (join _ (carried_position old pos _ h1 b1) (join _ (carried_mark is_static) (join _ (carried_mark mutable) (join _ (carried_name is_plain_name old name _ h4) (last _ (carried_type old tpe _ h5 b5))))))))))))
+    (join _ (carried_position old pos _ h1) (join _ (carried_mark is_static) (join _ (carried_mark mutable) (join _ (carried_name is_plain_name old name _ h4) (last _ (carried_type old tpe _ h5))))))))))))
 
-carried_method_def : (old : Tables) → Known old → (d : MethodDef) (text : List ℕ) → IsMethod old d text → AreBytes text → MethodCarried old d
+carried_method_def : (old : Tables) → Known old → (d : MethodDef) (text : List ℕ) → IsMethod old d text → MethodCarried old d
 unfolding IsMethod
-carried_method_def old known d text h b =
-    step h b (λ pos f1 k1 h1 b1 h b. step h b (λ namespace f2 k2 h2 b2 h b. step h b (λ name f3 k3 h3 b3 h b. step h b (λ params f4 k4 h4 b4 h b. step h b (λ result f5 k5 h5 b5 h b. step h b (λ body f6 k6 h6 b6 h b. step h b (λ hash f7 k7 h7 b7 h b.
+carried_method_def old known d text h =
+    step h (λ pos f1 k1 h1 h. step h (λ namespace f2 k2 h2 h. step h (λ name f3 k3 h3 h. step h (λ params f4 k4 h4 h. step h (λ result f5 k5 h5 h. step h (λ body f6 k6 h6 h. step h (λ hash f7 k7 h7 h.
     subst (MethodCarried old) (sym h.same)
     (tagged_method old (record { pos = pos; namespace = namespace; name = name; params = params; result = result; body = body; hash = hash }) _ _
-    (join _ (carried_position old pos _ h1 b1) (join _ (carried_namespace namespace) (join _ (carried_method old name _ known h3) (join _ (carried_params old params _ h4 b4) (join _ (carried_type old result _ h5 b5)
-    (join _ (carried_option old (IsBody old) (λ new. IsBody new) (λ new. renumbered (number old new)) (λ new. term_fields new.files) (term_fields old.files) (carried_body old known) body _ h6 b6) (last _ (carried_hash old hash _ h7 b7))))))))))))))))
+    (join _ (carried_position old pos _ h1) (join _ (carried_namespace namespace) (join _ (carried_method old name _ known h3) (join _ (carried_params old params _ h4) (join _ (carried_type old result _ h5)
+    (join _ (carried_option old (IsBody old) (λ new. IsBody new) (λ new. renumbered (number old new)) (λ new. term_fields new.files) (term_fields old.files) (carried_body old known) body _ h6) (last _ (carried_hash old hash _ h7))))))))))))))))
 
 -- the fields and the methods among members, each list by itself
 record MembersCarried (old : Tables) (ms : List MemberDef) : Type 0 where
@@ -117,21 +117,21 @@ no_member : (old : Tables) → MembersCarried old []
 unfolding IsEach
 no_member old = record { count_is = omega arith; fields = value; methods = value }
 
-one_member_of : (old : Tables) → Known old → (tag : MemberTag) (m : MemberDef) (ms : List MemberDef) (text : List ℕ) → IsMemberOf old tag m text → AreBytes text → MembersCarried old ms → MembersCarried old (m ∷ ms)
-one_member_of old known tags.Field m ms text h b rest = step h b (λ d f1 k1 h1 b1 h b. subst (λ (m : MemberDef). MembersCarried old (m ∷ ms)) (sym h.same) (one_field old d ms (carried_field old d _ h1 b1) rest))
-one_member_of old known tags.Method m ms text h b rest = step h b (λ d f1 k1 h1 b1 h b. subst (λ (m : MemberDef). MembersCarried old (m ∷ ms)) (sym h.same) (one_method old d ms (carried_method_def old known d _ h1 b1) rest))
+one_member_of : (old : Tables) → Known old → (tag : MemberTag) (m : MemberDef) (ms : List MemberDef) (text : List ℕ) → IsMemberOf old tag m text → MembersCarried old ms → MembersCarried old (m ∷ ms)
+one_member_of old known tags.Field m ms text h rest = step h (λ d f1 k1 h1 h. subst (λ (m : MemberDef). MembersCarried old (m ∷ ms)) (sym h.same) (one_field old d ms (carried_field old d _ h1) rest))
+one_member_of old known tags.Method m ms text h rest = step h (λ d f1 k1 h1 h. subst (λ (m : MemberDef). MembersCarried old (m ∷ ms)) (sym h.same) (one_method old d ms (carried_method_def old known d _ h1) rest))
 
-one_member : (old : Tables) → Known old → (m : MemberDef) (ms : List MemberDef) (text : List ℕ) → IsMember old m text → AreBytes text → MembersCarried old ms → MembersCarried old (m ∷ ms)
+one_member : (old : Tables) → Known old → (m : MemberDef) (ms : List MemberDef) (text : List ℕ) → IsMember old m text → MembersCarried old ms → MembersCarried old (m ∷ ms)
 unfolding IsMember
-one_member old known m ms text h b rest = step h b (λ tag f1 k1 h1 b1 h b. one_member_of old known tag m ms _ h b rest)
+one_member old known m ms text h rest = step h (λ tag f1 k1 h1 h. one_member_of old known tag m ms _ h rest)
 
-carried_members : (old : Tables) → Known old → (n : ℕ) (ms : List MemberDef) (text : List ℕ) → IsEach (IsMember old) n ms text → AreBytes text → (length ms ≡ n) × MembersCarried old ms
+carried_members : (old : Tables) → Known old → (n : ℕ) (ms : List MemberDef) (text : List ℕ) → IsEach (IsMember old) n ms text → (length ms ≡ n) × MembersCarried old ms
 unfolding IsEach
-carried_members old known zero ms text h b = subst (λ (ns : List MemberDef). (length ns ≡ 0) × MembersCarried old ns) (sym h.same) (refl, no_member old)
-carried_members old known (suc n) ms text h b =
-    step h b (λ m f1 k1 h1 b1 h b. step h b (λ rest f2 k2 h2 b2 h b.
-    let others = carried_members old known n rest _ h2 b2 in
-    subst (λ (ns : List MemberDef). (length ns ≡ suc n) × MembersCarried old ns) (sym h.same) (ap suc others.0, one_member old known m rest _ h1 b1 others.1)))
+carried_members old known zero ms text h = subst (λ (ns : List MemberDef). (length ns ≡ 0) × MembersCarried old ns) (sym h.same) (refl, no_member old)
+carried_members old known (suc n) ms text h =
+    step h (λ m f1 k1 h1 h. step h (λ rest f2 k2 h2 h.
+    let others = carried_members old known n rest _ h2 in
+    subst (λ (ns : List MemberDef). (length ns ≡ suc n) × MembersCarried old ns) (sym h.same) (ap suc others.0, one_member old known m rest _ h1 others.1)))
 
 each_joined : {A : Type 0} (P : Spelling A) (n m : ℕ) (xs ys : List A) (front back : List ℕ) → IsEach P n xs front → IsEach P m ys back → IsEach P (n + m) (xs ++ ys) (front ++ back)
 unfolding IsEach
@@ -201,12 +201,12 @@ abbrev pub ClassCarried : Tables → ClassDef → Type 0
 ClassCarried old c = Carried old (λ new text. IsClass new (renumbered_class (number old new) new.files c) text) (λ new. class_fields (renumbered_class (number old new) new.files c)) (class_fields c)
 
 -- a class of the old tables; its source files are theirs
-pub carried_class : (old : Tables) → Known old → (c : ClassDef) (text : List ℕ) → IsClass old c text → AreBytes text → (c.files ≡ old.files) × ClassCarried old c
+pub carried_class : (old : Tables) → Known old → (c : ClassDef) (text : List ℕ) → IsClass old c text → (c.files ≡ old.files) × ClassCarried old c
 unfolding IsClass
-carried_class old known c text h b =
-    step h b (λ pos f1 k1 h1 b1 h b. step h b (λ name f2 k2 h2 b2 h b. step h b (λ kind f3 k3 h3 b3 h b. step h b (λ superclass f4 k4 h4 b4 h b. step h b (λ interfaces f5 k5 h5 b5 h b. step h b (λ ms f6 k6 h6 b6 h b.
-    step h6 b6 (λ n f7 k7 h7 b7 h8 b8.
-    let all = carried_members old known n ms _ h8 b8 in
-    let few : length ms < 256 ^ 4 = subst (λ (m : ℕ). m < 256 ^ 4) (sym all.0) (number_fits 4 n _ h7 b7) in
+carried_class old known c text h =
+    step h (λ pos f1 k1 h1 h. step h (λ name f2 k2 h2 h. step h (λ kind f3 k3 h3 h. step h (λ superclass f4 k4 h4 h. step h (λ interfaces f5 k5 h5 h. step h (λ ms f6 k6 h6 h.
+    step h6 (λ n f7 k7 h7 h8.
+    let all = carried_members old known n ms _ h8 in
+    let few : length ms < 256 ^ 4 = subst (λ (m : ℕ). m < 256 ^ 4) (sym all.0) h7.small in
     subst (λ (c : ClassDef). (c.files ≡ old.files) × ClassCarried old c) (sym h.same)
-    (refl, join _ (carried_position old pos _ h1 b1) (join _ (carried_name is_class_name old name _ h2) (join _ (carried_kind kind) (join _ (carried_superclass old superclass _ h4 b4) (join _ (carried_names old interfaces _ h5 b5) (carried_rest old pos name kind superclass interfaces ms few all.1)))))))))))))
+    (refl, join _ (carried_position old pos _ h1) (join _ (carried_name is_class_name old name _ h2) (join _ (carried_kind kind) (join _ (carried_superclass old superclass _ h4) (join _ (carried_names old interfaces _ h5) (carried_rest old pos name kind superclass interfaces ms few all.1)))))))))))))

@@ -20,13 +20,9 @@ use Rattle.sj_read_spec.specs.Types.{IsTypeOf, IsType}
 use Rattle.sj_write_spec.specs.Fields.{Fields, nothing, name_field, ◌▸◌, byte, count, each, list_fields}
 use Rattle.sj_write_spec.specs.References.{base_fields, array_fields, reference_fields, result_fields, method_name_fields, type_fields}
 use Rattle.sj_write_spec.specs.Written.{spelled}
-use Rattle.sj_write_spec.proofs.Bytes.{AreBytes, step}
+use Rattle.sj_write_spec.proofs.Bytes.{step}
 use Rattle.sj_write_spec.proofs.Carry.{Carried, join, last, last_of, carried_name, found_is, tested_is, carried_byte, byte_carried}
 use Rattle.sj_write_spec.proofs.CarryLists.{as_value, carried_list}
-
--- a byte, and a test that it passed
-pub byte_fits : (code : ℕ) (text : List ℕ) → IsByte code text → AreBytes text → code < 256
-byte_fits code text h b = (subst AreBytes h.byte b).0
 
 cond_cases : {A : Type 0} (b : Bool) (x : A) (o : Option A) (r : A) → cond b (Some x) o ≡ Some r → (x ≡ r) ⊎ (o ≡ Some r)
 cond_cases true x o r e = inl (some_is x r e)
@@ -81,39 +77,39 @@ plain_base_carried old base p =
       again = λ new fit cover. record { value = p.code; front = spelled new (byte p.code); back = []; first = carried_byte p.code p.small; second = subst (λ (b : Bool). chosen b (IsName is_class_name new.names then λ c. IsValue (BaseRef.Class c)) (Found (plain_base p.code)) base []) (sym p.no_class) (subst (λ (o : Option BaseRef). Found o base []) (sym p.is_base) (record { same = refl; empty = refl })); parts = sym (append-nil (spelled new (byte p.code))) };
     })
 
-base_by : (old : Tables) (base : BaseRef) (code : ℕ) (b : Bool) (text : List ℕ) → chosen b (IsName is_class_name old.names then λ c. IsValue (BaseRef.Class c)) (Found (plain_base code)) base text → AreBytes text → CarriedBase old base
-base_by old base code true text h b =
-    step h b (λ c front back p bp h b. as_value (λ base new text. IsBase new.names base text) (λ base new. base_fields base) base_fields (BaseRef.Class c) base h.same
+base_by : (old : Tables) (base : BaseRef) (code : ℕ) (b : Bool) (text : List ℕ) → chosen b (IsName is_class_name old.names then λ c. IsValue (BaseRef.Class c)) (Found (plain_base code)) base text → CarriedBase old base
+base_by old base code true text h =
+    step h (λ c front back p h. as_value (λ base new text. IsBase new.names base text) (λ base new. base_fields base) base_fields (BaseRef.Class c) base h.same
     (join (λ new. 8) (byte_carried 8 (omega arith)) (last _ (carried_name is_class_name old c _ p))))
-base_by old base code false text h b = plain_base_carried old base (plain_base_found code base (found_is (plain_base code) base text h))
+base_by old base code false text h = plain_base_carried old base (plain_base_found code base (found_is (plain_base code) base text h))
 
-pub carried_base : (old : Tables) (base : BaseRef) (text : List ℕ) → IsBase old.names base text → AreBytes text → CarriedBase old base
-carried_base old base text h b = step h b (λ code front back p bp h b. base_by old base code (eqb code 8) back h b)
+pub carried_base : (old : Tables) (base : BaseRef) (text : List ℕ) → IsBase old.names base text → CarriedBase old base
+carried_base old base text h = step h (λ code front back p h. base_by old base code (eqb code 8) back h)
 
 -- ---- arrays
 
 dimensions_carried : {old : Tables} (n : ℕ) → n < 256 → ltb 0 n ≡ true → Carried old (λ new text. (IsByte then λ n. Tested (ltb 0 n) n) n text) (λ new. byte n) (byte n)
 dimensions_carried n small some = last_of (λ new. n) (byte_carried n small) (λ new. subst (λ (b : Bool). Tested b n n []) (sym some) (record { same = refl; empty = refl }))
 
-carried_dimensions : (old : Tables) (n : ℕ) (text : List ℕ) → (IsByte then λ n. Tested (ltb 0 n) n) n text → AreBytes text → Carried old (λ new text. (IsByte then λ n. Tested (ltb 0 n) n) n text) (λ new. byte n) (byte n)
-carried_dimensions old n text h b =
-    step h b (λ m front back p bp h b.
+carried_dimensions : (old : Tables) (n : ℕ) (text : List ℕ) → (IsByte then λ n. Tested (ltb 0 n) n) n text → Carried old (λ new text. (IsByte then λ n. Tested (ltb 0 n) n) n text) (λ new. byte n) (byte n)
+carried_dimensions old n text h =
+    step h (λ m front back p h.
     let test = tested_is (ltb 0 m) m n back h in
-    let small : n < 256 = subst (λ (k : ℕ). k < 256) (sym test.1) (byte_fits m front p bp) in
+    let small : n < 256 = subst (λ (k : ℕ). k < 256) (sym test.1) p.small in
     dimensions_carried n small (ap (ltb 0) test.1 ∙ test.0))
 
-pub carried_array : (old : Tables) (a : ArrayRef) (text : List ℕ) → IsArray old.names a text → AreBytes text → Carried old (λ new text. IsArray new.names a text) (λ new. byte a.dimensions ▸ base_fields a.base) (byte a.dimensions ▸ base_fields a.base)
+pub carried_array : (old : Tables) (a : ArrayRef) (text : List ℕ) → IsArray old.names a text → Carried old (λ new text. IsArray new.names a text) (λ new. byte a.dimensions ▸ base_fields a.base) (byte a.dimensions ▸ base_fields a.base)
 unfolding IsArray
-carried_array old a text h b =
-    step h b (λ n front back p bp h b. step h b (λ base front back q bq h b.
+carried_array old a text h =
+    step h (λ n front back p h. step h (λ base front back q h.
     as_value (λ a new text. IsArray new.names a text) (λ a new. byte a.dimensions ▸ base_fields a.base) (λ a. byte a.dimensions ▸ base_fields a.base) (record { dimensions = n; base = base }) a h.same
-    (join (λ new. n) (carried_dimensions old n _ p bp) (last (λ new. base) (carried_base old base _ q bq)))))
+    (join (λ new. n) (carried_dimensions old n _ p) (last (λ new. base) (carried_base old base _ q)))))
 
-pub carried_array_reference : (old : Tables) (a : ArrayRef) (text : List ℕ) → IsArrayReference old.names a text → AreBytes text → Carried old (λ new text. IsArrayReference new.names a text) (λ new. array_fields a) (array_fields a)
+pub carried_array_reference : (old : Tables) (a : ArrayRef) (text : List ℕ) → IsArrayReference old.names a text → Carried old (λ new text. IsArrayReference new.names a text) (λ new. array_fields a) (array_fields a)
 unfolding IsArrayReference
-carried_array_reference old a text h b =
-    step h b (λ code front back p bp h b. step h b (λ nine front back q bq h b.
-    join (λ new. 9) (byte_carried 9 (omega arith)) (nine_then old a (carried_array old a _ h b))))
+carried_array_reference old a text h =
+    step h (λ code front back p h. step h (λ nine front back q h.
+    join (λ new. 9) (byte_carried 9 (omega arith)) (nine_then old a (carried_array old a _ h))))
   where
     nine_then : (old : Tables) (a : ArrayRef) → Carried old (λ new text. IsArray new.names a text) (λ new. byte a.dimensions ▸ base_fields a.base) (byte a.dimensions ▸ base_fields a.base)
         → Carried old (λ new text. (◌then◌ {A = ℕ} (Tested (eqb 9 9) 9) (λ nine. IsArray new.names)) a text) (λ new. byte a.dimensions ▸ base_fields a.base) (byte a.dimensions ▸ base_fields a.base)
@@ -189,10 +185,10 @@ reference_plain old r p = record {
   };
 }
 
-reference_by : (old : Tables) (r : TypeRef) (code : ℕ) (b c : Bool) (text : List ℕ) → chosen b (IsName is_class_name old.names then λ c. IsValue (TypeRef.Class c)) (chosen c (IsArray old.names then λ a. IsValue (TypeRef.Array a)) (Found (plain_reference code))) r text → AreBytes text → CarriedReference old r
+reference_by : (old : Tables) (r : TypeRef) (code : ℕ) (b c : Bool) (text : List ℕ) → chosen b (IsName is_class_name old.names then λ c. IsValue (TypeRef.Class c)) (chosen c (IsArray old.names then λ a. IsValue (TypeRef.Array a)) (Found (plain_reference code))) r text → CarriedReference old r
 unfolding IsReference
-reference_by old r code true c text h b =
-    step h b (λ name front back p bp h b. subst (CarriedReference old) (sym h.same) (record {
+reference_by old r code true c text h =
+    step h (λ name front back p h. subst (CarriedReference old) (sym h.same) (record {
       code = 8;
       none = refl;
       void = refl;
@@ -201,21 +197,21 @@ reference_by old r code true c text h b =
       fields = inl refl;
       carried = last (λ new. name) (carried_name is_class_name old name _ p);
     }))
-reference_by old r code false true text h b =
-    step h b (λ a front back p bp h b. subst (CarriedReference old) (sym h.same) (record {
+reference_by old r code false true text h =
+    step h (λ a front back p h. subst (CarriedReference old) (sym h.same) (record {
       code = 9;
       none = refl;
       void = refl;
       small = omega arith;
       behind = byte a.dimensions ▸ base_fields a.base;
       fields = inl refl;
-      carried = last (λ new. a) (carried_array old a _ p bp);
+      carried = last (λ new. a) (carried_array old a _ p);
     }))
-reference_by old r code false false text h b = reference_plain old r (plain_reference_found code r (found_is (plain_reference code) r text h))
+reference_by old r code false false text h = reference_plain old r (plain_reference_found code r (found_is (plain_reference code) r text h))
 
-carried_reference : (old : Tables) (r : TypeRef) (code : ℕ) (text : List ℕ) → IsReference old.names code r text → AreBytes text → CarriedReference old r
+carried_reference : (old : Tables) (r : TypeRef) (code : ℕ) (text : List ℕ) → IsReference old.names code r text → CarriedReference old r
 unfolding IsReference
-carried_reference old r code text h b = reference_by old r code (eqb code 8) (eqb code 9) text h b
+carried_reference old r code text h = reference_by old r code (eqb code 8) (eqb code 9) text h
 
 -- what is spelled by a code alone, or by a code and more
 code_and : {A : Type 0} {old : Tables} {Q : Tables → ℕ → Spelling A} (x : A) (code : ℕ) (behind fs : Fields) → code < 256 → (fs ≡ byte code ▸ behind) ⊎ ((fs ≡ byte code) × (behind ≡ nothing))
@@ -229,10 +225,10 @@ code_and {old = old} {Q = Q} x code behind fs small (inr e) one =
       again = λ new fit cover. record { value = code; front = spelled new (byte code); back = []; first = carried_byte code small; second = bare.again new fit tt; parts = sym (append-nil (spelled new (byte code))) };
     })
 
-pub carried_parameter : (old : Tables) (r : TypeRef) (text : List ℕ) → IsParameter old.names r text → AreBytes text → Carried old (λ new text. IsParameter new.names r text) (λ new. reference_fields r) (reference_fields r)
-carried_parameter old r text h b =
-    step h b (λ code front back p bp h b.
-    let one = carried_reference old r code back h b in
+pub carried_parameter : (old : Tables) (r : TypeRef) (text : List ℕ) → IsParameter old.names r text → Carried old (λ new text. IsParameter new.names r text) (λ new. reference_fields r) (reference_fields r)
+carried_parameter old r text h =
+    step h (λ code front back p h.
+    let one = carried_reference old r code back h in
     code_and {Q = λ new code. IsReference new.names code} r one.code one.behind (reference_fields r) one.small one.fields one.carried)
 
 -- ---- results
@@ -251,26 +247,26 @@ result_of_reference old r one =
 abbrev CarriedResult : Tables → Option TypeRef → Type 0
 CarriedResult old o = Carried old (λ new text. IsResult new.names o text) (λ new. result_fields o) (result_fields o)
 
-result_by : (old : Tables) (o : Option TypeRef) (code : ℕ) (b c : Bool) (text : List ℕ) → chosen b (IsValue None) (chosen c (IsValue (Some TypeRef.Void)) (IsReference old.names code then λ r. IsValue (Some r))) o text → AreBytes text → CarriedResult old o
-result_by old o code true c text h b = subst (CarriedResult old) (sym h.same) (last_of (λ new. 0) (byte_carried 0 (omega arith)) (λ new. record { same = refl; empty = refl }))
-result_by old o code false true text h b = subst (CarriedResult old) (sym h.same) (last_of (λ new. 1) (byte_carried 1 (omega arith)) (λ new. record { same = refl; empty = refl }))
-result_by old o code false false text h b = step h b (λ r front back p bp h b. subst (CarriedResult old) (sym h.same) (result_of_reference old r (carried_reference old r code _ p bp)))
+result_by : (old : Tables) (o : Option TypeRef) (code : ℕ) (b c : Bool) (text : List ℕ) → chosen b (IsValue None) (chosen c (IsValue (Some TypeRef.Void)) (IsReference old.names code then λ r. IsValue (Some r))) o text → CarriedResult old o
+result_by old o code true c text h = subst (CarriedResult old) (sym h.same) (last_of (λ new. 0) (byte_carried 0 (omega arith)) (λ new. record { same = refl; empty = refl }))
+result_by old o code false true text h = subst (CarriedResult old) (sym h.same) (last_of (λ new. 1) (byte_carried 1 (omega arith)) (λ new. record { same = refl; empty = refl }))
+result_by old o code false false text h = step h (λ r front back p h. subst (CarriedResult old) (sym h.same) (result_of_reference old r (carried_reference old r code _ p)))
 
-pub carried_result : (old : Tables) (o : Option TypeRef) (text : List ℕ) → IsResult old.names o text → AreBytes text → CarriedResult old o
-carried_result old o text h b = step h b (λ code front back p bp h b. result_by old o code (eqb code 0) (eqb code 1) back h b)
+pub carried_result : (old : Tables) (o : Option TypeRef) (text : List ℕ) → IsResult old.names o text → CarriedResult old o
+carried_result old o text h = step h (λ code front back p h. result_by old o code (eqb code 0) (eqb code 1) back h)
 
 -- ---- names of methods
 
-pub carried_method_name : (old : Tables) (m : MethodName) (text : List ℕ) → IsMethodName old.names m text → AreBytes text → Carried old (λ new text. IsMethodName new.names m text) (λ new. method_name_fields m) (method_name_fields m)
+pub carried_method_name : (old : Tables) (m : MethodName) (text : List ℕ) → IsMethodName old.names m text → Carried old (λ new text. IsMethodName new.names m text) (λ new. method_name_fields m) (method_name_fields m)
 unfolding IsMethodName
-carried_method_name old m text h b =
-    step h b (λ simple front back p bp h b. step h b (λ params front back q bq h b. step h b (λ outcome front back r br h b.
+carried_method_name old m text h =
+    step h (λ simple front back p h. step h (λ params front back q h. step h (λ outcome front back r h.
     as_value (λ m new text. IsMethodName new.names m text) (λ m new. method_name_fields m) method_name_fields (record { simple = simple; params = params; result = outcome }) m h.same
-    (join (λ new. simple) (carried_name is_simple_name old simple _ p) (join (λ new. params) (carried_params old params _ q bq) (last (λ new. outcome) (carried_result old outcome _ r br)))))))
+    (join (λ new. simple) (carried_name is_simple_name old simple _ p) (join (λ new. params) (carried_params old params _ q) (last (λ new. outcome) (carried_result old outcome _ r)))))))
   where
-    carried_params : (old : Tables) (params : List TypeRef) (text : List ℕ) → IsCounted (IsParameter old.names) params text → AreBytes text → Carried old (λ new text. IsCounted (IsParameter new.names) params text) (λ new. list_fields reference_fields params) (list_fields reference_fields params)
-    carried_params old params text h b =
-        let one = carried_list old (IsParameter old.names) (λ new. IsParameter new.names) (λ new r. r) (λ new. reference_fields) reference_fields (λ r text h b. carried_parameter old r text h b) params text h b in
+    carried_params : (old : Tables) (params : List TypeRef) (text : List ℕ) → IsCounted (IsParameter old.names) params text → Carried old (λ new text. IsCounted (IsParameter new.names) params text) (λ new. list_fields reference_fields params) (list_fields reference_fields params)
+    carried_params old params text h =
+        let one = carried_list old (IsParameter old.names) (λ new. IsParameter new.names) (λ new r. r) (λ new. reference_fields) reference_fields (λ r text h. carried_parameter old r text h) params text h in
         subst (λ (ps : List TypeRef). Carried old (λ new text. IsCounted (IsParameter new.names) ps text) (λ new. count (length params) ▸ each reference_fields ps) (list_fields reference_fields params)) (map-id params) one
 
 -- ---- types
@@ -341,12 +337,12 @@ class_by old c false text e h =
         → Carried old (λ new text. (IsName is_class_name new.names then λ c. IsValue (class_type c)) (IrType.Class c) text) (λ new. name_field c) (name_field c)
     class_again old c e one = last_of (λ new. c) one (λ new. record { same = sym (ap (λ (b : Bool). cond b IrType.Any (IrType.Class c)) e); empty = refl })
 
-type_by : (old : Tables) (t : IrType) (code : ℕ) (b c : Bool) (text : List ℕ) → chosen b (IsName is_class_name old.names then λ c. IsValue (class_type c)) (chosen c (IsArrayReference old.names then λ a. IsValue (IrType.Array a)) (Found (among plain_types code))) t text → AreBytes text → CarriedType old t
+type_by : (old : Tables) (t : IrType) (code : ℕ) (b c : Bool) (text : List ℕ) → chosen b (IsName is_class_name old.names then λ c. IsValue (class_type c)) (chosen c (IsArrayReference old.names then λ a. IsValue (IrType.Array a)) (Found (among plain_types code))) t text → CarriedType old t
 unfolding IsTypeOf
-type_by old t code true c text h b = step h b (λ name front back p bp h b. subst (CarriedType old) (sym h.same) (class_by old name (pointwise nat_eq name (codes "java.lang.Object")) _ refl p))
-type_by old t code false true text h b = step h b (λ a front back p bp h b. subst (CarriedType old) (sym h.same) (join (λ new. 13) (byte_carried 13 (omega arith)) (last (λ new. a) (carried_array_reference old a _ p bp))))
-type_by old t code false false text h b = plain_type_carried old t (among_all IsPlainType plain_types all_plain code t (found_is (among plain_types code) t text h))
+type_by old t code true c text h = step h (λ name front back p h. subst (CarriedType old) (sym h.same) (class_by old name (pointwise nat_eq name (codes "java.lang.Object")) _ refl p))
+type_by old t code false true text h = step h (λ a front back p h. subst (CarriedType old) (sym h.same) (join (λ new. 13) (byte_carried 13 (omega arith)) (last (λ new. a) (carried_array_reference old a _ p))))
+type_by old t code false false text h = plain_type_carried old t (among_all IsPlainType plain_types all_plain code t (found_is (among plain_types code) t text h))
 
-pub carried_type : (old : Tables) (t : IrType) (text : List ℕ) → IsType old.names t text → AreBytes text → CarriedType old t
+pub carried_type : (old : Tables) (t : IrType) (text : List ℕ) → IsType old.names t text → CarriedType old t
 unfolding IsTypeOf
-carried_type old t text h b = step h b (λ code front back p bp h b. type_by old t code (eqb code 12) (eqb code 13) back h b)
+carried_type old t text h = step h (λ code front back p h. type_by old t code (eqb code 12) (eqb code 13) back h)

@@ -3,7 +3,7 @@ use Rattle.std.proofs.Common.{◌≡◌, ℕ, zero, suc, ◌<◌, ◌≤◌, ◌
 use Rattle.std.specs.Prelude.{codes}
 use Rattle.std.specs.Cmp.{IsEquivalence}
 use Rattle.std.specs.Bool.{Decides}
-use Rattle.std.specs.List.{All, flat_map, IsDistinct}
+use Rattle.std.specs.List.{flat_map, IsDistinct}
 use Rattle.std.specs.Str.{is_utf8}
 use Rattle.std.proofs.lemmas.Map.Made.{length-le_from_is_member}
 use Rattle.byteorder.specs.Endian.{big_bytes}
@@ -13,7 +13,7 @@ use Rattle.sj_names.specs.declared.method_names.MethodName.{MethodName}
 use Rattle.sj_units.specs.Modified.{modified_units, modified_bytes, ReadsWhatIsWritten}
 use Rattle.sj_trees.specs.declared.classes.ClassDef.{ClassDef}
 use Rattle.exact_place.specs.Grammar.{Spelling, ◌then◌}
-use Rattle.sj_read_spec.specs.Spelling.{Found, Tested, IsNumber, IsBytes, IsEach, IsCounted}
+use Rattle.sj_read_spec.specs.Spelling.{Found, Tested, IsEach, IsCounted}
 use Rattle.sj_read_spec.specs.Tables.{Tables, IsText, IsString}
 use Rattle.sj_read_spec.specs.References.{IsMethodName}
 use Rattle.sj_read_spec.specs.Classes.{IsClass}
@@ -25,7 +25,7 @@ use Rattle.sj_write_spec.specs.Renumbered.{renumbered_class}
 use Rattle.sj_write_spec.specs.Tables.{same_text, same_method, each_once, files_used, names_used, methods_used, strings_used, tables_of}
 use Rattle.sj_write_spec.specs.Written.{spelled, counted_bytes, table_bytes, tables_bytes, header_bytes}
 use Rattle.sj_write_spec.specs.Laws.{IsOfSomeFile, IsReadBack, IsTableOf, AreTablesOf, EntriesAreCompared}
-use Rattle.sj_write_spec.proofs.Bytes.{AreBytes, step, number_fits, number_spelled}
+use Rattle.sj_write_spec.proofs.Bytes.{step, number_spelled}
 use Rattle.sj_write_spec.proofs.Entries.{Has, has_front, has_back, has_either, has_one, entries_extend, entries_have, entries_came, entries_then, entries_distinct}
 use Rattle.sj_write_spec.proofs.Same.{text_decides, method_decides}
 use Rattle.sj_write_spec.proofs.Carry.{Carried, IsFit, Covers, HasText, HasMethod, found_is, tested_is}
@@ -43,17 +43,17 @@ module _ {A : Type 0} (same : A → A → Bool) (decides : (x y : A) → Decides
   has_tail x y xs h = has_back same decides (x ∷ []) xs y h
 
   -- each entry of a table that is spelled has what its spelling tells
-  each_tells : (P : Spelling A) (Fact : A → Type 0) → ((x : A) (text : List ℕ) → P x text → AreBytes text → Fact x) → (n : ℕ) (xs : List A) (text : List ℕ) → IsEach P n xs text → AreBytes text
+  each_tells : (P : Spelling A) (Fact : A → Type 0) → ((x : A) (text : List ℕ) → P x text → Fact x) → (n : ℕ) (xs : List A) (text : List ℕ) → IsEach P n xs text
       → (length xs ≡ n) × ((x : A) → Has same decides xs x → Fact x)
   unfolding IsEach
-  each_tells P Fact tells zero xs text h b = subst (λ (ys : List A). (length ys ≡ 0) × ((x : A) → Has same decides ys x → Fact x)) (sym h.same) (refl, λ x has. absurd (true≢false (sym has)))
-  each_tells P Fact tells (suc n) xs text h b =
-      step h b (λ y f1 k1 h1 b1 h b. step h b (λ ys f2 k2 h2 b2 h b.
-      let rest = each_tells P Fact tells n ys f2 h2 b2 in
+  each_tells P Fact tells zero xs text h = subst (λ (ys : List A). (length ys ≡ 0) × ((x : A) → Has same decides ys x → Fact x)) (sym h.same) (refl, λ x has. absurd (true≢false (sym has)))
+  each_tells P Fact tells (suc n) xs text h =
+      step h (λ y f1 k1 h1 h. step h (λ ys f2 k2 h2 h.
+      let rest = each_tells P Fact tells n ys f2 h2 in
       subst (λ (zs : List A). (length zs ≡ suc n) × ((x : A) → Has same decides zs x → Fact x)) (sym h.same) (
         ap suc rest.0,
         λ x has. elim (has_either same decides (y ∷ []) ys x has) [
-          | inl one ↦ subst Fact (sym (is_one x y one)) (tells y f1 h1 b1)
+          | inl one ↦ subst Fact (sym (is_one x y one)) (tells y f1 h1)
           | inr others ↦ rest.1 x others
         ],
       )))
@@ -256,15 +256,12 @@ covers_method t s m c u =
 
 -- ---- the tables of a file
 
-counted : (bytes : List ℕ) → length bytes < 256 ^ 4 → (IsNumber 4 then λ n. IsBytes n) bytes (counted_bytes bytes)
-counted bytes few = record { value = length bytes; front = big_bytes 4 (length bytes); back = bytes; first = number_spelled 4 (length bytes) few; second = record { count = refl; same = refl }; parts = refl }
-
-text_again : (x text : List ℕ) → IsText x text → AreBytes text → IsText x (counted_bytes x)
-text_again x text h b =
-    step h b (λ n f1 k1 h1 b1 h b. step h b (λ t f2 k2 h2 b2 h b.
+text_again : (x text : List ℕ) → IsText x text → IsText x (counted_bytes x)
+text_again x text h =
+    step h (λ n f1 k1 h1 h. step h (λ t f2 k2 h2 h.
     let test = tested_is (is_utf8 t) t x k2 h in
     let size : length x ≡ n = ap length (test.1 ∙ h2.same) ∙ h2.count in
-    let few : length x < 256 ^ 4 = subst (λ (m : ℕ). m < 256 ^ 4) (sym size) (number_fits 4 n f1 h1 b1) in
+    let few : length x < 256 ^ 4 = subst (λ (m : ℕ). m < 256 ^ 4) (sym size) h1.small in
     record {
       value = length x;
       front = big_bytes 4 (length x);
@@ -274,14 +271,14 @@ text_again x text h b =
       parts = refl;
     }))
 
-string_again : ReadsWhatIsWritten → (u text : List ℕ) → IsString u text → AreBytes text → IsString u (counted_bytes (modified_bytes u))
-string_again law u text h b =
-    step h b (λ n f1 k1 h1 b1 h b. step h b (λ t f2 k2 h2 b2 h b.
+string_again : ReadsWhatIsWritten → (u text : List ℕ) → IsString u text → IsString u (counted_bytes (modified_bytes u))
+string_again law u text h =
+    step h (λ n f1 k1 h1 h. step h (λ t f2 k2 h2 h.
     let units : modified_units t ≡ Some u = found_is (modified_units t) u k2 h in
     let back : modified_bytes u ≡ t = ((law t u).0 units).1 in
     let again : modified_units (modified_bytes u) ≡ Some u = ap modified_units back ∙ units in
     let size : length (modified_bytes u) ≡ n = ap length (back ∙ h2.same) ∙ h2.count in
-    let few : length (modified_bytes u) < 256 ^ 4 = subst (λ (m : ℕ). m < 256 ^ 4) (sym size) (number_fits 4 n f1 h1 b1) in
+    let few : length (modified_bytes u) < 256 ^ 4 = subst (λ (m : ℕ). m < 256 ^ 4) (sym size) h1.small in
     record {
       value = length (modified_bytes u);
       front = big_bytes 4 (length (modified_bytes u));
@@ -301,22 +298,22 @@ record AreOld (old : Tables) : Type 0 where
   methods : (m : MethodName) → HasMethod old.methods m → MethodNameCarried old m
   strings : (u : List ℕ) → HasText old.strings u → IsString u (counted_bytes (modified_bytes u))
 
-list_tells : {A : Type 0} (same : A → A → Bool) (decides : (x y : A) → Decides (same x y) (x ≡ y)) (P : Spelling A) (Fact : A → Type 0) → ((x : A) (text : List ℕ) → P x text → AreBytes text → Fact x) → (xs : List A) (text : List ℕ) → IsCounted P xs text → AreBytes text
+list_tells : {A : Type 0} (same : A → A → Bool) (decides : (x y : A) → Decides (same x y) (x ≡ y)) (P : Spelling A) (Fact : A → Type 0) → ((x : A) (text : List ℕ) → P x text → Fact x) → (xs : List A) (text : List ℕ) → IsCounted P xs text
     → (length xs < 256 ^ 4) × ((x : A) → Has same decides xs x → Fact x)
-list_tells same decides P Fact tells xs text h b =
-    step h b (λ n f1 k1 h1 b1 h b.
-    let all = each_tells same decides P Fact tells n xs k1 h b in
-    (subst (λ (m : ℕ). m < 256 ^ 4) (sym all.0) (number_fits 4 n f1 h1 b1), all.1))
+list_tells same decides P Fact tells xs text h =
+    step h (λ n f1 k1 h1 h.
+    let all = each_tells same decides P Fact tells n xs k1 h in
+    (subst (λ (m : ℕ). m < 256 ^ 4) (sym all.0) h1.small, all.1))
 
-are_old : ReadsWhatIsWritten → (old : Tables) (text : List ℕ) → IsTables old text → AreBytes text → AreOld old
+are_old : ReadsWhatIsWritten → (old : Tables) (text : List ℕ) → IsTables old text → AreOld old
 unfolding IsTables
-are_old law old text h b =
-    step h b (λ files f1 k1 h1 b1 h b. step h b (λ names f2 k2 h2 b2 h b. step h b (λ methods f3 k3 h3 b3 h b. step h b (λ strings f4 k4 h4 b4 h b.
+are_old law old text h =
+    step h (λ files f1 k1 h1 h. step h (λ names f2 k2 h2 h. step h (λ methods f3 k3 h3 h. step h (λ strings f4 k4 h4 h.
     let t : Tables = record { files = files; names = names; methods = methods; strings = strings } in
-    let fs = list_tells same_text text_decides IsText (λ x. IsText x (counted_bytes x)) text_again files f1 h1 b1 in
-    let ns = list_tells same_text text_decides IsText (λ x. IsText x (counted_bytes x)) text_again names f2 h2 b2 in
-    let ms = list_tells same_method method_decides (IsMethodName names) (MethodNameCarried t) (λ m text h b. carried_method_name t m text h b) methods f3 h3 b3 in
-    let ss = list_tells same_text text_decides IsString (λ u. IsString u (counted_bytes (modified_bytes u))) (string_again law) strings f4 h4 b4 in
+    let fs = list_tells same_text text_decides IsText (λ x. IsText x (counted_bytes x)) text_again files f1 h1 in
+    let ns = list_tells same_text text_decides IsText (λ x. IsText x (counted_bytes x)) text_again names f2 h2 in
+    let ms = list_tells same_method method_decides (IsMethodName names) (MethodNameCarried t) (λ m text h. carried_method_name t m text h) methods f3 h3 in
+    let ss = list_tells same_text text_decides IsString (λ u. IsString u (counted_bytes (modified_bytes u))) (string_again law) strings f4 h4 in
     subst AreOld (sym h.same) (record { fit = record { files = fs.0; names = ns.0; methods = ms.0; strings = ss.0 }; files = fs.1; names = ns.1; methods = ms.1; strings = ss.1 })))))
 
 known : (old : Tables) → AreOld old → Known old
@@ -458,20 +455,16 @@ pub record Opened (class : ClassDef) : Type 0 where
   are : AreOld old
   pub carried : ClassCarried old class
 
-pub opened : ReadsWhatIsWritten → (file : List ℕ) (class : ClassDef) → AreBytes file → FileIs file class → Opened class
+pub opened : ReadsWhatIsWritten → (file : List ℕ) (class : ClassDef) → FileIs file class → Opened class
 unfolding FileIs IsContents
-opened law file class b h =
-    step h b (λ magic f1 k1 h1 b1 h b. step h b (λ version f2 k2 h2 b2 h b. step h b (λ tables f3 k3 h3 b3 h b.
-    let are = are_old law tables f3 h3 b3 in
-    let c = carried_class tables (known tables are) class k3 h b in
+opened law file class h =
+    step h (λ magic f1 k1 h1 h. step h (λ version f2 k2 h2 h. step h (λ tables f3 k3 h3 h.
+    let are = are_old law tables f3 h3 in
+    let c = carried_class tables (known tables are) class k3 h in
     record { old = tables; files = c.0; are = are; carried = c.1 })))
 
-all_bytes : (bytes : List ℕ) → All (λ b. b < 256) bytes → AreBytes bytes
-all_bytes [] all = tt
-all_bytes (b ∷ bytes) all = (all 0 0 (omega arith), all_bytes bytes (λ k d h. all (suc k) d (omega (arith, h))))
-
 pub opened_file : ReadsWhatIsWritten → (class : ClassDef) → IsOfSomeFile class → Opened class
-opened_file law class is = opened law is.file class (all_bytes is.file is.bytes) is.is_file
+opened_file law class is = opened law is.file class is.is_file
 
 has_files : (t : Tables) (fs : Fields) → Covers t fs → HasFiles fs
 has_files t nothing c = tt

@@ -1,6 +1,6 @@
 -- What holds of the file that a class is written as.
-use Rattle.std.specs.Prelude.{◌≡◌, ◌<◌, ◌↔◌, ℕ, Bool, List, ◌++◌, IsTrue}
-use Rattle.std.specs.List.{All, list_any, IsDistinct}
+use Rattle.std.specs.Prelude.{◌≡◌, ◌↔◌, ℕ, Bool, List, ◌++◌, IsTrue}
+use Rattle.std.specs.List.{list_any, IsDistinct}
 use Rattle.sj_trees.specs.declared.classes.ClassDef.{ClassDef}
 use Rattle.sj_names.specs.declared.method_names.MethodName.{MethodName}
 use Rattle.sj_read_spec.specs.Files.{FileIs}
@@ -13,7 +13,6 @@ use Rattle.sj_write_spec.specs.Written.{written_class}
 -- the class is that of a file
 pub record IsOfSomeFile (class : ClassDef) : Type 0 where
   pub file : List ℕ
-  pub bytes : All (λ b. b < 256) file
   pub is_file : FileIs file class
 
 -- what is written is the file of a class that is the same but for the numbers of its source files, and every position names

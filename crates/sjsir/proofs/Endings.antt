@@ -11,7 +11,7 @@ use Rattle.sjsir.specs.Command.{print, make, command}
 use Rattle.sjsir.specs.Making.{IsMadeAt, output_of}
 use Rattle.sjsir.specs.declared.making.Made.{Made}
 use Rattle.sjsir.specs.declared.making.Made.TheVariants.{File, NoListing, NoFile, TooDeep}
-use Rattle.sjsir.specs.Output.{Output, IsOutput, printed, made, no_listing, no_class_file, too_deep, IsFileOf, status_of, AtEnd, IsWhole, IsFront, first_lines, IsUsageAnswer}
+use Rattle.sjsir.specs.Output.{Output, IsOutput, printed, made, no_listing, no_class_file, too_deep, IsFileOf, status_of, AtEnd, IsWhole, IsFront, first_lines}
 use Rattle.sjsir.specs.Printing.{HasPrinted, PrintsAll, all_printed, stopped, status_after}
 use Rattle.sjsir.specs.Writing.{Ends, all_written, faulted, out_of_memory}
 use Rattle.sjsir.specs.declared.answers.Status.{Status}
@@ -58,24 +58,6 @@ line_ends puts t0 t1 status s text first second (out_of_memory f) = out_of_memor
 -- a file alone that was refused
 pub put_refused : (p0 p1 : Option (List PutFile)) (text : Option (List ℕ)) (events : List Event) → Appends p0 p1 [] → WritesFront p0 p1 text text events
 put_refused p0 p1 text events f = record { front = []; rest = events; parts = refl; written = record { puts = f; text = Appends-none text } }
-
--- the cause of a fault
-pub ends_cause : (status s : Status) (whole front cause : Type 0) → (status ≡ WriteFault → ⊥) → Ends status whole front cause s → s ≡ WriteFault → cause
-ends_cause status s whole front cause not (all_written w) e = absurd (not e)
-ends_cause status s whole front cause not (faulted f x) e = x
-ends_cause status s whole front cause not (out_of_memory f) e = cc
-
--- an ending of another status is none of these
-pub ends_other : (status other s : Status) (whole front cause : Type 0) → (status ≡ other → ⊥) → (WriteFault ≡ other → ⊥) → (NoMemory ≡ other → ⊥) → Ends status whole front cause s → s ≡ other → ⊥
-ends_other status other s whole front cause a b d (all_written w) e = a e
-ends_other status other s whole front cause a b d (faulted f x) e = b e
-ends_other status other s whole front cause a b d (out_of_memory f) e = d e
-
--- a run of words that are no command
-pub usage_answer : (s : Status) (whole front cause : Type 0) → Ends Usage whole front cause s → IsUsageAnswer s
-usage_answer s whole front cause (all_written w) = tt
-usage_answer s whole front cause (faulted f x) = tt
-usage_answer s whole front cause (out_of_memory f) = tt
 
 -- ---- the lines of files
 

@@ -13,7 +13,6 @@ use Rattle.sj_text_spec.specs.Rules.{bare}
 use Rattle.sj_text_spec.specs.Spelling.{Lists}
 use Rattle.sj_text_spec.proofs.OneText.{one_listing}
 use Rattle.sj_write_spec.specs.Written.{written_class}
-use Rattle.sj_text_files.specs.Listed.{AreBytes}
 use Rattle.sj_text_files.proofs.ListedClasses.{file_is_listed}
 use Rattle.sj_text_files.proofs.MadeFiles.{listed_is_made}
 use Rattle.exact_place.specs.Place.{Place}
@@ -43,8 +42,8 @@ pub file_read : (h : Option Parts) (c : Parts) (path bs : List ℕ) (n : ℕ) �
 file_read h c path bs n e r short = whole_file (file_at c path) n bs (subst (λ (o : Option Parts). Reads o path (n + 1) bs) e r) short
 
 -- the test of a text against the listing of the class of a file
-pub tests_text : (text bytes given items : List ℕ) (class : ClassDef) (b : Bool) → b ≡ pointwise nat_eq given text → given ≡ items → AreBytes bytes → FileIs bytes class → Lists (bare class) items → IsTrue b ↔ IsFileOf text bytes
-tests_text text bytes given items class b e same all is lists = (there, back)
+pub tests_text : (text bytes given items : List ℕ) (class : ClassDef) (b : Bool) → b ≡ pointwise nat_eq given text → given ≡ items → FileIs bytes class → Lists (bare class) items → IsTrue b ↔ IsFileOf text bytes
+tests_text text bytes given items class b e same is lists = (there, back)
   where
     there : IsTrue b → IsFileOf text bytes
     there t = (class, is, subst (λ (l : List ℕ). Lists (bare class) l) (sym same ∙ (bytes_eq-Decides given text).0 (sym e ∙ t)) lists)
@@ -52,7 +51,7 @@ tests_text text bytes given items class b e same all is lists = (there, back)
     back : IsFileOf text bytes → IsTrue b
     back has =
         let class_is : has.0 ≡ class = (one_answer bytes).one_class has.0 class has.1 is in
-        let listing = file_is_listed bytes class all is in
+        let listing = file_is_listed bytes class is in
         let lists_text : Lists (bare class) text = subst (λ (d : ClassDef). Lists (bare d) text) class_is has.2 in
         e ∙ (bytes_eq-Decides given text).1 (same ∙ (one_listing class listing items).0 lists ∙ sym ((one_listing class listing text).0 lists_text))
 
@@ -61,9 +60,9 @@ pub not_its : (class : ClassDef) (text written : List ℕ) (b : Bool) → writte
 not_its class text written b is tests fails has = let both : true ≡ false = sym (tests.1 (subst (IsFileOf text) (sym is) has)) ∙ fails in cc
 
 -- where the file that the class of a listing is written as doesn't have that listing, no file has the class
-pub never_made : (class : ClassDef) (text written : List ℕ) (b : Bool) → Lists class text → written ≡ written_class class → IsTrue b ↔ IsFileOf text written → b ≡ false → (file : List ℕ) → AreBytes file → FileIs file class → ⊥
-never_made class text written b lists is tests fails file bytes has =
-    let made = listed_is_made class text file lists bytes has in
+pub never_made : (class : ClassDef) (text written : List ℕ) (b : Bool) → Lists class text → written ≡ written_class class → IsTrue b ↔ IsFileOf text written → b ≡ false → (file : List ℕ) → FileIs file class → ⊥
+never_made class text written b lists is tests fails file has =
+    let made = listed_is_made class text file lists has in
     let one : IsFileOf text written = (made.0, subst (λ (f : List ℕ). FileIs f made.0) (sym is) made.1, subst (λ (d : ClassDef). Lists d text) (sym made.2) lists) in
     let both : true ≡ false = sym (tests.1 one) ∙ fails in cc
 

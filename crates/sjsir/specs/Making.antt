@@ -6,7 +6,6 @@ use Rattle.sj_outside.specs.Contents.{Parts, file_at}
 use Rattle.sj_outside.specs.Words.{without_line_feed}
 use Rattle.sj_outside.specs.Writing.{put, line}
 use Rattle.sj_read_spec.specs.Files.{FileIs}
-use Rattle.sj_text_files.specs.Listed.{AreBytes}
 use Rattle.sj_text_spec.specs.Spelling.{Lists}
 use Rattle.sj_write_spec.specs.Written.{written_class}
 use Rattle.sj_text.specs.declared.error.ListingError.{ListingError}
@@ -22,7 +21,7 @@ abbrev pub IsMadeShallow : List ℕ → Made → Type 0
 IsMadeShallow text TooDeep = ⊥
 IsMadeShallow text (File bytes) = (class : ClassDef) × Lists class text × (bytes ≡ written_class class) × IsFileOf text bytes
 IsMadeShallow text (NoListing place) = ((class : ClassDef) → Lists class text → ⊥) × Place Lists text place
-IsMadeShallow text NoFile = (class : ClassDef) × Lists class text × (IsFileOf text (written_class class) → ⊥) × ((bytes : List ℕ) → AreBytes bytes → FileIs bytes class → ⊥)
+IsMadeShallow text NoFile = (class : ClassDef) × Lists class text × (IsFileOf text (written_class class) → ⊥) × ((bytes : List ℕ) → FileIs bytes class → ⊥)
 
 -- what the text comes to
 abbrev pub IsMade : List ℕ → Made → Type 0

@@ -10,7 +10,6 @@ use Rattle.sj_trees.specs.declared.refusals.Reserved.{Reserved}
 use Rattle.sj_trees.specs.declared.refusals.Code.{Code}
 use Rattle.sj_trees.specs.Refusals.{number_of, reserved_of, name_of}
 use Rattle.sj_read_spec.specs.Files.{FileIs, Fails}
-use Rattle.sj_text_files.specs.Listed.{AreBytes}
 use Rattle.sj_text_spec.specs.Spelling.{Lists}
 use Rattle.sj_text_spec.specs.Rules.{bare}
 use Rattle.sj_write_spec.specs.Written.{written_class}
@@ -88,7 +87,7 @@ pub data IsOutput (words : List (List ℕ)) (contents : Parts) : Output → Type
   printed : (files texts : List (List ℕ)) (all : Bool) → command words ≡ Some (print files) → AreFileLines contents files all texts → IsOutput words contents (record { status = status_of all; events = map (λ text. line text) texts })
   made : (listing out bytes : List ℕ) (class : ClassDef) → command words ≡ Some (make listing out) → file_at contents listing ≡ Some bytes → is_deep (without_line_feed bytes) ≡ false → Lists class (without_line_feed bytes) → IsFileOf (without_line_feed bytes) (written_class class) → IsOutput words contents (record { status = Done; events = put (class_put out class) ∷ [] })
   no_listing : (listing out bytes : List ℕ) (place : ℕ) → command words ≡ Some (make listing out) → file_at contents listing ≡ Some bytes → is_deep (without_line_feed bytes) ≡ false → ((class : ClassDef) → Lists class (without_line_feed bytes) → ⊥) → Place Lists (without_line_feed bytes) place → IsOutput words contents (record { status = SomeRefused; events = line (no_listing_line place) ∷ [] })
-  no_class_file : (listing out bytes : List ℕ) (class : ClassDef) → command words ≡ Some (make listing out) → file_at contents listing ≡ Some bytes → is_deep (without_line_feed bytes) ≡ false → Lists class (without_line_feed bytes) → (IsFileOf (without_line_feed bytes) (written_class class) → ⊥) → ((file : List ℕ) → AreBytes file → FileIs file class → ⊥) → IsOutput words contents (record { status = SomeRefused; events = line no_file_line ∷ [] })
+  no_class_file : (listing out bytes : List ℕ) (class : ClassDef) → command words ≡ Some (make listing out) → file_at contents listing ≡ Some bytes → is_deep (without_line_feed bytes) ≡ false → Lists class (without_line_feed bytes) → (IsFileOf (without_line_feed bytes) (written_class class) → ⊥) → ((file : List ℕ) → FileIs file class → ⊥) → IsOutput words contents (record { status = SomeRefused; events = line no_file_line ∷ [] })
   too_deep : (listing out bytes : List ℕ) → command words ≡ Some (make listing out) → file_at contents listing ≡ Some bytes → is_deep (without_line_feed bytes) ≡ true → IsOutput words contents (record { status = SomeRefused; events = line too_deep_line ∷ [] })
 
 -- ---- how a run ends

@@ -13,7 +13,6 @@ use sj_names::{Bytes, Meter, NoMemory};
 use sj_outside::{Folders, without_line_feed};
 use sj_read::read_class;
 use sj_text::{ListingError, parse_listing};
-use sj_text_files::each_is_a_byte;
 use sj_text_print::print_listing;
 use sj_trees::ReadRefusal;
 use sj_write::write_class;
@@ -93,7 +92,6 @@ fn no_listing(text: &[u8], error: ListingError) -> Result<Made, NoMemory>
 fn is_file_of(alloc: Global, bytes: &[u8], text: &[u8]) -> Result<bool, NoMemory>
     ensures { IfOk result (λ b. IsTrue b ↔ output.IsFileOf text.now bytes.now) }
 {
-    each_is_a_byte(bytes);
     let mut meter = Meter::new();
     match read_class(alloc, bytes, &mut meter) {
         Ok(class) => Ok(print_listing(alloc, &class)?.as_slice() == text),

@@ -11,7 +11,6 @@ use crate::stops::Stop;
 use sj_names::{Meter, NoMemory};
 use sj_outside::{Folders, Lines, OutsideError};
 use sj_read::read_class;
-use sj_text_files::each_is_a_byte;
 use sj_text_print::print_listing;
 use sj_trees::{Code, ReadRefusal, Reserved};
 use std::alloc::Global;
@@ -86,7 +85,6 @@ fn file_line(alloc: Global, path: &str, bytes: &[u8]) -> Result<FileLine, Stop>
     ensures line { IfOk result (λ l. output.IsFileLine path.now bytes.now l.is_listing l.text.items) }
     ensures memory { spec.IsMemoryAlone result }
 {
-    each_is_a_byte(bytes);
     let mut meter = Meter::new();
     match read_class(alloc, bytes, &mut meter) {
         Ok(class) => {

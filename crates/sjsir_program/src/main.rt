@@ -1,11 +1,8 @@
 //! The command `sjsir`, over real files and standard output.
 #![tactic(auto)]
 
-mod real_files;
-
-use real_files::RealFiles;
 use sj_names::NoMemory;
-use sj_outside::{RealFolders, RealLines, real_words};
+use sj_outside::{RealFiles, RealFolders, RealLines, real_words};
 use sjsir::{Status, run};
 use std::process::ExitCode;
 

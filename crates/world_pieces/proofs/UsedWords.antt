@@ -33,9 +33,6 @@ word_among words x name r same is =
 pub own_word : (b : Binding) (old new : List Name) → b.owner ≡ object_class → Puts (λ x. b.name ≡ x) old new → Puts (λ x. b ≡ helper x) old new
 own_word b old new is f = adds_as Contains (λ x. b.name ≡ x) (λ x. b ≡ helper x) old new (λ x e. (λ i. record { owner = is i; name = e i })) (λ x e. ap (λ (c : Binding). c.name) e) f
 
-pub no_word : (b : Binding) (old : List Name) → (b.owner ≡ object_class → ⊥) → Puts (λ x. b ≡ helper x) old old
-no_word b old other = adds_none Contains (λ x. b ≡ helper x) old (λ x e. other (ap (λ (c : Binding). c.owner) e))
-
 pub words_of_uses : (bs : List Binding) (n : ℕ) (old new : List Name) → length bs ≤ n → Puts (OfFirst bs n (λ b x. b ≡ helper x)) old new → Puts (λ x. Contains bs (helper x)) old new
 words_of_uses bs n old new over f = adds_as Contains _ (λ x. Contains bs (helper x)) old new (λ x q. subst (λ (b : Binding). Contains bs b) q.holds q.among) (λ x h. record { thing = helper x; among = h; holds = refl }) (each_ends Contains (λ b x. b ≡ helper x) bs n old new over f)
 

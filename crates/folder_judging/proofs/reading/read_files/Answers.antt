@@ -26,6 +26,6 @@ returns-in_err-push-clause-counted g c =
 
 pub loop-file-preserved : goal.loop-file-preserved
 loop-file-preserved g c = record {
-  read = subst (AreFirstRead c.args.files.now (c.loop-file.file-index + 1)) (sym c.in_ok-push.ensures.items) (more_read c.args.files.now c.loop-file.file-index c.loop-file.classes.items c.file-item.result c.in_ok-class.class c.loop-file.invariant.read (slice_get_read c.args.files.now _ c.loop-file.file-index c.file-item.result refl (omega arith) c.file-item.is) (rw c.as_slice.ensures at c.in_ok-class.ensures.read) (rw c.as_slice.ensures at c.in_ok-class.ensures.bytes));
+  read = subst (AreFirstRead c.args.files.now (c.loop-file.file-index + 1)) (sym c.in_ok-push.ensures.items) (more_read c.args.files.now c.loop-file.file-index c.loop-file.classes.items c.file-item.result c.in_ok-class.class c.loop-file.invariant.read (slice_get_read c.args.files.now _ c.loop-file.file-index c.file-item.result refl (omega arith) c.file-item.is) (rw c.as_slice.ensures at c.in_ok-class.ensures.read));
   counted = reads_on c.loop-file.file-index (g.W.Workers.meter c.args.work.now) _ _ c.loop-file.invariant.counted c.in_ok-class.ensures.counted;
 }

@@ -5,7 +5,7 @@ use Rattle.sjsir.proofs.Files.{listed_line, refused_line, fails_of}
 use Rattle.sjsir.proofs.printing.file_line.Goals as goal
 
 pub print_listing-requires : goal.print_listing-requires
-print_listing-requires c = file_is_listed c.args.bytes.now c.in-Ok.class c.each_is_a_byte.ensures c.in-Ok.ensures.answer.right
+print_listing-requires c = file_is_listed c.args.bytes.now c.in-Ok.class c.in-Ok.ensures.answer.right
 
 pub returns-in_ok-push-in-Ok-clause-line : goal.returns-in_ok-push-in-Ok-clause-line
 returns-in_ok-push-in-Ok-clause-line c = listed_line c.args.path.now c.args.bytes.now c.in_ok-text-in-Ok.text.items c.push.new.self.items c.in-Ok.class c.in-Ok.ensures.answer.right c.in_ok-text-in-Ok.ensures.listed c.in_ok-push-in-Ok.ensures.items

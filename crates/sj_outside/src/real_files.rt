@@ -1,14 +1,13 @@
 // Real files that are written.
 ghost use Rattle.std.specs.Prelude.{◌≡◌, [], ◌∷◌, None, OnOk, OnErr};
 ghost use Rattle.sj_outside.specs.declared.answers.PutFile.{PutFile};
-ghost use Rattle.sj_outside.specs.Faults.{HasCause};
+ghost use Rattle.sj_outside.specs.Faults.{HasCause, faults_after};
 ghost use Rattle.sj_outside.specs.Writing.{Appends};
 
-use sj_outside::{Outputs, OutsideError};
+use crate::real::{failure, write_file};
+use crate::{Outputs, OutsideError};
 use std::alloc::Global;
-use std::io::{ErrorKind, Write};
 use std::rt::Files;
-use std::{fs, io};
 
 /// Real files. They don't tell what they hold.
 #[derive(Drop)]
@@ -45,19 +44,11 @@ impl<R: Files> Outputs for RealFiles<'_, R> {
             OnOk result (Appends None None (file ∷ [])) }
         ensures unchanged { OnErr result (Appends {A = PutFile} None None []) }
         ensures cause { HasCause self.old.faults self.new.faults result }
+        ensures counted { self.new.faults ≡ faults_after result self.old.faults }
     {
         match write_file(self.rt, name, bytes) {
             Ok(()) => Ok(()),
-            Err(error) if error.kind() == ErrorKind::OutOfMemory => Err(OutsideError::NoMemory),
-            Err(_) => {
-                self.faults = self.faults.saturating_add(1);
-                Err(OutsideError::Failed)
-            }
+            Err(error) => Err(failure(&mut self.faults, error)),
         }
     }
-}
-
-fn write_file<R: Files>(rt: &R, path: &str, bytes: &[u8]) -> io::Result<()> {
-    let mut file = fs::create(rt, path)?;
-    file.write_all(bytes)
 }
