@@ -8,7 +8,7 @@ use Rattle.sj_names.specs.declared.folders.SourceFile.{SourceFile}
 use Rattle.sj_world.specs.Known.{Name, Classes}
 use Rattle.accepted_folders.specs.Accepted.{IsAccepted}
 
--- each class of an accepted folder of bytes keeps the rules on superclasses and on hijacked classes
+-- each class of an accepted folder keeps the rules on superclasses and on hijacked classes
 abbrev pub AcceptedWorldsAreKept : Type 0
 AcceptedWorldsAreKept = (entries : List EntryPoint) (files : List SourceFile) (w : Classes) → IsAccepted entries files w → AreClassesKept w
 

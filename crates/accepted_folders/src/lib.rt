@@ -35,7 +35,7 @@ pub fn accepted_worlds_carry_objects()
     ensures interfaces { AcceptedWorldsWriteInterfaces }
 {}
 
-/// Take a folder that is accepted, of files of bytes, and the methods of all bodies that are needed, each of the forms that are built. Each file that
+/// Take a folder that is accepted, and the methods of all bodies that are needed, each of the forms that are built. Each file that
 /// spells their functions, and behind them the calls of the initializers of a public module, shows of it what the folder's classes show: what the one
 /// shows within any bound the other shows within some bound, and the other way round, and neither is wrong at any bound.
 pub fn accepted_files_agree()

@@ -34,7 +34,7 @@ BodiesUseWhatIsGiven = (has : Usable) (d : MethodDef) (e : Term)
     → ((t : Term) → Contains (trees e) t → Given has (used_by has.lookup d e) t)
     → is_built_with has d e ≡ true
 
--- a body that is needed in an accepted folder of bytes, of a class whose pieces are written, is built with what is written
+-- a body that is needed in an accepted folder, of a class whose pieces are written, is built with what is written
 abbrev pub AcceptedBodiesUseWhatIsWritten : Type 0
 AcceptedBodiesUseWhatIsWritten = (entries : List EntryPoint) (files : List SourceFile) (w : Classes) (facts : List Fact) (all : List EmittedMethod) (live : List Name) (helpers : List Helper) (written : List Name)
     → IsAccepted entries files w
@@ -45,7 +45,7 @@ AcceptedBodiesUseWhatIsWritten = (entries : List EntryPoint) (files : List Sourc
     → Contains written e.member.class
     → is_built_with (used_of w facts all live helpers written) e.definition e.its_body ≡ true
 
--- each body that is needed in an accepted folder of bytes is of the forms that are built
+-- each body that is needed in an accepted folder is of the forms that are built
 abbrev pub NeededBodiesAreBuilt : Type 0
 NeededBodiesAreBuilt = (entries : List EntryPoint) (files : List SourceFile) (w : Classes) (all : List EmittedMethod)
     → IsAccepted entries files w

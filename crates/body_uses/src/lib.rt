@@ -11,13 +11,13 @@ pub fn bodies_use_what_is_given()
     ensures { BodiesUseWhatIsGiven }
 {}
 
-/// Take a folder that is accepted, of files of bytes, the methods of all bodies that are needed, and classes whose pieces are written, which own what the methods of these
+/// Take a folder that is accepted, the methods of all bodies that are needed, and classes whose pieces are written, which own what the methods of these
 /// classes use. Each of their methods is built with what is written.
 pub fn accepted_bodies_use_what_is_written()
     ensures { AcceptedBodiesUseWhatIsWritten }
 {}
 
-/// Take a folder that is accepted, of files of bytes, and the methods of all bodies that are needed. Each of these is of the forms that are built: it keeps the local rules and is typed, and has no more trees than its file
+/// Take a folder that is accepted, and the methods of all bodies that are needed. Each of these is of the forms that are built: it keeps the local rules and is typed, and has no more trees than its file
 /// has bytes, which are fewer than 2^31.
 pub fn needed_bodies_are_built()
     ensures { NeededBodiesAreBuilt }

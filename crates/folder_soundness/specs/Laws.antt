@@ -7,7 +7,7 @@ use Rattle.sj_names.specs.declared.entry_points.EntryPoint.{EntryPoint}
 use Rattle.sj_names.specs.declared.folders.SourceFile.{SourceFile}
 use Rattle.sj_world.specs.Known.{Classes}
 
--- where a folder of bytes is accepted, what its classes show is wrong at no bound
+-- where a folder is accepted, what its classes show is wrong at no bound
 abbrev pub AcceptedFoldersAreNeverWrong : Type 0
 AcceptedFoldersAreNeverWrong = (entries : List EntryPoint) (files : List SourceFile) (w : Classes) (id : List ℕ) (n : ℕ)
     → IsAccepted entries files w

@@ -5,7 +5,7 @@
 
 ghost use Rattle.folder_soundness.specs.Laws.{AcceptedFoldersAreNeverWrong};
 
-/// What an accepted folder of bytes shows of any module is wrong at no bound. It asks for no pieces of code, and knows neither styles nor files of a link.
+/// What an accepted folder shows of any module is wrong at no bound. It asks for no pieces of code, and knows neither styles nor files of a link.
 pub fn accepted_folders_are_never_wrong()
     ensures { AcceptedFoldersAreNeverWrong }
 {}

@@ -14,7 +14,7 @@ use Rattle.linked_entries.specs.EmittedMethods.{EmittedMethod}
 use Rattle.sj_world.specs.Known.{Name, Classes}
 use Rattle.sj_world.specs.declared.facts.Fact.{Fact}
 
--- where what is written can run, the world of an accepted folder of bytes has what the laws on objects ask
+-- where what is written can run, the world of an accepted folder has what the laws on objects ask
 abbrev pub AcceptedFoldersCarryObjects : Type 0
 AcceptedFoldersCarryObjects = (entries : List EntryPoint) (files : List SourceFile) (w : Classes) (facts : List Fact) (all : List EmittedMethod) (live : List Name) (helpers : List Helper) (written : List Name)
     → IsAccepted entries files w

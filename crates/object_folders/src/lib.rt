@@ -6,7 +6,7 @@
 
 ghost use Rattle.object_folders.specs.Laws.{AcceptedFoldersCarryObjects, AcceptedFoldersLinkRightMembers};
 
-/// The world of an accepted folder of bytes has what the laws on objects ask, where what is written can run: its live classes, its methods and its helpers find there
+/// The world of an accepted folder has what the laws on objects ask, where what is written can run: its live classes, its methods and its helpers find there
 /// what they use. And each static member that is linked keeps the rules.
 pub fn accepted_folders_carry_objects()
     ensures worlds { AcceptedFoldersCarryObjects }
