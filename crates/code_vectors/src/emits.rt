@@ -14,6 +14,7 @@ use crate::forms::is_without_objects;
 use crate::texts::{add, add_digits, class_of};
 use js_print::print_piece;
 use js_tree::{JsMember, JsPiece};
+use method_ranges::method_fits;
 use sj_ask::WorldOracle;
 use sj_core::CoreMethod;
 use sj_desugar::desugar;
@@ -98,6 +99,7 @@ fn emitted(alloc: Global, member: &Member, method: &MethodDef) -> Result<JsPiece
     desugared_members_have_keys();
     desugared_fields_have_owners();
     let core = desugar(alloc, method)?;
+    method_fits(&core);
     let function = emitted_function(alloc, member, &core)?;
     member_piece(alloc, member, &core, function)
 }

@@ -2,6 +2,7 @@ pub mod Taken
 mod Bodies
 mod Counted
 mod Emission
+mod Listed
 mod Objects
 pub mod Methods
 pub mod Linked

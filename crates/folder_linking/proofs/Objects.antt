@@ -16,13 +16,16 @@ use Rattle.linked_modules.proofs.Uses.{ahead, after}
 use Rattle.linked_modules.proofs.Written as written
 use Rattle.linked_modules.proofs.Fields.{field_there}
 use Rattle.sj_reach.specs.Refusals.{hijacked}
-use Rattle.sj_desugar_spec.specs.Desugar.{desugared_member}
 use Rattle.sj_desugar.specs.Methods.{desugared_with}
 use Rattle.sj_infos.specs.Trees.{trees, all_below, cases_below}
 use Rattle.sj_names.proofs.Same.{impossible}
 use Rattle.sj_names.specs.declared.entry_points.EntryPoint.{EntryPoint}
 use Rattle.sj_names.specs.declared.folders.SourceFile.{SourceFile}
 use Rattle.sj_emit_expr_pieces.specs.Keys.{HasKeys}
+use Rattle.sj_emit_expr_pieces.proofs.Keyed.{member-keyed}
+use Rattle.sj_emit_expr_pieces.proofs.Owned.{member-owned}
+use Rattle.sj_text_files.proofs.ListedClasses.{file_is_listed}
+use Rattle.folder_linking.specs.Functions.{AreListed}
 use Rattle.sj_emit_expr_pieces.specs.Owners.{OnObjects, AllOnObjects, CasesOnObjects, BodyOnObjects, FieldsHaveOwners}
 use Rattle.agree_soundness.specs.EmittedMethods.{EmittedMethod}
 use Rattle.sj_trees.specs.Term.{Term, Terms, no_terms, more_terms, Cases, no_cases, more_cases, var_def, block_of, labeled, assign, return_to, if_then, while_loop, do_while, throw, try_catch, try_finally, match_on, new_object, store_module, select, select_static, apply, apply_statically, apply_static, unary_op, binary_op, new_array, array_value, array_length, array_select, is_instance_of, as_instance_of, var_ref, log_line}
@@ -161,6 +164,9 @@ module _ (entries : List EntryPoint) (files : List SourceFile) (w : Classes) (a 
   kept : AreClassesKept w
   kept = objects.kept entries files w a
 
+  pub all_listed : AreListed w
+  all_listed c i = let j = judged entries files w a c i in file_is_listed j.bytes c j.read
+
   unbroken : (c : ClassDef) → Contains w c → FirstBroken c None
   unbroken c i = (judged entries files w a c i).unbroken
 
@@ -191,10 +197,10 @@ module _ (entries : List EntryPoint) (files : List SourceFile) (w : Classes) (a 
         on_objects e.its_body (all_from IsOfObject (trees e.its_body) (λ t among. tree_of_object t (written.all_at (Stands (MeetsThere w e.definition.namespace)) (trees e.its_body) stands t among)))
 
 -- a method has what each body that it may have has
-pub with_keys : ((d : MethodDef) (e : Term) → HasKeys (desugared_member d e)) → (d : MethodDef) (body : Option Term) → HasKeys (desugared_with d body)
-with_keys h d None = tt
-with_keys h d (Some e) = h d e
+pub with_keys : (d : MethodDef) (body : Option Term) → HasKeys (desugared_with d body)
+with_keys d None = tt
+with_keys d (Some e) = member-keyed d e
 
-pub with_owners : ((d : MethodDef) (e : Term) → OnObjects e → FieldsHaveOwners (desugared_member d e)) → (d : MethodDef) (body : Option Term) → BodyOnObjects body → FieldsHaveOwners (desugared_with d body)
-with_owners h d None objects = tt
-with_owners h d (Some e) objects = h d e objects
+pub with_owners : (d : MethodDef) (body : Option Term) → BodyOnObjects body → FieldsHaveOwners (desugared_with d body)
+with_owners d None objects = tt
+with_owners d (Some e) objects = member-owned d e objects

@@ -8,9 +8,15 @@ use Rattle.world_pieces.specs.Pieces.{piece_of_member}
 use Rattle.agree_soundness.specs.EmittedMethods.{EmittedMethod}
 use Rattle.sj_emit_expr_pieces.specs.Owners.{OnObjects}
 use Rattle.sj_names.specs.declared.method_names.Member.{Member}
+use Rattle.sj_text_spec.specs.Rules.{HasListing}
+use Rattle.sj_trees.specs.declared.classes.ClassDef.{ClassDef}
 use Rattle.sj_world.specs.Known.{Classes}
 use Rattle.linked_modules.specs.Bodies.{IsFound}
 use Rattle.folder_linking.specs.declared.functions.Function.{Function}
+
+-- each class is one of which there is a listing, as each class of a file is
+abbrev pub AreListed : Classes → Type 0
+AreListed w = (c : ClassDef) → Contains w c → HasListing c
 
 -- the function of the member's body; it can be printed where the body's fields are those of objects
 pub record IsFunction (w : Classes) (f : Function) : Type 0 where

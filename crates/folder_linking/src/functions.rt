@@ -1,5 +1,5 @@
 // The functions of the bodies that are needed.
-ghost use Rattle.std.specs.Prelude.{◌≡◌, All, IfOk, length, map};
+ghost use Rattle.std.specs.Prelude.{◌≡◌, IfOk, length, map};
 ghost use Rattle.std.specs.List.{Contains};
 ghost use Rattle.dispatch_laws.specs.Targets.{lookup_in};
 ghost use Rattle.sj_emit_expr_questions.specs.Task.{emitted, emitted_view};
@@ -8,16 +8,15 @@ ghost use Rattle.sj_core.specs.Views.{method_view};
 ghost use Rattle.sj_desugar.specs.Methods.{method_desugared};
 ghost use Rattle.sj_emit_expr_spec.specs.Members as members;
 ghost use Rattle.sj_emit_expr_pieces.specs.Owners.{BodyOnObjects};
-ghost use Rattle.sj_emit_expr_pieces.specs.Ranges.{AreBytes};
 ghost use Rattle.js_tree.specs.Rules.{IsPiece};
 ghost use Rattle.sj_names.specs.declared.method_names.Member.{Member};
-ghost use Rattle.sj_world.specs.Known.{names_of};
 ghost use Rattle.sj_world.specs.Members.{IsMethodOf};
 ghost use Rattle.sj_world.specs.Refusals.{IsInOrder};
 ghost use Rattle.folder_judging.specs.Stages.{IsDefined};
 ghost use Rattle.folder_judging.specs.Counts.{members_of, bodies_among};
 ghost use Rattle.folder_linking.specs.Counts.{Emits};
-ghost use Rattle.folder_linking.specs.Functions.{AreFunctions, IsFunction};
+ghost use Rattle.folder_linking.specs.Functions.{AreFunctions, AreListed, IsFunction};
+ghost use Rattle.sj_text_spec.specs.Rules.{IsListedMethod};
 
 use crate::members::needed_members;
 use folder_judging::definition_of;
@@ -25,13 +24,10 @@ use js_tree::{JsMember, JsPiece};
 use sj_ask::WorldOracle;
 use sj_core::CoreMethod;
 use sj_desugar::desugar;
-use sj_emit_class_printing::name_fits;
-use sj_emit_expr_pieces::{
-    desugared_fields_have_owners, desugared_members_have_keys, member_piece,
-};
+use sj_emit_expr_pieces::member_piece;
 use sj_names::{Member, NoMemory};
 use sj_recorder::Recorder;
-use sj_trees::{ClassDef, MethodDef};
+use sj_trees::MethodDef;
 use sj_workers::Workers;
 use sj_world::{LinkedWorld, World};
 use std::alloc::Global;
@@ -49,11 +45,12 @@ pub fn functions_of_bodies<'w, W: Workers>(
     linked: &'w LinkedWorld,
     work: &mut W,
 ) -> Result<Vec<Function<'w>>, NoMemory>
-    requires { (k : Member) → Contains (members_of linked.now.facts) k → IsDefined linked.now.world k }
+    requires defined { (k : Member) → Contains (members_of linked.now.facts) k → IsDefined linked.now.world k }
+    requires in_order { IsInOrder linked.now.world }
+    requires listed { AreListed linked.now.world }
     ensures functions { IfOk result (λ fs. AreFunctions linked.now.world (members_of linked.now.facts) fs.items) }
     ensures counted { Emits (bodies_among linked.now.facts) result (W.meter work.old) (W.meter work.new) }
 {
-    class_names_fit(linked.world().classes());
     let members = needed_members(alloc, linked.facts())?;
     functions_of(alloc, linked, &members, work)
 }
@@ -66,7 +63,7 @@ fn functions_of<'w, W: Workers>(
 ) -> Result<Vec<Function<'w>>, NoMemory>
     requires defined { (k : Member) → Contains (map (λ m. m.now) members.now) k → IsDefined linked.now.world k }
     requires in_order { IsInOrder linked.now.world }
-    requires names { All AreBytes (names_of linked.now.world) }
+    requires listed { AreListed linked.now.world }
     ensures functions { IfOk result (λ fs. AreFunctions linked.now.world (map (λ m. m.now) members.now) fs.items) }
     ensures counted { Emits (length members.now) result (W.meter work.old) (W.meter work.new) }
 {
@@ -86,7 +83,7 @@ fn function_of<'w, W: Workers>(
 ) -> Result<Function<'w>, NoMemory>
     requires defined { IsDefined linked.now.world member.now }
     requires in_order { IsInOrder linked.now.world }
-    requires names { All AreBytes (names_of linked.now.world) }
+    requires listed { AreListed linked.now.world }
     ensures function { IfOk result (λ f. (f.member.now ≡ member.now) × IsFunction linked.now.world f) }
     ensures counted { Emits 1 result (W.meter work.old) (W.meter work.new) }
 {
@@ -104,13 +101,12 @@ fn emitted_piece<W: Workers>(
     work: &mut W,
 ) -> Result<JsPiece, NoMemory>
     requires in_order { IsInOrder linked.now.world }
-    requires names { All AreBytes (names_of linked.now.world) }
+    requires listed { AreListed linked.now.world }
+    requires defined { IsListedMethod definition.now }
     ensures piece { IfOk result (λ p. piece_view p ≡ members.member_piece (lookup_in linked.now.world) member.now (method_desugared definition.now)) }
     ensures rules { BodyOnObjects definition.now.body → IfOk result (λ p. IsPiece (piece_view p)) }
     ensures counted { Emits 1 result (W.meter work.old) (W.meter work.new) }
 {
-    desugared_members_have_keys();
-    desugared_fields_have_owners();
     let core = desugar(alloc, definition)?;
     let emitted = emit(alloc, linked, member, &core, work)?;
     member_piece(alloc, member, &core, emitted)
@@ -130,15 +126,6 @@ fn emit<W: Workers>(
 {
     let mut recorder = Recorder::new(alloc, member.copied()?, WorldOracle::new(linked, member));
     work.emit_member(alloc, core, &mut recorder)
-}
-
-// The names of classes are texts of bytes.
-fn class_names_fit(classes: &[ClassDef])
-    ensures { All AreBytes (names_of classes.now) }
-{
-    for class in classes {
-        name_fits(&class.name);
-    }
 }
 
 // The definition of the member, which has one.

@@ -1,3 +1,5 @@
+pub mod Fitted
+pub mod Listed
 pub mod Keyed
 pub mod Kept
 pub mod Lists

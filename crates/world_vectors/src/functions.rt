@@ -9,6 +9,7 @@ ghost use Rattle.world_vectors.specs.Emitted.{IsEmitted};
 
 use crate::objects::is_on_objects;
 use js_tree::{JsMember, JsPiece};
+use method_ranges::method_fits;
 use sj_ask::WorldOracle;
 use sj_core::CoreMethod;
 use sj_desugar::desugar;
@@ -86,6 +87,7 @@ fn emitted(
     desugared_members_have_keys();
     desugared_fields_have_owners();
     let core = desugar(alloc, method)?;
+    method_fits(&core);
     let function = emitted_function(alloc, linked, member, &core)?;
     member_piece(alloc, member, &core, function)
 }

@@ -33,4 +33,4 @@ returns-clause-piece c = piece_equal c.member_piece.result c.args.member.now _ _
 pub returns-clause-rules : goal.returns-clause-rules
 returns-clause-rules c =
     let d = c.args.method.now in
-    c.member_piece.ensures.rules (lookup_in []) c.in_ok-function.ensures (subst HasKeys (sym c.in_ok-core.ensures) (with-keys c.desugared_members_have_keys.ensures d d.body)) (subst FieldsHaveOwners (sym c.in_ok-core.ensures) (with-owners c.desugared_fields_have_owners.ensures.members d d.body c.requires)) (λ k called h. subst FitsMember (sym (own k)) h)
+    c.member_piece.ensures.rules (lookup_in []) c.in_ok-function.ensures c.method_fits.ensures (subst HasKeys (sym c.in_ok-core.ensures) (with-keys c.desugared_members_have_keys.ensures d d.body)) (subst FieldsHaveOwners (sym c.in_ok-core.ensures) (with-owners c.desugared_fields_have_owners.ensures.members d d.body c.requires)) (λ k called h. subst FitsMember (sym (own k)) h)

@@ -19,7 +19,7 @@ returns-in_err-push-clause-counted g c =
     subst (λ r. Emits (length c.args.members.now) r (g.W.Workers.meter c.args.work.now) (g.W.Workers.meter c.function_of.new.work)) (sym p.1) (emits_some (c.loop-member.member-index + 1) (length c.args.members.now) (g.W.Workers.meter c.args.work.now) _ (omega arith) (emits_on c.loop-member.member-index (g.W.Workers.meter c.args.work.now) _ _ c.loop-member.invariant.counted c.in_ok-function.ensures.counted))
 
 pub function_of-requires : goal.function_of-requires
-function_of-requires g c = record { defined = c.requires.defined c.member-item.result.now (contains_at (map (λ m. m.now) c.args.members.now) c.loop-member.member-index c.member-item.result.now (slice_get-map (λ m. m.now) c.args.members.now c.loop-member.member-index ∙ ap (option_map (λ m. m.now)) (slice_get_read c.args.members.now _ c.loop-member.member-index c.member-item.result refl (omega arith) c.member-item.is))); in_order = c.requires.in_order; names = c.requires.names }
+function_of-requires g c = record { defined = c.requires.defined c.member-item.result.now (contains_at (map (λ m. m.now) c.args.members.now) c.loop-member.member-index c.member-item.result.now (slice_get-map (λ m. m.now) c.args.members.now c.loop-member.member-index ∙ ap (option_map (λ m. m.now)) (slice_get_read c.args.members.now _ c.loop-member.member-index c.member-item.result refl (omega arith) c.member-item.is))); in_order = c.requires.in_order; listed = c.requires.listed }
 
 pub loop-member-preserved : goal.loop-member-preserved
 loop-member-preserved g c = record {

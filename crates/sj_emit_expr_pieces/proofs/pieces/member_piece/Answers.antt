@@ -20,4 +20,4 @@ pub returns-clause-piece : goal.returns-clause-piece
 returns-clause-piece c = λ known same. IfOk-weaker c.function_piece.result _ _ (λ p h. h ∙ same_piece known c.args.member.now c.args.emitted (method_view c.args.m.now) same) c.function_piece.ensures
 
 pub returns-clause-rules : goal.returns-clause-rules
-returns-clause-rules c = λ known same keys owners fit. IfOk-weaker c.function_piece.result _ _ (λ p h. subst IsPiece (sym (h ∙ same_piece known c.args.member.now c.args.emitted (method_view c.args.m.now) same)) (piece-kept known c.args.member.now (method_view c.args.m.now) c.member_fits.ensures c.method_fits.ensures keys owners fit)) c.function_piece.ensures
+returns-clause-rules c = λ known same ranges keys owners fit. IfOk-weaker c.function_piece.result _ _ (λ p h. subst IsPiece (sym (h ∙ same_piece known c.args.member.now c.args.emitted (method_view c.args.m.now) same)) (piece-kept known c.args.member.now (method_view c.args.m.now) c.member_fits.ensures ranges keys owners fit)) c.function_piece.ensures

@@ -19,4 +19,4 @@ pub returns : goal.returns
 returns c =
     let d = c.args.method.now in
     let f = c.in_ok-function.ensures in
-    c.member_piece.ensures.rules f.known f.is (subst HasKeys (sym c.in_ok-core.ensures) (with-keys c.desugared_members_have_keys.ensures d d.body)) (subst FieldsHaveOwners (sym c.in_ok-core.ensures) (with-owners c.desugared_fields_have_owners.ensures.members d d.body c.requires)) f.fit
+    c.member_piece.ensures.rules f.known f.is c.method_fits.ensures (subst HasKeys (sym c.in_ok-core.ensures) (with-keys c.desugared_members_have_keys.ensures d d.body)) (subst FieldsHaveOwners (sym c.in_ok-core.ensures) (with-owners c.desugared_fields_have_owners.ensures.members d d.body c.requires)) f.fit

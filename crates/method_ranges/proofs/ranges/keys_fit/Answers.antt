@@ -5,7 +5,7 @@ use mir.Syntax.{w32}
 use mir.Val.{SFits}
 use Rattle.js_tree.specs.Rules.{IsNumber}
 use Rattle.sj_emit_expr_pieces.proofs.Lists.{each-whole}
-use Rattle.sj_emit_expr_pieces.proofs.ranges.keys_fit.Goals as goal
+use Rattle.method_ranges.proofs.ranges.keys_fit.Goals as goal
 
 pub loop-key-preserved : goal.loop-key-preserved
 loop-key-preserved c =

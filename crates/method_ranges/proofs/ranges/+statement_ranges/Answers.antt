@@ -1,7 +1,8 @@
 use Rattle.sj_core.specs.Views.{statement_view}
 use Rattle.sj_emit_expr_pieces.specs.Ranges.{FitsStatement}
-use Rattle.sj_emit_expr_pieces.proofs.Lists.{each-more, each-whole, each-statement, FitsCase, each-case}
-use Rattle.sj_emit_expr_pieces.proofs.ranges.+statement_ranges.Goals as goal
+use Rattle.sj_emit_expr_pieces.proofs.Lists.{each-more, each-whole}
+use Rattle.method_ranges.proofs.Each.{each-statement, FitsCase, each-case}
+use Rattle.method_ranges.proofs.ranges.+statement_ranges.Goals as goal
 
 pub statements_fit-loop-each-preserved : goal.statements_fit-loop-each-preserved
 statements_fit-loop-each-preserved t c = each-more (λ s. FitsStatement (statement_view s)) c.args.statements.now c.loop-each.each-index c.each-item.result c.loop-each-test.true c.each-item.is c.loop-each.invariant c.statement_fits.ensures

@@ -3,7 +3,7 @@ use Rattle.std.specs.Prelude.{All}
 use Rattle.js_tree.specs.Rules.{IsNumber}
 use Rattle.sj_core.specs.Views.{statement_view, case_view}
 use Rattle.sj_emit_expr_pieces.specs.Ranges.{FitsStatement, FitStatements}
-use Rattle.sj_emit_expr_pieces.proofs.ranges.+statement_ranges.Given as goal
+use Rattle.method_ranges.proofs.ranges.+statement_ranges.Given as goal
 
 abbrev pub invariant-statements_fit-loop-each : goal.invariant-statements_fit-loop-each
 invariant-statements_fit-loop-each l = All (λ s. FitsStatement (statement_view s)) (take l.each-index l.statements)
