@@ -5,13 +5,10 @@ ghost use Rattle.sj_core.specs.Views as core;
 ghost use Rattle.sj_emit_expr_pieces.specs.Ranges.{AreBytes, FitsBase, FitsArray, FitsType, FitsCallee, FitsVariable, FitsExpression, FitExpressions, FitsStatement, FitStatements, FitCases, FitsMethod};
 
 use sj_core::{Callee, CoreCase, CoreExpression, CoreMethod, CoreStatement, CoreVariable};
+use sj_emit_class_printing::text_fits;
 use sj_emit_expr_pieces::{member_fits, method_name_fits};
 use sj_names::{ArrayRef, BaseRef, LocalName};
 use sj_trees::IrType;
-
-fn text_fits(text: &str)
-    ensures { AreBytes text.now }
-{}
 
 fn base_fits(base: &BaseRef)
     ensures { FitsBase base.now }

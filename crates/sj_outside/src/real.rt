@@ -22,8 +22,8 @@ pub fn failure(faults: &mut u64, error: io::Error) -> OutsideError
     OutsideError::Failed
 }
 
-/// Writes the file at the path, in place of what it held.
-pub fn write_file<R: Files>(rt: &R, path: &str, bytes: &[u8]) -> io::Result<()> {
+/// Writes the file at the path, in place of what it held. What a real file holds is said by no clause; the error is the system's.
+pub(crate) fn write_file<R: Files>(rt: &R, path: &str, bytes: &[u8]) -> io::Result<()> {
     let mut file = fs::create(rt, path)?;
     file.write_all(bytes)
 }
