@@ -20,7 +20,6 @@ use Rattle.module_names.specs.Names.{sha1_digest}
 use Rattle.sj_emit_module_spec.specs.Calls.{call_item_of}
 use Rattle.sj_emit_module_spec.specs.Laws.{ModulesKeepRules, PlansNameFiles}
 use Rattle.sj_emit_module_spec.specs.Modules.{IsModuleOf}
-use Rattle.sj_split_laws.specs.Laws.{AreCountable}
 use Rattle.sj_emit_expr_spec.specs.Templates.{member_name}
 use Rattle.sj_graph.specs.References.{IsGraph}
 use Rattle.sj_graph.specs.declared.graphs.Graph.{Graph}
@@ -34,7 +33,7 @@ use Rattle.sj_split.specs.declared.plans.Style.{Style}
 use Rattle.sj_world.proofs.Searches.{contains_at}
 use Rattle.sj_world.specs.Known.{Classes, class_of}
 use Rattle.folder_linking.proofs.Taken.{more_taken}
-use Rattle.folder_linking.specs.Linking.{ArePrintable, IsCountableLink}
+use Rattle.folder_linking.specs.Linking.{ArePrintable, IsLinkByEntries}
 use Rattle.folder_linking.specs.Modules.{IsFileAt, KeepRules, as_file}
 use Rattle.folder_linking.specs.declared.files.ModuleFile.{ModuleFile}
 
@@ -68,10 +67,9 @@ module _ (modules : List PlannedModule) (ps : List Piece) where
       (subst (λ (ms : List PlannedModule). AreFilesOf modules ps ms (map as_file old ++ as_file f ∷ [])) (sym (more_taken modules which at.planned at.stands)) (more_files (take which modules) (map as_file old) at.planned (as_file f) are at.is))
 
 module _ (w : Classes) (entries : List EntryPoint) (pieces : List Piece) (printable : ArePrintable w entries pieces) where
-  pub link_is : (style : Style) (graph : Graph) (plan : List PlannedModule) (files : List File) → AreEntries entries → IsGraph pieces graph → AreCountable graph entries → IsPlan sha1_digest graph entries style plan → AreFilesOf plan pieces plan files → IsCountableLink w entries style files
-  link_is style graph plan files valid is_graph countable is_plan are = record {
+  pub link_is : (style : Style) (graph : Graph) (plan : List PlannedModule) (files : List File) → AreEntries entries → IsGraph pieces graph → IsPlan sha1_digest graph entries style plan → AreFilesOf plan pieces plan files → IsLinkByEntries w entries style files
+  link_is style graph plan files valid is_graph is_plan are = record {
     link = record { pieces = pieces; are_pieces = printable.are; graph = graph; is_graph = is_graph; plan = plan; is_plan = is_plan; files_are = are };
-    countable = countable;
     valid = valid;
   }
 

@@ -14,7 +14,6 @@ use Rattle.linked_modules.specs.Accepted.{IsAccepted}
 use Rattle.js_mean.specs.Shows.{File}
 use Rattle.linked_modules.specs.LinkedFoldersLink.{ArePieces}
 use Rattle.linked_modules.specs.Link.{IsLink}
-use Rattle.sj_split_laws.specs.Laws.{AreCountable}
 use Rattle.sj_split.specs.declared.plans.Style.{Style}
 
 -- the world of a folder that is accepted, with all that is reachable in it and its method entries
@@ -29,8 +28,7 @@ pub record ArePrintable (w : Classes) (entries : List EntryPoint) (pieces : List
   pub are : ArePieces w entries pieces
   pub rules : All IsPiece pieces
 
--- the classes are linked to these files, by the entries of a command and of a graph that can be counted
-pub record IsCountableLink (w : Classes) (entries : List EntryPoint) (style : Style) (files : List File) : Type 0 where
+-- the classes are linked to these files, by the entries of a command
+pub record IsLinkByEntries (w : Classes) (entries : List EntryPoint) (style : Style) (files : List File) : Type 0 where
   pub valid : AreValid entries
   pub link : IsLink w entries style files
-  pub countable : AreCountable link.graph entries

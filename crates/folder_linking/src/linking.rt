@@ -1,12 +1,11 @@
 // A folder that is linked.
-ghost use Rattle.std.specs.Prelude.{◌≡◌, IfOk, OnOk, map};
+ghost use Rattle.std.specs.Prelude.{◌≡◌, IfOk, map};
 ghost use Rattle.js_tree.specs.Views.{piece_view};
 ghost use Rattle.folder_judging.specs.Counts.{bodies_among, members_of};
 ghost use Rattle.folder_linking.specs.Counts.{Emits};
 ghost use Rattle.folder_linking.specs.Functions.{AreFunctions, piece};
-ghost use Rattle.folder_linking.specs.Linking.{ArePrintable, IsCountableLink, IsLinkable};
+ghost use Rattle.folder_linking.specs.Linking.{ArePrintable, IsLinkByEntries, IsLinkable};
 ghost use Rattle.folder_linking.specs.Modules.{as_file};
-ghost use Rattle.sj_split_laws.specs.Laws.{AreCountable};
 ghost use Rattle.sj_names.specs.EntryPoints.{AreEntries};
 
 use crate::ModuleFile;
@@ -14,7 +13,7 @@ use crate::functions::{Function, functions_of_bodies};
 use crate::modules::printed_files;
 use js_tree::JsPiece;
 use sj_emit_module_spec::{modules_keep_rules, plans_name_files};
-use sj_graph::{Graph, graph};
+use sj_graph::graph;
 use sj_names::{Entries, NoMemory};
 use sj_split::{Style, plan};
 use sj_workers::Workers;
@@ -32,7 +31,7 @@ pub fn link<W: Workers>(
     work: &mut W,
 ) -> Result<Vec<ModuleFile>, NoMemory>
     requires { IsLinkable entries.now linked.now }
-    ensures link { IfOk result (λ files. IsCountableLink linked.now.world entries.now style (map as_file files.items)) }
+    ensures link { IfOk result (λ files. IsLinkByEntries linked.now.world entries.now style (map as_file files.items)) }
     ensures counted { Emits (bodies_among linked.now.facts) result (W.meter work.old) (W.meter work.new) }
 {
     let pieces = pieces_in_order(alloc, linked, entries, work)?;
@@ -47,24 +46,21 @@ fn link_pieces(
     style: Style,
 ) -> Result<Vec<ModuleFile>, NoMemory>
     requires { ArePrintable linked.now.world entries.now (map piece_view pieces.now) }
-    ensures { IfOk result (λ files. IsCountableLink linked.now.world entries.now style (map as_file files.items)) }
+    ensures { IfOk result (λ files. IsLinkByEntries linked.now.world entries.now style (map as_file files.items)) }
 {
     modules_keep_rules();
     plans_name_files();
     let graph = graph(alloc, pieces)?;
-    count(&graph, entries)?;
+    are_entries(entries);
     let plan = plan(alloc, &graph, entries, style)?;
     printed_files(alloc, &plan, pieces)
 }
 
-// Counts the references and the entries together. Where they can't be counted, they would be more than memory holds.
-fn count(graph: &Graph, entries: &Entries) -> Result<usize, NoMemory>
-    ensures valid { AreEntries entries.now }
-    ensures countable { OnOk result (AreCountable graph.now entries.now) }
+// Entries are those of a command.
+fn are_entries(entries: &Entries)
+    ensures { AreEntries entries.now }
 {
-    let references = graph.references.as_slice().len();
-    let entries = entries.as_slice().len();
-    references.checked_add(entries).ok_or(NoMemory)
+    let _list = entries.as_slice();
 }
 
 // The pieces of the classes, in the order of a module.

@@ -10,7 +10,7 @@ use Rattle.linked_modules.specs.Link.{IsLink}
 
 pub one_folder_link : FolderLinkIsOne
 one_folder_link entries files style one other valid h k =
-    link_is_one entries files h.world style one other h.is_accepted valid h.link h.countable (subst (λ (w : Classes). IsLink w entries style other) (same_world entries files k.world h.world k.is_accepted h.is_accepted) k.link)
+    link_is_one entries files h.world style one other h.is_accepted valid h.link (subst (λ (w : Classes). IsLink w entries style other) (same_world entries files k.world h.world k.is_accepted h.is_accepted) k.link)
 
 pub one_work : WorkIsOne
 one_work entries files one other h k =
@@ -19,4 +19,4 @@ one_work entries files one other h k =
 
 pub linked_folders_agree : LinkedFoldersAgree
 linked_folders_agree entries files style id links valid linked entered =
-    linked_modules_agree entries files linked.world style id links linked.is_accepted valid linked.link linked.countable entered
+    linked_modules_agree entries files linked.world style id links linked.is_accepted valid linked.link entered

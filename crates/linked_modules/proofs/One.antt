@@ -32,7 +32,7 @@ module _ (modules : List PlannedModule) (ps : List Piece) where
   same_files (m ∷ ms) (f ∷ fs) (g ∷ gs) one other = (λ i. same_file m f g one.0 other.0 i ∷ same_files ms fs gs one.1 other.1 i)
 
 pub link_is_one : LinkIsOne
-link_is_one entries files w style one other a valid link countable k = same_files link.plan link.pieces link.plan one other link.files_are (subst (λ (ms : List PlannedModule). AreFilesOf ms link.pieces ms other) (sym plans) (subst (λ (ps : List Piece). AreFilesOf k.plan ps k.plan other) (sym pieces) k.files_are))
+link_is_one entries files w style one other a valid link k = same_files link.plan link.pieces link.plan one other link.files_are (subst (λ (ms : List PlannedModule). AreFilesOf ms link.pieces ms other) (sym plans) (subst (λ (ps : List Piece). AreFilesOf k.plan ps k.plan other) (sym pieces) k.files_are))
   where
     pieces : link.pieces ≡ k.pieces
     pieces = one_pieces entries files w a link.pieces k.pieces link.are_pieces k.are_pieces
@@ -41,4 +41,4 @@ link_is_one entries files w style one other a valid link countable k = same_file
     other_plan = same_plan sha1_digest link.pieces k.graph link.graph entries style k.plan (subst (λ (ps : List Piece). IsGraph ps k.graph) (sym pieces) k.is_graph) link.is_graph k.is_plan
 
     plans : link.plan ≡ k.plan
-    plans = plans_are_one sha1_digest link.graph entries style link.plan k.plan (record { one_length = digests_have_one_length; none_internal = ids_are_not_internal entries valid; countable = countable }) link.is_plan other_plan
+    plans = plans_are_one sha1_digest link.graph entries style link.plan k.plan (record { one_length = digests_have_one_length; none_internal = ids_are_not_internal entries valid }) link.is_plan other_plan

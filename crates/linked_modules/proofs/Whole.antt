@@ -51,7 +51,7 @@ use Rattle.declared_modules.proofs.InFiles.{used_there}
 use Rattle.declared_modules.specs.Used.{uses_in}
 use Rattle.sj_split_laws.proofs.Digests.{digests_have_one_length}
 use Rattle.sj_split_laws.proofs.Names.{ids_are_not_internal}
-use Rattle.sj_split_laws.specs.Laws.{AreCountable, KeepsNamesApart}
+use Rattle.sj_split_laws.specs.Laws.{KeepsNamesApart}
 use Rattle.declared_modules.proofs.Declares.{modules_declare_in_order, modules_declare_constants, item_at}
 use Rattle.declared_modules.proofs.Items.{modules_have_their_items}
 use Rattle.declared_modules.proofs.There.{public_modules_are_there}
@@ -80,12 +80,12 @@ one_file : (f g : Name) → Some f ≡ Some g → f ≡ g
 one_file f g e = cc
 
 module _ (entries : List EntryPoint) (files : List SourceFile) (l : Linked) (all : List EmittedMethod) (ps : List Piece) (a : IsAccepted entries files l.world) (bodies : AreBodies l.world entries all) (exact : (f : Fact) → Contains l.facts f ↔ Reachable l.world entries f) (p : AreLinkedPieces l all ps) (methods : AreMethodEntries l.world l.facts l.entries)
-    (uses : (q : Piece) → Contains ps q → (b : Binding) → Contains q.uses b → IsDeclared ps b) (graph : Graph) (style : Style) (modules : List PlannedModule) (valid : AreEntries entries) (countable : AreCountable graph entries) (is_graph : IsGraph ps graph) (is : IsPlan sha1_digest graph entries style modules) (id : Id) (entered : Contains (map module_of entries) id) where
+    (uses : (q : Piece) → Contains ps q → (b : Binding) → Contains q.uses b → IsDeclared ps b) (graph : Graph) (style : Style) (modules : List PlannedModule) (valid : AreEntries entries) (is_graph : IsGraph ps graph) (is : IsPlan sha1_digest graph entries style modules) (id : Id) (entered : Contains (map module_of entries) id) where
   abbrev w : Classes
   w = l.world
 
-  keep : KeepsNamesApart sha1_digest graph entries
-  keep = record { one_length = digests_have_one_length; none_internal = ids_are_not_internal entries valid; countable = countable }
+  keep : KeepsNamesApart sha1_digest entries
+  keep = record { one_length = digests_have_one_length; none_internal = ids_are_not_internal entries valid }
 
   -- the functions of entries are declared, and so is all that files use
   entry_declared : (e : EntryPoint) → Contains entries e → IsDeclared ps (called e)
@@ -207,7 +207,7 @@ abbrev Agreed : List EntryPoint → List SourceFile → Id → List File → Lis
 Agreed entries files id link_files all facts w = IsAccepted entries files w → AreBodies w entries all → ((f : Fact) → Contains facts f ↔ Reachable w entries f) → Agrees w entries link_files id
 
 pub linked_modules_agree : LinkedModulesAgree
-linked_modules_agree entries files w style id link_files a valid link countable entered = subst (Agreed entries files id link_files pieces.all pieces.facts) pieces.is_linked.world at_linked a pieces.bodies pieces.are_facts
+linked_modules_agree entries files w style id link_files a valid link entered = subst (Agreed entries files id link_files pieces.all pieces.facts) pieces.is_linked.world at_linked a pieces.bodies pieces.are_facts
   where
     pieces : ArePieces w entries link.pieces
     pieces = link.are_pieces
@@ -219,4 +219,4 @@ linked_modules_agree entries files w style id link_files a valid link countable 
     its_methods = subst (λ (fs : List Fact). AreMethodEntries l.world fs l.entries) (sym pieces.is_linked.facts_are) (subst (λ (x : Classes). AreMethodEntries x pieces.facts l.entries) (sym pieces.is_linked.world) pieces.is_linked.entries)
 
     at_linked : Agreed entries files id link_files pieces.all pieces.facts l.world
-    at_linked accepted bodies facts = files_show entries files l pieces.all link.pieces accepted bodies (subst (λ (fs : List Fact). (f : Fact) → Contains fs f ↔ Reachable l.world entries f) (sym pieces.is_linked.facts_are) facts) pieces.are its_methods (uses_are_declared entries files w link.pieces a pieces) link.graph style link.plan valid countable link.is_graph link.is_plan id entered link_files link.files_are
+    at_linked accepted bodies facts = files_show entries files l pieces.all link.pieces accepted bodies (subst (λ (fs : List Fact). (f : Fact) → Contains fs f ↔ Reachable l.world entries f) (sym pieces.is_linked.facts_are) facts) pieces.are its_methods (uses_are_declared entries files w link.pieces a pieces) link.graph style link.plan valid link.is_graph link.is_plan id entered link_files link.files_are

@@ -4,7 +4,6 @@ use Rattle.declared_modules.specs.Accepted.{IsAccepted}
 use Rattle.declared_modules.specs.Bodies.{AreBodies}
 use Rattle.declared_modules.specs.EmittedMethods.{EmittedMethod}
 use Rattle.js_mean.specs.Shows.{File}
-use Rattle.sj_split_laws.specs.Laws.{AreCountable}
 use Rattle.sj_names.specs.declared.counters.Meter.{Meter}
 use Rattle.sj_names.specs.declared.entry_points.EntryPoint.{EntryPoint}
 use Rattle.sj_names.specs.declared.folders.SourceFile.{SourceFile}
@@ -18,7 +17,6 @@ module _ (entries : List EntryPoint) (files : List SourceFile) where
     pub world : Classes
     pub is_accepted : IsAccepted entries files world
     pub link : IsLink world entries style links
-    pub countable : AreCountable link.graph entries
 
   -- the work that the folder takes: each file is read, each body that is needed is checked and emitted
   pub record IsWork (work : Meter) : Type 0 where

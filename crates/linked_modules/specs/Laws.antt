@@ -3,7 +3,6 @@ use Rattle.std.specs.Prelude.{◌≡◌, List, map}
 use Rattle.std.specs.List.{Contains}
 use Rattle.declared_modules.specs.Accepted.{IsAccepted}
 use Rattle.js_mean.specs.Shows.{File}
-use Rattle.sj_split_laws.specs.Laws.{AreCountable}
 use Rattle.sj_agree.specs.Agrees.{Agrees}
 use Rattle.sj_names.specs.EntryPoints.{AreEntries}
 use Rattle.sj_names.specs.declared.counters.Meter.{Meter}
@@ -21,8 +20,7 @@ abbrev pub LinkedModulesAgree : Type 0
 LinkedModulesAgree = (entries : List EntryPoint) (files : List SourceFile) (w : Classes) (style : Style) (id : Id) (links : List File)
     → IsAccepted entries files w
     → AreEntries entries
-    → (link : IsLink w entries style links)
-    → AreCountable link.graph entries
+    → IsLink w entries style links
     → Contains (map module_of entries) id
     → Agrees w entries links id
 
@@ -31,8 +29,7 @@ abbrev pub LinkIsOne : Type 0
 LinkIsOne = (entries : List EntryPoint) (files : List SourceFile) (w : Classes) (style : Style) (one other : List File)
     → IsAccepted entries files w
     → AreEntries entries
-    → (link : IsLink w entries style one)
-    → AreCountable link.graph entries
+    → IsLink w entries style one
     → IsLink w entries style other
     → one ≡ other
 

@@ -58,7 +58,7 @@ ReachedFilesAreGood = (modules : List PlannedModule) (ps : List Piece) → ArePr
 abbrev pub ImportsGoInNoCircle : Type 0
 ImportsGoInNoCircle = (digest_of : Key → Digest) (graph : Graph) (entries : List EntryPoint) (style : Style) (modules : List PlannedModule) (ps : List Piece)
     → AreEntries entries
-    → KeepsNamesApart digest_of graph entries
+    → KeepsNamesApart digest_of entries
     → IsGraph ps graph
     → IsPlan digest_of graph entries style modules
     → (f g : Bytes) → Path (IsSource modules ps) f g → Path (IsSource modules ps) g f → f ≡ g
@@ -67,7 +67,7 @@ ImportsGoInNoCircle = (digest_of : Key → Digest) (graph : Graph) (entries : Li
 abbrev pub ImportsRunFirst : Type 0
 ImportsRunFirst = (digest_of : Key → Digest) (graph : Graph) (entries : List EntryPoint) (style : Style) (modules : List PlannedModule) (ps : List Piece)
     → AreEntries entries
-    → KeepsNamesApart digest_of graph entries
+    → KeepsNamesApart digest_of entries
     → IsGraph ps graph
     → IsPlan digest_of graph entries style modules
     → (m : PlannedModule)

@@ -1,13 +1,13 @@
 -- The names of different keys differ.
-use Rattle.std.proofs.Common.{◌≡◌, ℕ, zero, suc, ◌+◌, ◌-◌, ◌^◌, ◌<◌, ◌≤◌, Bool, true, false, List, [], ◌∷◌, ◌++◌, refl, sym, ap, ◌∙◌, subst, length, take, drop, get_or, arith, inl, inr}
+use Rattle.std.proofs.Common.{◌≡◌, ℕ, zero, suc, ◌+◌, ◌-◌, ◌<◌, ◌≤◌, Bool, true, false, List, [], ◌∷◌, ◌++◌, refl, sym, ap, ◌∙◌, subst, length, take, drop, get_or, arith, inl, inr}
 use Rattle.std.specs.Prelude.{◌⊎◌, count_by, nat_eq}
 use Rattle.std.specs.Cmp.Lexicographic.{pointwise}
-use Rattle.std.proofs.lemmas.Fmt.{decimal_injective}
 use Rattle.std.proofs.lemmas.Bool.{cases_lt}
-use Rattle.std.proofs.lemmas.List.{append_assoc, append-nil, length-take}
-use Rattle.std.proofs.lemmas.List.Sums.{count_by_more_yes, count_by_more_no, count_by-le-length}
+use Rattle.std.proofs.lemmas.List.{append_assoc, append-nil}
+use Rattle.std.proofs.lemmas.List.Sums.{count_by_more_yes, count_by_more_no}
 use Rattle.std.proofs.lemmas.Slice.Eq.{bytes_eq-Decides}
 use Rattle.std.proofs.Math.Seq.{take-append_seam, drop-append_seam}
+use Rattle.sj_mangling.proofs.Numerals.{numerals_differ}
 use Rattle.module_names.specs.Names.{Key, Digest, mark, internal_name, count_with, names_behind, names_of}
 use Rattle.module_names.specs.Laws.{NamesDiffer}
 
@@ -42,11 +42,11 @@ name_behind digest_of earlier (key ∷ keys) (suc i) within = name_behind digest
 name_at : (digest_of : Key → Digest) (keys : List Key) (i : ℕ) → i < length keys → get_or (names_of digest_of keys) i [] ≡ internal_name (digest_of (get_or keys i [])) (count_with digest_of (take i keys) (digest_of (get_or keys i [])))
 name_at digest_of keys i within = name_behind digest_of [] keys i within
 
-marks_apart : (m n : ℕ) → m < 2 ^ 64 → n < 2 ^ 64 → mark m ≡ mark n → m ≡ n
-marks_apart zero zero p q e = refl
-marks_apart zero (suc n) p q e = cc
-marks_apart (suc m) zero p q e = cc
-marks_apart (suc m) (suc n) p q e = decimal_injective (suc m) (suc n) p q (ap (λ l. drop 1 l) e)
+marks_apart : (m n : ℕ) → mark m ≡ mark n → m ≡ n
+marks_apart zero zero e = refl
+marks_apart zero (suc n) e = cc
+marks_apart (suc m) zero e = cc
+marks_apart (suc m) (suc n) e = numerals_differ (suc m) (suc n) (ap (λ l. drop 1 l) e)
 
 -- the digest and the mark of a name
 digest_in : (a b : Digest) (m n : ℕ) → length a ≡ length b → internal_name a m ≡ internal_name b n → a ≡ b
@@ -59,29 +59,24 @@ mark_in a b m n same e =
     let rest : a ++ mark m ≡ a ++ mark n = ap (λ l. drop 9 l) e ∙ ap (λ d. d ++ mark n) (sym same) in
     sym (drop-append_seam a (mark m)) ∙ ap (λ l. drop (length a) l) rest ∙ drop-append_seam a (mark n)
 
-count_fits : (digest_of : Key → Digest) (keys : List Key) (i : ℕ) (digest : Digest) → length keys < 2 ^ 64 → count_with digest_of (take i keys) digest < 2 ^ 64
-count_fits digest_of keys i digest few =
-    let most : count_with digest_of (take i keys) digest ≤ length (take i keys) = count_by-le-length (λ key. pointwise nat_eq (digest_of key) digest) (take i keys) in
-    omega (arith, most, length-take i keys)
-
-not_before : (digest_of : Key → Digest) (size : ℕ) → ((key : Key) → length (digest_of key) ≡ size) → (keys : List Key) → length keys < 2 ^ 64 → (i j : ℕ) → i < j → j < length keys → get_or (names_of digest_of keys) i [] ≡ get_or (names_of digest_of keys) j [] → ⊥
-not_before digest_of size sized keys few i j before within e =
+not_before : (digest_of : Key → Digest) (size : ℕ) → ((key : Key) → length (digest_of key) ≡ size) → (keys : List Key) → (i j : ℕ) → i < j → j < length keys → get_or (names_of digest_of keys) i [] ≡ get_or (names_of digest_of keys) j [] → ⊥
+not_before digest_of size sized keys i j before within e =
     let a : Digest = digest_of (get_or keys i []) in
     let b : Digest = digest_of (get_or keys j []) in
     let m : ℕ = count_with digest_of (take i keys) a in
     let n : ℕ = count_with digest_of (take j keys) b in
     let names : internal_name a m ≡ internal_name b n = sym (name_at digest_of keys i (omega arith)) ∙ e ∙ name_at digest_of keys j within in
     let same : a ≡ b = digest_in a b m n (sized (get_or keys i []) ∙ sym (sized (get_or keys j []))) names in
-    let equal : m ≡ n = marks_apart m n (count_fits digest_of keys i a few) (count_fits digest_of keys j b few) (mark_in a b m n same names) in
+    let equal : m ≡ n = marks_apart m n (mark_in a b m n same names) in
     let itself : pointwise nat_eq a a ≡ true = (bytes_eq-Decides a a).1 refl in
     let less : m < count_with digest_of (take j keys) a = counts_apart (λ key. pointwise nat_eq (digest_of key) a) keys i j before (omega arith) itself in
     let turned : count_with digest_of (take j keys) a ≡ n = ap (λ d. count_with digest_of (take j keys) d) same in
     omega (arith, less, turned, equal)
 
 pub names_differ : NamesDiffer
-names_differ digest_of size sized keys few i j p q e = go (cases_lt i j) (cases_lt j i)
+names_differ digest_of size sized keys i j p q e = go (cases_lt i j) (cases_lt j i)
   where
     go : (i < j) ⊎ (j ≤ i) → (j < i) ⊎ (i ≤ j) → i ≡ j
-    go (inl before) other = absurd (not_before digest_of size sized keys few i j before q e)
-    go (inr low) (inl before) = absurd (not_before digest_of size sized keys few j i before p (sym e))
+    go (inl before) other = absurd (not_before digest_of size sized keys i j before q e)
+    go (inr low) (inl before) = absurd (not_before digest_of size sized keys j i before p (sym e))
     go (inr low) (inr high) = omega arith

@@ -1,10 +1,10 @@
 -- Laws of names, and digests of worked names.
-use Rattle.std.specs.Prelude.{◌≡◌, ℕ, ◌<◌, ◌^◌, List, [], codes, length, take, slice_index_or}
+use Rattle.std.specs.Prelude.{◌≡◌, ℕ, ◌<◌, List, [], codes, length, take, slice_index_or}
 use Rattle.module_names.specs.Names.{Key, Digest, names_of}
 
 -- no two keys have one name
 abbrev pub NamesDiffer : Type 0
-NamesDiffer = (digest_of : Key → Digest) (size : ℕ) → ((key : Key) → length (digest_of key) ≡ size) → (keys : List Key) → length keys < 2 ^ 64 → (i j : ℕ) → i < length keys → j < length keys → slice_index_or (names_of digest_of keys) i [] ≡ slice_index_or (names_of digest_of keys) j [] → i ≡ j
+NamesDiffer = (digest_of : Key → Digest) (size : ℕ) → ((key : Key) → length (digest_of key) ≡ size) → (keys : List Key) → (i j : ℕ) → i < length keys → j < length keys → slice_index_or (names_of digest_of keys) i [] ≡ slice_index_or (names_of digest_of keys) j [] → i ≡ j
 
 -- one digest for all
 abbrev pub one_digest : Key → Digest

@@ -1,9 +1,9 @@
 -- The names of internal modules.
 use Rattle.std.specs.Prelude.{ℕ, zero, suc, List, [], ◌∷◌, ◌++◌, codes, count_by, nat_eq}
-use Rattle.std.specs.Fmt.{decimal}
 use Rattle.std.specs.Cmp.Lexicographic.{pointwise}
 use Rattle.sha1.specs.Sha1.{sha1}
 use Rattle.hex.specs.Hex.{encode_lower}
+use Rattle.sj_mangling.specs.Numerals.{number_text}
 
 abbrev pub Key : Type 0
 Key = List ℕ
@@ -18,7 +18,7 @@ sha1_digest key = encode_lower (sha1 key)
 -- what tells keys of one digest apart: nothing for the first of them, `-1` for the second, and so on
 abbrev pub mark : ℕ → List ℕ
 mark zero = []
-mark (suc n) = codes "-" ++ decimal (suc n)
+mark (suc n) = codes "-" ++ number_text (suc n)
 
 -- the name of a module whose key has this digest, as so many keys before it do
 abbrev pub internal_name : Digest → ℕ → List ℕ

@@ -1,6 +1,7 @@
 // The names of internal modules.
 ghost use Rattle.std.specs.Prelude.{◌≡◌, IfOk};
 ghost use Rattle.module_names.specs.Names.{sha1_digest, internal_name, names_of};
+ghost use Rattle.sj_mangling.specs.Numerals.{number_text};
 
 use crate::counts::Counts;
 use sha1::Sha1;
@@ -40,8 +41,15 @@ fn name(alloc: Global, digest: &Text, earlier: usize) -> Result<Text, NoMemory>
     name.push_str(digest.as_str())?;
     if earlier > 0 {
         name.push_str("-")?;
-        let number = format!(in alloc; "{earlier}")?;
+        let number = numeral(alloc, earlier)?;
         name.push_str(number.as_str())?;
     }
     Ok(Text::from_string(name)?)
+}
+
+fn numeral(alloc: Global, number: usize) -> Result<Text, NoMemory>
+    ensures { IfOk result (λ text. text ≡ number_text number) }
+{
+    let text = format!(in alloc; "{number}")?;
+    Ok(Text::from_string(text)?)
 }

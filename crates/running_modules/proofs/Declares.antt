@@ -86,7 +86,7 @@ last_is_new (y ∷ ys) x d i =
     let k = and_parts (not (is_among (ys ++ x ∷ []) y)) (are_distinct (ys ++ x ∷ [])) d in
     elim (cons_cases y x ys i) [ inl e ↦ never_both (is_among (ys ++ x ∷ []) y) k.0 (among_is (ys ++ x ∷ []) y (subst (λ (z : Name). Contains (ys ++ x ∷ []) z) (sym e) (Contains-push ys x))) | inr later ↦ last_is_new ys x k.1 later ]
 
-module _ (digest_of : Key → Digest) (graph : Graph) (entries : List EntryPoint) (style : Style) (modules : List PlannedModule) (files : List SourceFile) (l : Linked) (all : List EmittedMethod) (ps : List Piece) (a : IsAccepted entries files l.world) (reached : (f : Fact) → Contains l.facts f → Reachable l.world entries f) (p : AreLinkedPieces l all ps) (arrays : Contains p.helpers ArrayClass → IsLive l.world l.facts object) (valid : AreEntries entries) (keep : KeepsNamesApart digest_of graph entries) (is_graph : IsGraph ps graph) (is : IsPlan digest_of graph entries style modules) (closed : AreClosed modules ps) where
+module _ (digest_of : Key → Digest) (graph : Graph) (entries : List EntryPoint) (style : Style) (modules : List PlannedModule) (files : List SourceFile) (l : Linked) (all : List EmittedMethod) (ps : List Piece) (a : IsAccepted entries files l.world) (reached : (f : Fact) → Contains l.facts f → Reachable l.world entries f) (p : AreLinkedPieces l all ps) (arrays : Contains p.helpers ArrayClass → IsLive l.world l.facts object) (valid : AreEntries entries) (keep : KeepsNamesApart digest_of entries) (is_graph : IsGraph ps graph) (is : IsPlan digest_of graph entries style modules) (closed : AreClosed modules ps) where
   abbrev program : Program
   program = program_of modules ps
 

@@ -51,7 +51,7 @@ PublicModulesAreThere = (digest_of : Key → Digest) (graph : Graph) (entries : 
 -- the file of a module of a plan has the items of the pieces that its classes own, and the calls of its initializers
 abbrev pub ModulesHaveTheirItems : Type 0
 ModulesHaveTheirItems = (digest_of : Key → Digest) (graph : Graph) (entries : List EntryPoint) (style : Style) (modules : List PlannedModule) (ps : List Piece)
-    → KeepsNamesApart digest_of graph entries
+    → KeepsNamesApart digest_of entries
     → IsPlan digest_of graph entries style modules
     → (m : PlannedModule)
     → Contains modules m
@@ -61,7 +61,7 @@ ModulesHaveTheirItems = (digest_of : Key → Digest) (graph : Graph) (entries : 
 abbrev pub ReachedFilesOnlyDeclare : Type 0
 ReachedFilesOnlyDeclare = (digest_of : Key → Digest) (graph : Graph) (entries : List EntryPoint) (style : Style) (modules : List PlannedModule) (ps : List Piece)
     → AreEntries entries
-    → KeepsNamesApart digest_of graph entries
+    → KeepsNamesApart digest_of entries
     → IsGraph ps graph
     → IsPlan digest_of graph entries style modules
     → (f g : Bytes)
@@ -80,7 +80,7 @@ ModulesDeclareInOrder = (digest_of : Key → Digest) (graph : Graph) (entries : 
     → (p : AreLinkedPieces l all ps)
     → (Contains p.helpers ArrayClass → IsLive l.world l.facts object)
     → AreEntries entries
-    → KeepsNamesApart digest_of graph entries
+    → KeepsNamesApart digest_of entries
     → IsGraph ps graph
     → IsPlan digest_of graph entries style modules
     → AreClosed modules ps
@@ -98,7 +98,7 @@ ModulesDeclareConstants = (digest_of : Key → Digest) (graph : Graph) (entries 
     → (p : AreLinkedPieces l all ps)
     → (Contains p.helpers ArrayClass → IsLive l.world l.facts object)
     → AreEntries entries
-    → KeepsNamesApart digest_of graph entries
+    → KeepsNamesApart digest_of entries
     → IsGraph ps graph
     → IsPlan digest_of graph entries style modules
     → AreClosed modules ps

@@ -21,7 +21,7 @@ use Rattle.folder_linking.proofs.LinkedEdits.{linked_folders_agree}
 use Rattle.folder_linking.specs.Edits.{IsLinkOf}
 use Rattle.folder_linking.proofs.Linked.{bodies_many}
 use Rattle.folder_linking.specs.Counts.{with_emits, EmitsAtMost}
-use Rattle.folder_linking.specs.Linking.{IsCountableLink, IsLinkable}
+use Rattle.folder_linking.specs.Linking.{IsLinkByEntries, IsLinkable}
 use Rattle.folder_linking.specs.Modules.{as_file}
 use Rattle.folder_linking.specs.declared.files.ModuleFile.{ModuleFile}
 use Rattle.sj_session.specs.Counts as counts
@@ -80,9 +80,9 @@ module _ (entries : List EntryPoint) (files : List SourceFile) (l : Linked) (jud
   pub counts_all : (old middle new : Meter) → Counts files (AreFactsIn entries files) (Ok l) old middle → new ≡ with_emits (bodies_among l.facts) middle → counts.CountsSome entries files old new
   counts_all old middle new h emitted = counts_unlinked old middle new h (record { emits = bodies_among l.facts; few = omega arith; counted = emitted })
 
-  module _ (style : Style) (links : List ModuleFile) (link : IsCountableLink l.world entries style (map as_file links)) where
-    abbrev linked_to : (fs : List ModuleFile) → IsCountableLink l.world entries style (map as_file fs) → IsLinkOf entries files style (map as_file fs)
-    linked_to fs its = record { world = l.world; is_accepted = world_accepted; link = its.link; countable = its.countable }
+  module _ (style : Style) (links : List ModuleFile) (link : IsLinkByEntries l.world entries style (map as_file links)) where
+    abbrev linked_to : (fs : List ModuleFile) → IsLinkByEntries l.world entries style (map as_file fs) → IsLinkOf entries files style (map as_file fs)
+    linked_to fs its = record { world = l.world; is_accepted = world_accepted; link = its.link }
 
     pub edited : (edit : Edit) → edit.files.items ≡ links → edit.report ≡ record { modules = length links; read = length files; checked = bodies_among l.facts; optimised = 0; emitted = bodies_among l.facts } → IsEdit entries files style edit
     edited edit made told = record {
@@ -99,8 +99,8 @@ module _ (entries : List EntryPoint) (files : List SourceFile) (l : Linked) (jud
       agrees = λ w id a among. subst (λ (u : Classes). Agrees u entries (map as_file edit.files.items) id) (same_world entries files l.world w world_accepted a) (linked_folders_agree entries files style id (map as_file edit.files.items) link.valid (linked_to edit.files.items same) among);
     }
       where
-        same : IsCountableLink l.world entries style (map as_file edit.files.items)
-        same = subst (λ (fs : List ModuleFile). IsCountableLink l.world entries style (map as_file fs)) (sym made) link
+        same : IsLinkByEntries l.world entries style (map as_file edit.files.items)
+        same = subst (λ (fs : List ModuleFile). IsLinkByEntries l.world entries style (map as_file fs)) (sym made) link
 
     pub counts_edited : (edit : Edit) (old middle new : Meter) → edit.report ≡ record { modules = length links; read = length files; checked = bodies_among l.facts; optimised = 0; emitted = bodies_among l.facts } → Counts files (AreFactsIn entries files) (Ok l) old middle → new ≡ with_emits (bodies_among l.facts) middle → counts.CountsMade entries files (Ok edit) old new
     counts_edited edit old middle new told h emitted = emitted ∙ ap (with_emits (bodies_among l.facts)) (judged_all old middle h) ∙ ap (λ (r : Report). counts.with_work r.read r.checked r.emitted old) (sym told)

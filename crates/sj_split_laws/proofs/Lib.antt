@@ -1,5 +1,4 @@
 pub mod Apart
-pub mod Counted
 pub mod Names
 pub mod Digests
 pub mod Placing

@@ -1,5 +1,5 @@
 -- The names of a plan's modules differ.
-use Rattle.std.proofs.Common.{◌≡◌, ℕ, ◌<◌, ◌^◌, Bool, true, false, true≢false, List, [], ◌∷◌, ◌++◌, Contains, refl, sym, ap, ◌∙◌, subst, inl, inr, length, get_or, map, arith}
+use Rattle.std.proofs.Common.{◌≡◌, ℕ, ◌<◌, Bool, true, false, true≢false, List, [], ◌∷◌, ◌++◌, Contains, refl, sym, ap, ◌∙◌, subst, inl, inr, length, get_or, map, arith}
 use Rattle.std.specs.Prelude.{if◌then◌else◌, nat_eq, codes, not}
 use Rattle.std.specs.List.{IsDistinct, starts_with}
 use Rattle.std.specs.Cmp.Lexicographic.{nat_list_eq_equiv}
@@ -24,7 +24,6 @@ use Rattle.sj_split.proofs.Members.{at_first, further, cons_cases, Mapped, from_
 use Rattle.sj_split.proofs.Planned.{names_length}
 use Rattle.sj_split_laws.specs.Laws.{name_of, HaveOneLength, KeepsNamesApart, NamesDiffer, IdsAreNotInternal}
 use Rattle.sj_split_laws.proofs.Apart.{differ, apart_none, IsNew, new_by, new_is_not, increasing_apart, apart_cons, apart_head, apart_tail, apart_append}
-use Rattle.sj_split_laws.proofs.Counted.{few_keys}
 
 abbrev is_internal_name : Bytes → Bool
 is_internal_name name = starts_with nat_eq name (codes "internal-")
@@ -38,8 +37,8 @@ each_internal digest_of earlier (key ∷ keys) name h =
     let first : Bytes = internal_name (digest_of key) (count_with digest_of earlier (digest_of key)) in
     elim (cons_cases first name (names_behind digest_of (earlier ++ key ∷ []) keys) h) [ inl e ↦ subst (λ (n : Bytes). is_internal_name n ≡ true) e (internal_begins (digest_of key) (count_with digest_of earlier (digest_of key))) | inr later ↦ each_internal digest_of (earlier ++ key ∷ []) keys name later ]
 
-names_apart : (digest_of : Key → Digest) → HaveOneLength digest_of → (keys : List Key) → length keys < 2 ^ 64 → IsDistinct is_same (names_of digest_of keys)
-names_apart digest_of one keys few = IsDistinct-from_apart is_same (names_of digest_of keys) (λ i j d before within. differ (get_or (names_of digest_of keys) i d) (get_or (names_of digest_of keys) j d) (λ e. same i j d before within e))
+names_apart : (digest_of : Key → Digest) → HaveOneLength digest_of → (keys : List Key) → IsDistinct is_same (names_of digest_of keys)
+names_apart digest_of one keys = IsDistinct-from_apart is_same (names_of digest_of keys) (λ i j d before within. differ (get_or (names_of digest_of keys) i d) (get_or (names_of digest_of keys) j d) (λ e. same i j d before within e))
   where
     long : length (names_of digest_of keys) ≡ length keys
     long = names_length digest_of keys (names_of digest_of keys) refl
@@ -47,7 +46,7 @@ names_apart digest_of one keys few = IsDistinct-from_apart is_same (names_of dig
     same : (i j : ℕ) (d : Bytes) → i < j → j < length (names_of digest_of keys) → get_or (names_of digest_of keys) i d ≡ get_or (names_of digest_of keys) j d → ⊥
     same i j d before within e =
         let here : i < length (names_of digest_of keys) = omega arith in
-        let equal : i ≡ j = key_names_differ digest_of one.size one.sized keys few i j (omega (arith, here, long)) (omega (arith, within, long)) (get_or_default (names_of digest_of keys) i [] d here ∙ e ∙ get_or_default (names_of digest_of keys) j d [] within) in
+        let equal : i ≡ j = key_names_differ digest_of one.size one.sized keys i j (omega (arith, here, long)) (omega (arith, within, long)) (get_or_default (names_of digest_of keys) i [] d here ∙ e ∙ get_or_default (names_of digest_of keys) j d [] within) in
         omega (arith, before, equal)
 
 public_names : (entries : List EntryPoint) (homes : List Settled) (ids : List Id) → map name_of (map (public_module entries homes) ids) ≡ ids
@@ -77,14 +76,12 @@ module _ (owners : List Name) (homes : List Settled) where
 abbrev pub unordered : (digest_of : Key → Digest) (graph : Graph) (entries : List EntryPoint) (style : Style) (modules : List PlannedModule) → IsPlan digest_of graph entries style modules → List PlannedModule
 unordered digest_of graph entries style modules is = map (public_module entries is.homes) is.ids ++ internal_modules graph.owners is.homes is.keys (names_of digest_of is.keys)
 
-pub unordered_apart : (digest_of : Key → Digest) (graph : Graph) (entries : List EntryPoint) (style : Style) (modules : List PlannedModule) → KeepsNamesApart digest_of graph entries → (is : IsPlan digest_of graph entries style modules) → IsDistinct is_same (map name_of (unordered digest_of graph entries style modules is))
+pub unordered_apart : (digest_of : Key → Digest) (graph : Graph) (entries : List EntryPoint) (style : Style) (modules : List PlannedModule) → KeepsNamesApart digest_of entries → (is : IsPlan digest_of graph entries style modules) → IsDistinct is_same (map name_of (unordered digest_of graph entries style modules is))
 unordered_apart digest_of graph entries style modules keeps is =
     let names : List Bytes = names_of digest_of is.keys in
     let public : List PlannedModule = map (public_module entries is.homes) is.ids in
     let internal : List PlannedModule = internal_modules graph.owners is.homes is.keys names in
-    let few = few_keys graph.references entries style is.homes is.keys is.are_homes is.are_keys in
-    let countable = keeps.countable in
-    let both : IsDistinct is_same (is.ids ++ map name_of internal) = apart_append is.ids (map name_of internal) (increasing_apart is.ids is.are_ids.increasing) (kept_apart graph.owners is.homes is.keys names (names_apart digest_of keeps.one_length is.keys (omega (arith, few, countable)))) (λ t h k. never t (from_map module_of entries t ((is.are_ids.exact t).0 h)) (each_internal digest_of [] is.keys t (kept_among graph.owners is.homes is.keys names t k))) in
+    let both : IsDistinct is_same (is.ids ++ map name_of internal) = apart_append is.ids (map name_of internal) (increasing_apart is.ids is.are_ids.increasing) (kept_apart graph.owners is.homes is.keys names (names_apart digest_of keeps.one_length is.keys)) (λ t h k. never t (from_map module_of entries t ((is.are_ids.exact t).0 h)) (each_internal digest_of [] is.keys t (kept_among graph.owners is.homes is.keys names t k))) in
     subst (λ l. IsDistinct is_same l) (sym (map-append name_of public internal ∙ ap (λ l. l ++ map name_of internal) (public_names entries is.homes is.ids))) both
   where
     never : (t : Bytes) → Mapped module_of entries t → is_internal_name t ≡ true → ⊥

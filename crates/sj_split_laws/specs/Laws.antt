@@ -1,5 +1,5 @@
 -- Laws of plans.
-use Rattle.std.specs.Prelude.{◌≡◌, ◌↔◌, ◌⊎◌, ℕ, ◌+◌, ◌<◌, ◌^◌, false, nat_eq, List, codes, length, map, Contains}
+use Rattle.std.specs.Prelude.{◌≡◌, ◌↔◌, ◌⊎◌, ℕ, false, nat_eq, List, codes, length, map, Contains}
 use Rattle.std.specs.List.{IsDistinct, starts_with}
 use Rattle.module_names.specs.Names.{Key, Digest}
 use Rattle.sj_graph.specs.declared.graphs.Graph.{Graph}
@@ -24,22 +24,17 @@ pub record HaveOneLength (digest_of : Key → Digest) : Type 0 where
 abbrev pub NoneIsInternal : List EntryPoint → Type 0
 NoneIsInternal entries = (entry : EntryPoint) → Contains entries entry → starts_with nat_eq entry.module (codes "internal-") ≡ false
 
--- there are fewer references and entries than a 64-bit number can count
-abbrev pub AreCountable : Graph → List EntryPoint → Type 0
-AreCountable graph entries = length graph.references + length entries < 2 ^ 64
-
 -- what keeps the names of modules apart
-pub record KeepsNamesApart (digest_of : Key → Digest) (graph : Graph) (entries : List EntryPoint) : Type 0 where
+pub record KeepsNamesApart (digest_of : Key → Digest) (entries : List EntryPoint) : Type 0 where
   pub one_length : HaveOneLength digest_of
   pub none_internal : NoneIsInternal entries
-  pub countable : AreCountable graph entries
 
 abbrev pub name_of : PlannedModule → Bytes
 name_of planned = planned.name
 
 -- no two modules of a plan have one name
 abbrev pub NamesDiffer : Type 0
-NamesDiffer = (digest_of : Key → Digest) (graph : Graph) (entries : List EntryPoint) (style : Style) (modules : List PlannedModule) → KeepsNamesApart digest_of graph entries → IsPlan digest_of graph entries style modules → IsDistinct is_same (map name_of modules)
+NamesDiffer = (digest_of : Key → Digest) (graph : Graph) (entries : List EntryPoint) (style : Style) (modules : List PlannedModule) → KeepsNamesApart digest_of entries → IsPlan digest_of graph entries style modules → IsDistinct is_same (map name_of modules)
 
 -- the ids of a link's entries don't begin as the names of internal modules do
 abbrev pub IdsAreNotInternal : Type 0
@@ -84,4 +79,4 @@ ModulesAreTags = (digest_of : Key → Digest) (graph : Graph) (entries : List En
 
 -- two plans of the same are one
 abbrev pub PlansAreOne : Type 0
-PlansAreOne = (digest_of : Key → Digest) (graph : Graph) (entries : List EntryPoint) (style : Style) (one other : List PlannedModule) → KeepsNamesApart digest_of graph entries → IsPlan digest_of graph entries style one → IsPlan digest_of graph entries style other → one ≡ other
+PlansAreOne = (digest_of : Key → Digest) (graph : Graph) (entries : List EntryPoint) (style : Style) (one other : List PlannedModule) → KeepsNamesApart digest_of entries → IsPlan digest_of graph entries style one → IsPlan digest_of graph entries style other → one ≡ other
