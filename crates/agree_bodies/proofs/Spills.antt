@@ -161,11 +161,14 @@ module _ (z : Setting) (lawful : Lawful z) where
       by (inr is) = inl (record { value = g.value; js_value = g.js_value; gives = λ s. ap (λ (o : Out ir.Ended). ir.go_on o ir_meaning.never_null) (g.gives s) ∙ is env s; alike = g.alike; goes_on = g.goes_on })
 
   pub surely_does : (c : Context) (j : ℕ) (t : Piece) → OperandDoes c j t → OperandDoes c j (record { run = ir_meaning.receiving z.place.classes true z.low t.run; here = t.here })
-  surely_does c j t (inl h) = inl (h.0, record {
-    alike = λ w env sc sees k s u g same. never_null_alike z.direction (Valued z.place k env t.here.tpe) (t.run env s) (shown z t.here.text sc u) (h.1.alike w env sc sees k s u g same);
-    told = h.1.told;
-    fixes = λ e p sound w env sc sees. surely_fixed p w env sc t.here.tpe t.run t.here.text (h.1.fixes e p sound w env sc sees);
-  })
+  surely_does c j t (inl h) = inl (
+    h.0,
+    record {
+      alike = λ w env sc sees k s u g same. never_null_alike z.direction (Valued z.place k env t.here.tpe) (t.run env s) (shown z t.here.text sc u) (h.1.alike w env sc sees k s u g same);
+      told = h.1.told;
+      fixes = λ e p sound w env sc sees. surely_fixed p w env sc t.here.tpe t.run t.here.text (h.1.fixes e p sound w env sc sees);
+    },
+  )
   surely_does c j t (inr h) = inr (h.0, h.1, h.2, λ p i l ext sound ahead w env s sc u ready same. never_null_alike z.direction (Came z.place z.code (writing (keeping c p) (core.numbered i)) (writing (keeping c p) (core.numbered i)).scope (to_variable (core.numbered i) (t.here.tpe)) w sc) (t.run env s) (run z (t.here.code (to_variable (core.numbered i) (t.here.tpe)) (suc i)).statements sc u) (h.3 p i l ext sound ahead w env s sc u ready same))
 
   abbrev pub OperandsDo : Context → ℕ → List Piece → Type 1

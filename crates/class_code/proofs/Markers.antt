@@ -42,4 +42,4 @@ read-mangled [] = refl
 read-mangled (b ∷ bs) = read-byte b (mangled bs) ∙ ap (with_byte b) (read-mangled bs)
 
 pub marked : MarkersTellClasses
-marked c named utf8 = ap (if_marker (class_binding Marker c)) (read-mangled c) ∙ ap (λ (t : Bool). if t then Some c else None) (and_from (is_class_name c) (is_utf8 c && is_same_text (class_binding Marker c) (class_binding Marker c)) named (and_from (is_utf8 c) (is_same_text (class_binding Marker c) (class_binding Marker c)) utf8 (text-refl (class_binding Marker c))))
+marked c named utf8 = ap (if_marker (class_binding Marker c)) (read-mangled c) ∙ ap (λ (t : Bool). if t then Some c else None) (and_from (is_class_name c && is_utf8 c) (is_same_text (class_binding Marker c) (class_binding Marker c)) (and_from (is_class_name c) (is_utf8 c) named utf8) (text-refl (class_binding Marker c)))
