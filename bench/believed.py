@@ -2,7 +2,7 @@
 """Counts, for each claim of docs/PROVED.md, the lines of definitions in specs/ that a reader has to believe: the definitions that the claim
 names, those that they cite, and so on. Comments are counted apart, and import lines and blank lines not at all.
 
-    bench/believed.py                               the table of all claims
+    bench/believed.py                               the table of all claims, and what the headline is made of
     bench/believed.py CRATE.FILE:NAME,.. [--stop NAME,..]   one claim, crate by crate
 
 A definition counts as a whole where its name, one of its constructors or one of its fields is cited. Imports are followed through `pub use`. A
@@ -41,6 +41,20 @@ CLAIMS = [
     ("which methods have the same bytes (`canon`)", "sj_canon.Methods:*", ""),
     ("a generated folder (`folder`)", "sj_gen.Folder:*", ""),
 ]
+PARTS = {
+    "the meaning of ECMAScript": ["js_mean"],
+    "the meaning of the IR": ["ir_mean", "sure_receivers"],
+    "outcomes, arithmetic, and when two meanings agree": ["outcomes", "int_arithmetic", "sj_agree"],
+    "trees, names and texts": ["sj_trees", "tree_parts", "sj_names", "sj_units"],
+    "the class file": ["sj_read_spec", "exact_place"],
+    "the emitted subset and its text": ["js_tree", "sj_mangling"],
+    "the local rules": ["sj_local"],
+    "typing": ["sj_typing_spec", "sj_ask"],
+    "worlds: subtypes and targets": ["sj_world"],
+    "reachability, with what bodies ask for": ["sj_infos", "sj_reach_spec", "sj_reach", "worklist"],
+    "the stages of a verdict": ["folder_judging_spec", "folder_sizes", "accepted_folders"],
+    "words, entries, folders, outputs, and the clause itself": ["sjslink", "sj_words", "entries_file", "sj_outside", "folder_files", "sj_split"],
+}
 DEFINITION = re.compile(r"^(abbrev|pub|record|data|opaque|mutual|unfoldable|ghost)\b")
 NAME = re.compile(r"^(?:abbrev|pub|record|data|opaque|unfoldable)(?:\s+(?:pub|record|data|abbrev|opaque|unfoldable))*\s+(\S+)")
 INNER = re.compile(r"^\s+(?:abbrev )?(?:pub )?(?:abbrev )?(?:pub )?(?:data |record )?(\S+) :")
@@ -221,6 +235,11 @@ def main(words):
     for claim, roots, stop in CLAIMS:
         by_crate, comments = counts(closure(roots.split(), stop.split(",")))
         print(f"| {claim} | {sum(it[1] for it in by_crate):,} | {comments:,} |")
+    by_crate = dict(counts(closure(CLAIMS[0][1].split(), CLAIMS[0][2].split(",")))[0])
+    print()
+    for part, crates in PARTS.items():
+        print(f"| {part} | {sum(by_crate.pop(crate, 0) for crate in crates):,} |")
+    print(*[f"| {crate} | {lines} |" for crate, lines in by_crate.items()], sep="\n", end="")
 
 
 if __name__ == "__main__":
