@@ -1,6 +1,6 @@
 -- The names of the modules of a plan, with `.js`, are names of files.
 use Rattle.std.proofs.Common.{◌≡◌, ◌<◌, ◌+◌, ◌/◌, ◌%◌, ◌^◌, ◌==◌, ◌++◌, ◌&&◌, ℕ, zero, suc, Bool, true, false, List, [], ◌∷◌, Contains, inl, inr, refl, sym, ap, subst, ◌∙◌, map, length, arith, slice_index}
-use Rattle.std.specs.Prelude.{◌⊎◌, codes, nat_le}
+use Rattle.std.specs.Prelude.{◌⊎◌, codes, nat_le, if◌then◌else◌}
 use Rattle.std.specs.Int.Digits.{digits_of, AllBelowBase}
 use Rattle.std.proofs.lemmas.Int.Digits.{all_below_base_digits_of}
 use Rattle.std.specs.Int.{byte_at, bytes_high_first, to_be_bytes, w32}
@@ -79,16 +79,16 @@ passes_below test (suc n) d h low = go (split d n low) (λ l. passes_below test 
     go (inr e) rest = subst (λ (k : ℕ). test k ≡ true) (sym e) (and_parts (all_below test n) (test n) h).1
 
 -- decimal numerals
-digit_fits : (d : ℕ) → d < 10 → is_file_character (48 + d) ≡ true
-digit_fits d small = passes_below (λ k. is_file_character (48 + k)) 10 d refl small
+numeral_digit : (d : ℕ) → d < 10 → is_file_character (48 + d) ≡ true
+numeral_digit d small = passes_below (λ k. is_file_character (48 + k)) 10 d refl small
 
-digits_fit : (ds : List ℕ) → AllBelowBase 10 ds → Fits (map (λ d. 48 + d) ds)
-digits_fit [] h = refl
-digits_fit (d ∷ ds) h = fits_more (48 + d) (map (λ d. 48 + d) ds) (digit_fits d h.0) (digits_fit ds h.1)
+numeral_digits : (ds : List ℕ) → AllBelowBase 10 ds → Fits (map (λ d. 48 + d) ds)
+numeral_digits [] h = refl
+numeral_digits (d ∷ ds) h = fits_more (48 + d) (map (λ d. 48 + d) ds) (numeral_digit d h.0) (numeral_digits ds h.1)
 
 numeral_fits : (n : ℕ) → Fits (number_text n)
 numeral_fits zero = refl
-numeral_fits (suc n) = digits_fit (digits_of 10 (suc n)) (all_below_base_digits_of 10 (suc n) (omega arith))
+numeral_fits (suc n) = numeral_digits (digits_of 10 (suc n)) (all_below_base_digits_of 10 (suc n) (omega arith))
 
 mark_fits : (n : ℕ) → Fits (mark n)
 mark_fits zero = refl
