@@ -42,25 +42,30 @@ def constructors():
             yield kind, name
 
 
-def definitions_with(name, file, wanted):
-    """The definitions of the file that have a clause with this name on its left side, or a constructor that makes it."""
-    found = []
-    for line in (CRATES / file).read_text().split("\n"):
+def clauses_for(name, column, file, wanted):
+    """The clauses of the file that speak of the name: each definition's first one, with its line. A clause has the name on its left side, or, where it
+    is read from bytes, on its right side."""
+    found = {}
+    for number, line in enumerate((CRATES / file).read_text().split("\n"), 1):
         words = line.split()
-        if len(words) < 2 or words[0] in ("use", "pub", "abbrev", "--", "module", "where"):
+        if len(words) < 2 or words[0] in ("use", "pub", "abbrev", "unfoldable", "--", "module", "where"):
             continue
         left = line.split(" = ")[0] if " = " in line else line if words[1] == ":" else ""
-        is_named = re.search(rf"(?<![\w.]){name}(?![\w-])", left.strip().partition(" ")[2])
-        if is_named and words[0] not in found and (not wanted or words[0] in wanted):
-            found.append(words[0])
-    return found
+        text = line if column == "Bytes" else left
+        if re.search(rf"(?<![\w.]){name}(?![\w-])", text.strip().partition(" ")[2]) and (not wanted or words[0] in wanted):
+            found.setdefault(words[0], number)
+    return found.items()
+
+
+def links(name, column, file, wanted):
+    return [f"[{it}:{line}](../crates/{file}#L{line})" for it, line in clauses_for(name, column, file, wanted)][:3]
 
 
 def table(head, rows, columns):
     yield "| " + " | ".join([*head, *(it[0] for it in columns)]) + " |"
     yield "|---" * (len(head) + len(columns)) + "|"
     for row, name in rows:
-        cells = [" ".join(f"`{it}`" for it in definitions_with(name, file, wanted)[:3]) or "–" for _, file, wanted in columns]
+        cells = [" ".join(links(name, *column)) or "–" for column in columns]
         yield "| " + " | ".join([*row, *cells]) + " |"
 
 
@@ -71,7 +76,7 @@ def places(columns):
 def page():
     yield "# Where each form is decided"
     yield ""
-    yield "`bench/forms.py` writes this page, and `.ci/run` looks whether it is up to date. Each cell names the definitions that have a clause for the form, three at most; – stands where none has one of its own."
+    yield "`bench/forms.py` writes this page, and `.ci/run` looks whether it is up to date. Each cell names the definitions that have a clause for the form, three at most, with the line in the file of its column; – stands where none has a clause of its own for it."
     yield ""
     yield "## Trees"
     yield ""
