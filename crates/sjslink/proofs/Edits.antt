@@ -41,8 +41,10 @@ module _ {X : Type 0} where
 
 -- what is put for one answer more
 puts_more : (out : List ℕ) (number : ℕ) (answers : List Answer) (a : Answer) → puts_from out number (answers ++ a ∷ []) ≡ puts_from out number answers ++ puts_for out (number + length answers) a
-puts_more out number [] a = append-nil (puts_for out number a) ∙ ap (λ n. puts_for out n a) (omega arith)
-puts_more out number (b ∷ bs) a = ap (λ ps. puts_for out number b ++ ps) (puts_more out (number + 1) bs a ∙ ap (λ n. puts_from out (number + 1) bs ++ puts_for out n a) (omega arith)) ∙ sym (append_assoc (puts_for out number b) (puts_from out (number + 1) bs) (puts_for out (number + length (b ∷ bs)) a))
+puts_more out number [] a = let here : number ≡ number + 0 = omega arith in append-nil (puts_for out number a) ∙ ap (λ n. puts_for out n a) here
+puts_more out number (b ∷ bs) a =
+    let next : (number + 1) + length bs ≡ number + length (b ∷ bs) = omega arith in
+    ap (λ ps. puts_for out number b ++ ps) (puts_more out (number + 1) bs a ∙ ap (λ n. puts_from out (number + 1) bs ++ puts_for out n a) next) ∙ sym (append_assoc (puts_for out number b) (puts_from out (number + 1) bs) (puts_for out (number + length (b ∷ bs)) a))
 
 module _ (contents : Parts) (out : List ℕ) (entries : List EntryPoint) (style : Style) where
   edited_more : (paths : List (List ℕ)) (edits : List Edited) (path : List ℕ) (e : Edited) → AreEdited contents out entries style paths edits → IsEdited contents out entries style (length paths + 1) path e → AreEdited contents out entries style (paths ++ path ∷ []) (edits ++ e ∷ [])

@@ -4,6 +4,7 @@ use Rattle.std.proofs.Common.{arith}
 use Rattle.std.proofs.lemmas.Grind.{common_steps}
 use Rattle.sj_outside.proofs.Laws.{Appends-none}
 use Rattle.sj_words.specs.Earlier.{split_command as command}
+use Rattle.sjslink.specs.Headline.{none_put}
 use Rattle.sjslink.specs.Input.{IsLinkCommand}
 use Rattle.sjslink.specs.Output.{no_command, out_of_memory, usage_line}
 use Rattle.sjslink.specs.declared.answers.Status.TheVariants.{Usage}
@@ -59,3 +60,14 @@ returns-in-Ok-clause-bad_entries g c number e = absurd (usage_is_no_bad_line _ _
 
 pub returns-in-Err-clause-no_command : goal.returns-in-Err-clause-no_command
 returns-in-Err-clause-no_command g c none = out_of_memory (Appends-none _, Appends-none _)
+
+pub returns-in-Ok-clause-agrees : goal.returns-in-Ok-clause-agrees
+returns-in-Ok-clause-agrees g c contents tells ended =
+    let none : command (map string_bytes c.args.words.items) ≡ None = grind (arith, common_steps, none_generates) in
+    (line_ends_run (map string_bytes c.args.words.items) contents _ _ _ Usage usage_line _ c.finish.result (no_command none) (λ P p. p) usage_is_no_edit c.finish.ensures.ends).agrees ended
+
+pub returns-in-Ok-clause-shown : goal.returns-in-Ok-clause-shown
+returns-in-Ok-clause-shown g c contents tells = λ link is. none_put (Appends-none _)
+
+pub returns-in-Err-clause-shown : goal.returns-in-Err-clause-shown
+returns-in-Err-clause-shown g c contents tells = λ link is. none_put (Appends-none _)
