@@ -18,6 +18,7 @@ use Rattle.agree_body_forms.specs.Built.{Usable, has_static, has_cell, members_a
 use Rattle.file_declarations.specs.Declared.{alone, on_receiver, completing, FieldsAreKept}
 use Rattle.file_tops.proofs.Run.{some_same}
 use Rattle.sj_emit_help_spec.specs.Helpers.{failure_class, helper_name, helper_item, used_helpers, constants}
+use Rattle.sj_emit_help_spec.specs.Words.{marker}
 use Rattle.sj_emit_help_spec.specs.declared.kinds.Failure.{Failure}
 use Rattle.sj_emit_help_spec.specs.declared.kinds.Helper.{Helper}
 use Rattle.sj_emit_help_spec.specs.declared.kinds.Helper.TheVariants.{ArrayClass, Throws}
