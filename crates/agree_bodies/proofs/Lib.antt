@@ -41,3 +41,5 @@ pub use Rattle.agree_plain_trees.proofs.Worlds
 pub use Rattle.agree_early_errors.proofs.Declared
 pub use Rattle.agree_early_errors.proofs.Names
 pub use Rattle.agree_plain_trees.proofs.Looked
+pub use Rattle.agree_plain_trees.proofs.NeverNull
+pub use Rattle.agree_plain_trees.proofs.Nulls

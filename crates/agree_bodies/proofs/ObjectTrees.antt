@@ -52,7 +52,7 @@ use Rattle.agree_plain_trees.proofs.Plain.{plain_alike, as_operand}
 use Rattle.agree_bodies.proofs.Contexts.{Context, Writes, Sound, Ahead, Ready, ready-lift, Keeps, keeps-refl, keeps-less, let_go, Came, gave, threw}
 use Rattle.agree_bodies.proofs.Forms.{sound-writing, ahead-writing, outside-writing, of_operands, one_final, act_alike, quiet_alike, OneFinal}
 use Rattle.agree_early_errors.proofs.Good.{no_name, finish-good}
-use Rattle.agree_bodies.proofs.Spills.{keeping, writing, extends-refl, Does, Final, Piece, OperandDoes, OperandsDo, operands-later, runs, operands_in, types, Lasting, Onwards, first_code, first-is, first_does, spill_does}
+use Rattle.agree_bodies.proofs.Spills.{keeping, writing, extends-refl, Does, Final, Piece, OperandDoes, OperandsDo, surely_does, operands-later, runs, operands_in, types, Lasting, Onwards, first_code, first-is, first_does, spill_does}
 use Rattle.agree_bodies.proofs.Statements.{finish_alike, valued_then, valued_done, value_statement, throws-on, ends-one, Ends}
 use Rattle.agree_bodies.proofs.Trees.{written, LowAlike, TreeDoes, FineHere, piece, operand_does, list_of, operands-list, runs-list, types-list}
 
@@ -118,7 +118,7 @@ module _ (z : Setting) (lawful : Lawful z) (low : LowAlike z) where
 
   -- a receiver as an operand: where it has its check and isn't plain, it is spilled by itself
   receiver_by : (b : Bool) (c : Context) (j : ℕ) (e : Term) → TreeDoes z lawful low e → Outside c (Own e) → FineAt c e → (b ≡ true) ⊎ ((usable z).helper check_name ≡ true) → (has_no_value (type_of_term e) ≡ false) ⊎ (type_of_term e ≡ Nothing) → OperandDoes z lawful c j (record { run = ir_meaning.receiving z.place.classes b z.low (ir_meaning.step z.place.classes z.low e); here = received b (operand z.is_mutable z.code.sure e (λ k j. into z.is_mutable z.code.sure c.targets k j e)) })
-  receiver_by true c j e does out fine may value = operand_does z lawful low c j e does out fine
+  receiver_by true c j e does out fine may value = surely_does z lawful c j (record { run = ir_meaning.step z.place.classes z.low e; here = operand z.is_mutable z.code.sure e (λ k j. into z.is_mutable z.code.sure c.targets k j e) }) (operand_does z lawful low c j e does out fine)
   receiver_by false c j e does out fine (inl i) value = absurd (impossible i)
   receiver_by false c j e does out (inl h) (inr has) value = inl (h.plain, record { alike = λ w env sc sees. checked_alike z lawful (type_of_term e) w env sc (ir_meaning.step z.place.classes z.low e) (expression_of z.code.sure e) has sees.inside (more_operands (type_of_term e) (ir_meaning.step z.place.classes z.low e) (expression_of z.code.sure e) [] [] [] (plain_alike z lawful c.scope e h).told (as_operand z lawful c.scope e (plain_alike z lawful c.scope e h).alike w env sc sees) no_operands); told = refl; fixes = λ i p sound w env sc sees. impossible i })
   receiver_by false c j e does out (inr h) (inr has) value = inr (h.0, refl, received-onward (operand z.is_mutable z.code.sure e (λ k j. into z.is_mutable z.code.sure c.targets k j e)) (λ k i. (written z.is_mutable z.code.sure c.reaches c.tries c.targets e k i (h.2 (core.numbered j)).once).onward), λ p i l ext sound ahead. checked_does (writing (keeping c p) (core.numbered i)) (core.numbered i) (suc i) e has value (sound-writing z lawful (keeping c p) i sound ahead) (ahead-writing z lawful (keeping c p) i ahead) (inl refl) (operand_does z lawful low (writing (keeping c p) (core.numbered i)) (suc i) e does (outside-writing z lawful c p i (Own e) ext out) (inr h)))

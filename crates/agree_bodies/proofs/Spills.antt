@@ -8,6 +8,8 @@ use Rattle.outcomes.proofs.Sequence.{then_do-associative}
 use Rattle.outcomes.proofs.Simulation.{sim_done, sim_wrong, sim_then}
 use Rattle.agree_plain_trees.specs.Meaning as ir_meaning
 use Rattle.agree_plain_trees.specs.States as ir
+use Rattle.agree_plain_trees.proofs.NeverNull.{null_or_given}
+use Rattle.agree_plain_trees.proofs.Nulls.{never_null_alike}
 use Rattle.js_mean.specs.Files.{owner}
 use Rattle.js_mean.specs.Meaning as js_meaning
 use Rattle.js_mean.specs.States as js
@@ -148,6 +150,26 @@ module _ (z : Setting) (lawful : Lawful z) where
   -- what is known of an operand: it is plain; or it isn't, and its statements bring its value to a variable, whatever more is kept
   abbrev pub OperandDoes : Context → ℕ → Piece → Type 1
   OperandDoes c j t = ((t.here.plain ≡ true) × Plainly c t) ⊎ ((t.here.plain ≡ false) × (t.here.fixed ≡ false) × Onward t × ((p : core.Variable → Type 0) (i : ℕ) → j ≤ i → Extends c p → Sound z.is_mutable (keeping c p) → Ahead (keeping c p) i → PieceDoes (writing (keeping c p) (core.numbered i)) (to_variable (core.numbered i) (t.here.tpe)) (suc i) t))
+
+  -- an operand that is sure: null has no meaning there
+  surely_fixed : (p : core.Variable → Type 0) (w : World) (env : ir.Env) (sc : js.Scope) (t : IrType) (r : ir.Run) (e : core.Expression) → FixedOrWrong p w env sc t r e → FixedOrWrong p w env sc t (ir_meaning.receiving z.place.classes true z.low r) e
+  surely_fixed p w env sc t r e (inr g) = inr (λ s. ap (λ (o : Out ir.Ended). ir.go_on o ir_meaning.never_null) (g s))
+  surely_fixed p w env sc t r e (inl g) = by (null_or_given g.value)
+    where
+      by : (g.value ≡ ir.null) ⊎ ((env : ir.Env) (s : ir.State) → ir_meaning.never_null g.value env s ≡ ir.given g.value env s) → FixedOrWrong p w env sc t (ir_meaning.receiving z.place.classes true z.low r) e
+      by (inl is) = inr (λ s. ap (λ (o : Out ir.Ended). ir.go_on o ir_meaning.never_null) (g.gives s ∙ ap (λ (v : ir.Value). ir.given v env s) is))
+      by (inr is) = inl (record { value = g.value; js_value = g.js_value; gives = λ s. ap (λ (o : Out ir.Ended). ir.go_on o ir_meaning.never_null) (g.gives s) ∙ is env s; alike = g.alike; goes_on = g.goes_on })
+
+  pub surely_does : (c : Context) (j : ℕ) (t : Piece) → OperandDoes c j t → OperandDoes c j (record { run = ir_meaning.receiving z.place.classes true z.low t.run; here = t.here })
+  surely_does c j t (inl h) = inl (
+    h.0,
+    record {
+      alike = λ w env sc sees k s u g same. never_null_alike z.direction (Valued z.place k env t.here.tpe) (t.run env s) (shown z t.here.text sc u) (h.1.alike w env sc sees k s u g same);
+      told = h.1.told;
+      fixes = λ e p sound w env sc sees. surely_fixed p w env sc t.here.tpe t.run t.here.text (h.1.fixes e p sound w env sc sees);
+    },
+  )
+  surely_does c j t (inr h) = inr (h.0, h.1, h.2, λ p i l ext sound ahead w env s sc u ready same. never_null_alike z.direction (Came z.place z.code (writing (keeping c p) (core.numbered i)) (writing (keeping c p) (core.numbered i)).scope (to_variable (core.numbered i) (t.here.tpe)) w sc) (t.run env s) (run z (t.here.code (to_variable (core.numbered i) (t.here.tpe)) (suc i)).statements sc u) (h.3 p i l ext sound ahead w env s sc u ready same))
 
   abbrev pub OperandsDo : Context → ℕ → List Piece → Type 1
   OperandsDo c j [] = Unit {1}

@@ -1,8 +1,10 @@
 -- A file that has the functions of methods and calls initializers shows what these show.
 use Rattle.std.proofs.Common.{◌≡◌, ℕ, Bool, true, false, List, [], ◌∷◌, ◌++◌, ◌&&◌, map, refl, sym, ap, ◌∙◌, subst, Contains, Option, Some, None, is_some, if◌then◌else◌, slice_get, length, ◌<◌, ◌^◌, arith}
+use Rattle.std.specs.Char.{encode_utf8}
 use Rattle.std.specs.Int.{w32, w64}
 use Rattle.std.specs.Prelude.{ℤ, pos, negsuc, codes, FitsSigned, nat_lt}
 use Rattle.std.specs.List.{list_all}
+use Rattle.std.specs.Str.{is_utf8, chars}
 use Rattle.std.proofs.lemmas.Bool.{and_parts}
 use Rattle.agree_bodies.proofs.Lists.{at_front, further_on}
 use Rattle.outcomes.specs.Outcome.{Out, done, wrong, then_do}
@@ -106,6 +108,11 @@ stored_alike p q d w s u heaps _ _ _ _ (same_array k items properties told bare 
 char_below : (n : ℕ) → n < 2 ^ 16 → nat_lt n (2 ^ 16) ≡ true
 char_below n h = grind arith
 
+-- the marker of chars is read back as their class
+char_marked : js_showing.class_shown (Some (js.text (class_binding Marker (codes "java.lang.Character")))) ≡ Some (codes "java.lang.Character")
+unfolding is_utf8 chars encode_utf8
+char_marked = refl
+
 box_alike : (p : Place) (q : js.Program) (d : Direction) (w : World) (s : List ir.Stored) (u : js.State) (n a : ℕ) → SameHeap p w s u.heap → n < 2 ^ 16 → IsBox w n a → Sim d ◌≡◌ (done (uncaught (shown.char n))) (js_showing.uncaught_or_wrong (js_showing.thrown q u (js.object a)))
 box_alike p q d w s u n a heaps below box = subst (λ o. Sim d ◌≡◌ (done (uncaught (shown.char n))) (js_showing.uncaught_or_wrong o)) (sym is) (sim_done d ◌≡◌ (uncaught (shown.char n)) (uncaught (shown.char n)) refl)
   where
@@ -126,7 +133,7 @@ box_alike p q d w s u n a heaps below box = subst (λ o. Sim d ◌≡◌ (done (
     marker_is = ap (λ v. js_showing.marker_in q u (own v (codes "k"))) box.held ∙ ap by_constants (heaps.owned box.address (js.plain [] box.constants) box.constants_owned) ∙ ap by_marker box.marked
 
     is : js_showing.thrown q u (js.object a) ≡ Some (shown.char n)
-    is = ap by_stored (heaps.owned a (js.plain w.boxes box.properties) box.owned) ∙ ap (λ m. js_showing.object_shown (js_showing.class_shown m) (own (box.properties (codes "c")) (codes "c"))) marker_is ∙ ap (λ v. js_showing.char_shown (own v (codes "c"))) box.char ∙ ap (λ (t : Bool). if t then Some (shown.char n) else None) (char_below n below)
+    is = ap by_stored (heaps.owned a (js.plain w.boxes box.properties) box.owned) ∙ ap (λ m. js_showing.object_shown (js_showing.class_shown m) (own (box.properties (codes "c")) (codes "c"))) marker_is ∙ ap (λ (c : Option (List ℕ)). js_showing.object_shown c (own (box.properties (codes "c")) (codes "c"))) char_marked ∙ ap (λ v. js_showing.char_shown (own v (codes "c"))) box.char ∙ ap (λ (t : Bool). if t then Some (shown.char n) else None) (char_below n below)
 
 uncaught_alike : (place : Place) (p : js.Program) (d : Direction) (w : World) (v : ir.Value) (x : js.Value) (s : ir.State) (u : js.State) → SameState place w s u → Stands w false v x → suits Any v ≡ true → Sim d ◌≡◌ (ir_showing.uncaught_or_wrong (ir_showing.thrown s v)) (js_showing.uncaught_or_wrong (js_showing.thrown p u x))
 uncaught_alike place p d w _ _ s u same same_undefined h = sim_done d ◌≡◌ (uncaught shown.undefined) (uncaught shown.undefined) refl

@@ -13,6 +13,7 @@ pub mod Tops
 pub mod Divided
 pub mod Objects
 pub mod Looked
+pub mod Nulls
 pub mod Instances
 pub mod Modules
 pub mod Received
@@ -23,3 +24,4 @@ pub mod Runs
 pub mod Boxes
 pub use Rattle.ir_mean.proofs.HijackedCalls
 pub use Rattle.ir_mean.proofs.LookedUpCalls
+pub use Rattle.ir_mean.proofs.NeverNull

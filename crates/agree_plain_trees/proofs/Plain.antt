@@ -70,6 +70,7 @@ use Rattle.agree_plain_trees.proofs.Objects.{select_alike, static_alike, new_ali
 use Rattle.sure_receivers.specs.Sure.{is_sure}
 use Rattle.sj_names.specs.declared.method_names.Namespace.TheVariants.{Public, Private, Constructor}
 use Rattle.agree_plain_trees.proofs.Received.{value_none, not_none, class_value, value_below, value_apart, may_be_checked, Received, received, with_value, looked_stand}
+use Rattle.agree_plain_trees.proofs.Nulls.{never_null_alike}
 use Rattle.agree_plain_trees.proofs.Orders.{ActsAlike, OperandAlike, OperandsAlike, no_operands, more_operands, all_shown, valued-weaken, in_order_alike}
 use Rattle.agree_plain_trees.proofs.Shifts.{left_shift_alike, right_shift_alike, zero_shift_alike, joined_alike}
 use Rattle.agree_plain_trees.proofs.Boxes.{operand_coerced, operands_coerced, stood, stood-fits, operand_stood, all_stood, all-stood-fit, StandsFor, StandForAll, stands-for, stand-for-all, receiver-coerced}
@@ -298,9 +299,12 @@ module _ (z : Setting) (lawful : Lawful z) (scope : Scope) where
   call_plain : (p : Position) (m : Member) (ts : Terms) (t : IrType) → t ≡ call_type m.method.result → (usable z).linked m ≡ true → StandForAll z (types_referred m.method.params) (types_of ts) → (w : World) (env : ir.Env) (s : ir.State) (sc : js.Scope) (u : js.State) → Sees z.place z.code scope w env sc → OperandsAlike z w env sc (types_of ts) (ir_meaning.operands z.place.classes z.low ts) (all_expressions z.code.sure ts) → SameState z.place w s u → Sim z.direction (Valued z.place w env t) (ir_meaning.in_order (ir_meaning.operands z.place.classes z.low ts) (ir_meaning.call z.low (ir_world.member_of z.place.classes m.class m.namespace m.method) None) env s) (shown z (core.static_call m (expressions_of (coerced_arguments m.method.params (types_of ts) (all_expressions z.code.sure ts)))) sc u)
   call_plain p m ts t is linked fit w env s sc u sees operands same = subst (λ i. Sim z.direction (Valued z.place w env i) (ir_meaning.in_order (ir_meaning.operands z.place.classes z.low ts) (ir_meaning.call z.low (ir_world.member_of z.place.classes m.class m.namespace m.method) None) env s) (shown z (core.static_call m (expressions_of (coerced_arguments m.method.params (types_of ts) (all_expressions z.code.sure ts)))) sc u)) (sym is) (call_alike m (all_stood (types_referred m.method.params) (types_of ts) fit.0) (ir_meaning.operands z.place.classes z.low ts) (coerced_arguments m.method.params (types_of ts) (all_expressions z.code.sure ts)) (coerced_arguments m.method.params (types_of ts) (all_expressions z.code.sure ts)) refl linked (all-stood-fit (types_referred m.method.params) (types_of ts) fit.0) w env s sc u sees.inside (passed m.method.params ts fit w env sc sees.inside operands) same)
 
+  surely_alike : (t : IrType) (w : World) (env : ir.Env) (sc : js.Scope) (r : ir.Run) (e : core.Expression) → OperandsAlike z w env sc (t ∷ []) (r ∷ []) (e ∷ []) → OperandsAlike z w env sc (t ∷ []) (ir_meaning.receiving z.place.classes true z.low r ∷ []) (e ∷ [])
+  surely_alike _ w env sc _ _ (more_operands t r e _ _ _ told one no_operands) = more_operands t (ir_meaning.receiving z.place.classes true z.low r) e [] [] [] told (λ k s u g same. never_null_alike z.direction (Valued z.place k env t) (r env s) (shown z e sc u) (one k s u g same)) no_operands
+
   -- a receiver, by whether it is sure
   pub received_alike : (b : Bool) (t : IrType) (w : World) (env : ir.Env) (sc : js.Scope) (r : ir.Run) (e : core.Expression) → (b ≡ true) ⊎ ((usable z).helper check_name ≡ true) → Inside z.place z.code sc → OperandsAlike z w env sc (t ∷ []) (r ∷ []) (e ∷ []) → OperandsAlike z w env sc (t ∷ []) (ir_meaning.receiving z.place.classes b z.low r ∷ []) (received_text b e ∷ [])
-  received_alike true t w env sc r e may inside h = h
+  received_alike true t w env sc r e may inside h = surely_alike t w env sc r e h
   received_alike false t w env sc r e (inl i) inside h = impossible i
   received_alike false t w env sc r e (inr i) inside h = more_operands t (ir_meaning.checked z.place.classes z.low r) (core.checked_value e) [] [] [] refl (checked_alike z lawful t w env sc r e i inside h) no_operands
 

@@ -12,6 +12,7 @@ use Rattle.dispatch_laws.specs.Dispatch.{chain_of, is_ancestor_of_any}
 use Rattle.dispatch_laws.specs.Meaning as ir_meaning
 use Rattle.dispatch_laws.specs.Operators.{Answer, answers, unary_value, binary_value}
 use Rattle.dispatch_laws.specs.States as ir
+use Rattle.dispatch_laws.proofs.NeverNull.{null_or_given}
 use Rattle.sure_receivers.specs.Sure.{is_sure_type, is_sure, Definition, definitions, definitions_in, definitions_of_cases, sure_locals}
 use Rattle.agree_soundness.proofs.Heaps.{get-end, get-front, not-past, get-set, get-set_other, set-each, replicate-each, get-below}
 use Rattle.agree_soundness.proofs.Instances.{IsObject, an_object, IsArrayAt, array_at, tested_type, test_type}
@@ -829,6 +830,19 @@ module _ (w typing : World) (law : IsSubtyping (IsSub typing)) (has : Usable) wh
         each _ (left k l v env st r a j g e) = (left k l v env st r a j g e, tt)
         each _ (threw k v env st a j e) = (threw k v env st a j e, tt)
 
+    -- a value that isn't null where null has no meaning
+    never_null_right : (s : Scene) (t : IrType) (at : Classes) (r : ir.Run) (env : ir.Env) (st : ir.State) → FullRight at s t (r env st) → FullRight at s t (ir.go_on (r env st) ir_meaning.never_null)
+    never_null_right s t at r env st does = comes_then (λ a. CameRight at s s.locals t a × Only Full a) (λ a. CameRight at s s.locals t a × Only Full a) (r env st) (ir.onward ir_meaning.never_null) does (λ a p. each a p.0 p.1)
+      where
+        given_right : (k : Classes) (v : ir.Value) (env : ir.Env) (st : ir.State) → Full v → (v ≡ ir.null) ⊎ ((env : ir.Env) (st : ir.State) → ir_meaning.never_null v env st ≡ ir.given v env st) → CameRight at s s.locals t (ir.ends (ir.gives v) env st) → Comes (λ a. CameRight at s s.locals t a × Only Full a) (ir_meaning.never_null v env st).end
+        given_right k v env st n (inl e) came = absurd (n e)
+        given_right k v env st n (inr is) came = subst (λ (o : Out ir.Ended). Comes (λ a. CameRight at s s.locals t a × Only Full a) o.end) (sym (is env st)) (came, n)
+
+        each : (a : ir.Ended) → CameRight at s s.locals t a → Only Full a → Comes (λ a. CameRight at s s.locals t a × Only Full a) (ir.onward ir_meaning.never_null a).end
+        each _ (gave k v env st a g e) n = given_right k v env st n (null_or_given v) (gave k v env st a g e)
+        each _ (left k l v env st r a j g e) n = (left k l v env st r a j g e, tt)
+        each _ (threw k v env st a j e) n = (threw k v env st a j e, tt)
+
     -- a sure tree gives no null
     primitive_only : (at : Classes) (s : Scene) (inner : List ParamDef) (t : IrType) (e : End ir.Ended) → is_sure_type t ≡ true → Comes (CameRight at s inner t) e → Perhaps Full e
     primitive_only at s inner t Going h k = tt
@@ -882,12 +896,12 @@ module _ (w typing : World) (law : IsSubtyping (IsSub typing)) (has : Usable) wh
     receiver_right e s h check at env st i does = subst (λ (q : List ℕ → Bool). FullRight at s (type_of_term e) (ir_meaning.receiving w (is_sure q e) low (step e) env st)) (sym i.locals.sure) (go (is_sure s.sure e) refl)
       where
         go : (b : Bool) → is_sure s.sure e ≡ b → FullRight at s (type_of_term e) (ir_meaning.receiving w b low (step e) env st)
-        go true k = both_come Full (CameRight at s s.locals (type_of_term e)) (step e env st).end does (sure_only e s h k at env st i does)
+        go true k = never_null_right s (type_of_term e) at (step e) env st (both_come Full (CameRight at s s.locals (type_of_term e)) (step e env st).end does (sure_only e s h k at env st i does))
         go false k = checked_right s (type_of_term e) (check k) at (step e) env st does
 
     -- the receiver of a constructor's call is This
     own_right : (e : Term) (s : Scene) → IsReceiver Constructor e → Typed typing has s e → (at : Classes) (env : ir.Env) (st : ir.State) → Ready at (frame_of s) s.locals env st → FullRight at s (type_of_term e) (ir_meaning.receiving w (is_sure env.sure e) low (step e) env st)
-    own_right (this_ref p t) s own h at env st i = this_right at s t s.owner env.this_value env st h.finds.1 (i.locals.this h.finds.0) i
+    own_right (this_ref p t) s own h at env st i = never_null_right s t at (step (this_ref p t)) env st (this_right at s t s.owner env.this_value env st h.finds.1 (i.locals.this h.finds.0) i)
     own_right _ s own h at env st i = absurd own
 
     -- the field of a receiver

@@ -1,7 +1,8 @@
 -- The marker of a class is read back as the class.
 use Rattle.std.proofs.Common.{◌≡◌, ◌+◌, ◌*◌, ◌/◌, ◌%◌, ℕ, Bool, true, false, List, [], ◌∷◌, ◌++◌, refl, sym, ap, ◌∙◌, arith, Some, None, if◌then◌else◌}
-use Rattle.std.specs.Prelude.{◌==◌}
+use Rattle.std.specs.Prelude.{◌==◌, ◌&&◌}
 use Rattle.std.specs.Char.{digit_char}
+use Rattle.std.specs.Str.{is_utf8}
 use Rattle.std.proofs.lemmas.Bool.{and_from}
 use Rattle.js_mean.specs.Shows.{digit_value, with_byte, read_back, plainly, escaped, if_marker}
 use Rattle.sj_mangling.specs.Bindings.{class_binding}
@@ -41,4 +42,4 @@ read-mangled [] = refl
 read-mangled (b ∷ bs) = read-byte b (mangled bs) ∙ ap (with_byte b) (read-mangled bs)
 
 pub marked : MarkersTellClasses
-marked c named = ap (if_marker (class_binding Marker c)) (read-mangled c) ∙ ap (λ (t : Bool). if t then Some c else None) (and_from (is_class_name c) (is_same_text (class_binding Marker c) (class_binding Marker c)) named (text-refl (class_binding Marker c)))
+marked c named utf8 = ap (if_marker (class_binding Marker c)) (read-mangled c) ∙ ap (λ (t : Bool). if t then Some c else None) (and_from (is_class_name c && is_utf8 c) (is_same_text (class_binding Marker c) (class_binding Marker c)) (and_from (is_class_name c) (is_utf8 c) named utf8) (text-refl (class_binding Marker c)))

@@ -21,7 +21,7 @@ use Rattle.js_mean.specs.Files.{owner}
 use Rattle.js_mean.specs.Objects.{callee, Callee}
 use Rattle.js_mean.specs.Proper.{is_among, are_distinct}
 use Rattle.js_mean.specs.States.{Value, boolean, text, object, function, class, ClassLink, this_is, Cell, absent, holds, Scope, State, ExpressionEnd, gives, throws, StatementEnd, with_value, in_statement, next_statement, Program}
-use Rattle.js_mean.specs.Meaning.{Low, Code, below, top_cell, or_outer, typed_cell, name_value, code_of, code_call, method_call, call, call_property, call_with_this, class_bindings, member_scope, function_scope, bind_declared, arguments, binary, both_of, construct_value, in_order, evaluate, execute_all, in_block, taken, nothing, returned, truth_or_wrong}
+use Rattle.js_mean.specs.Meaning.{Low, Code, below, top_cell, or_outer, typed_name, name_value, code_of, code_call, method_call, call, call_property, call_with_this, class_bindings, member_scope, function_scope, bind_declared, arguments, binary, both_of, construct_value, in_order, evaluate, execute_all, in_block, taken, nothing, returned, truth_or_wrong}
 use Rattle.js_mean.specs.Meaning as js_meaning
 use Rattle.class_tests.specs.Kinds.{is_of, BoxesStand}
 use Rattle.class_tests.specs.Tests.{TestStands}
@@ -65,7 +65,7 @@ module _ (p : Program) where
   entry_asked low m sc s v b held has = ap asked held ∙ by v b held has
     where
       asked : Cell → Out ExpressionEnd
-      asked c = then_do (then_do (typed_cell (or_outer c (top_cell (owner p sc.file (codes "x")) (codes "x") s)) s) (with_value (λ w. in_order (evaluate p low (text_literal (codes "object")) ∷ []) (λ ws. binary StrictEqual (w ∷ ws)) sc))) (with_value (λ w. both_of (evaluate p low (binary_of (text_literal (entry_name m)) In x)) w sc))
+      asked c = then_do (then_do (typed_name (codes "x") (or_outer c (top_cell (owner p sc.file (codes "x")) (codes "x") s)) s) (with_value (λ w. in_order (evaluate p low (text_literal (codes "object")) ∷ []) (λ ws. binary StrictEqual (w ∷ ws)) sc))) (with_value (λ w. both_of (evaluate p low (binary_of (text_literal (entry_name m)) In x)) w sc))
 
       by : (v : Value) (b : Bool) → sc.bindings (codes "x") ≡ holds false v → HasEntry p s m v b → asked (holds false v) ≡ done (gives (boolean b) s)
       by _ _ held (on_object a b e) = ap (λ (o : Out ExpressionEnd). then_do o (with_value (λ w. js_meaning.has p (text (entry_name m) ∷ w ∷ []) sc))) (name_held p (codes "x") false (object a) sc s held) ∙ ap (λ (o : Option Bool). truth_or_wrong o sc s) e

@@ -1,6 +1,8 @@
 -- The three files declare what their code uses.
 use Rattle.std.proofs.Common.{◌≡◌, ◌<◌, ◌||◌, ℕ, zero, suc, Bool, true, false, List, [], ◌∷◌, Some, None, codes, refl, sym, ap, subst, ⊎_elim, inl, inr, Contains, IsTrue, cond, slice_get, arith, ◌∙◌}
+use Rattle.std.specs.Char.{encode_utf8}
 use Rattle.std.specs.Ordering.{nat_cmp}
+use Rattle.std.specs.Str.{is_utf8, chars}
 use Rattle.std.specs.Cmp.Lexicographic.{slice_cmp}
 use Rattle.std.specs.List.{IsDistinct}
 use Rattle.std.specs.List.Sorted.{IsSorted}
@@ -16,6 +18,7 @@ use Rattle.agree_body_forms.specs.Built.{Usable, has_static, has_cell, members_a
 use Rattle.file_declarations.specs.Declared.{alone, on_receiver, completing, FieldsAreKept}
 use Rattle.file_tops.proofs.Run.{some_same}
 use Rattle.sj_emit_help_spec.specs.Helpers.{failure_class, helper_name, helper_item, used_helpers, constants}
+use Rattle.sj_emit_help_spec.specs.Words.{marker}
 use Rattle.sj_emit_help_spec.specs.declared.kinds.Failure.{Failure}
 use Rattle.sj_emit_help_spec.specs.declared.kinds.Helper.{Helper}
 use Rattle.sj_emit_help_spec.specs.declared.kinds.Helper.TheVariants.{ArrayClass, Throws}
@@ -24,7 +27,7 @@ use Rattle.ir_mean.specs.Dispatch.{is_ancestor}
 use Rattle.ir_mean.specs.Meaning.{with_message}
 use Rattle.ir_mean.specs.Rows.{nowhere, object_name, object_with, main_entry, once}
 use Rattle.ir_mean.specs.Shows.{ir_shows}
-use Rattle.js_mean.specs.Shows.{js_shows}
+use Rattle.js_mean.specs.Shows.{class_marked, js_shows}
 use Rattle.js_tree.specs.Names.{is_same_text}
 use Rattle.js_tree.specs.Terms.{Name, Property, Item, object_item}
 use Rattle.sj_desugar_spec.specs.Desugar.{member}
@@ -163,6 +166,15 @@ init_declared = record { right = init_right; runs = refl; function = stands 4 (p
 abbrev Completes : Member → Type 0
 Completes m = (b : FunctionDeclared spread (a_constructor m) completing m) × (b.right.definition.result ≡ NoType)
 
+-- the markers tell the classes
+object_marked : class_marked (marker object_name) ≡ Some object_name
+unfolding is_utf8 chars encode_utf8
+object_marked = refl
+
+its_marked : class_marked (marker class_name) ≡ Some class_name
+unfolding is_utf8 chars encode_utf8
+its_marked = refl
+
 -- each class that is made has its constants and its class
 object_declared : ClassDeclared spread object_name None
 object_declared = record {
@@ -178,7 +190,7 @@ object_declared = record {
   leads = refl;
   others = [];
   class = stands 1 (placed object_file object_class) refl;
-  marked = refl;
+  marked = object_marked;
   no_char = refl;
 }
 
@@ -199,7 +211,7 @@ its_declared = record {
   leads = refl;
   others = [];
   class = stands 3 (placed class_file its_class) refl;
-  marked = refl;
+  marked = its_marked;
   no_char = refl;
 }
 

@@ -2,6 +2,7 @@
 use Rattle.std.proofs.Common.{arith, ◌<◌, ◌⊎◌, ◌++◌, ◌≡◌, ◌∙◌, not, ◌&&◌, ◌||◌, inl, inr, Bool, true, false, List, [], ◌∷◌, Option, Some, None, codes, map, refl, sym, ap, subst, IsTrue}
 use Rattle.std.specs.Prelude.{◌↔◌}
 use Rattle.std.specs.List.{Contains, list_all, list_any}
+use Rattle.std.specs.Str.{is_utf8}
 use Rattle.std.proofs.lemmas.Bool.{and_parts, and_from, or_cases, or_left, or_right}
 use Rattle.std.proofs.lemmas.List.Elements.{Contains-append_left, Contains-append_right}
 use Rattle.module_uses.proofs.Tested.{kind_uses, cast_kind_uses}
@@ -20,11 +21,11 @@ use Rattle.module_uses.proofs.ReflectedCases.{reflected_case, worked_out, kind_r
 use Rattle.module_uses.specs.Reflected.{HasReflected}
 use Rattle.declared_modules.proofs.Boxes.{boxes_bare}
 use Rattle.module_uses.proofs.Facts.{called_known, made_known}
-use Rattle.module_uses.proofs.Fields.{field_there, fields_kept, class_named}
+use Rattle.module_uses.proofs.Fields.{field_there, fields_kept, class_named, class_utf8}
 use Rattle.module_uses.proofs.Live.{classes_kept}
 use Rattle.module_uses.proofs.Members.{same-class, defined, has_function-from}
 use Rattle.module_uses.proofs.Parts.{uses_superclass, uses_constants}
-use Rattle.module_uses.proofs.Whole.{static_alone, received_runs, constructor_is, no_value, with_value, own_fields, whole_fields, method_of, Good, free, own, its, is_named, constants_here, class_of_its, class_here, super_good, live_good, made_is_live, entry_there, Needed, needed_static, variable_there, setter_there, class_test_there, class_cast_there, IsWritten, helper_written, helper_had, helper_listed, class_base_there, entry_called}
+use Rattle.module_uses.proofs.Whole.{static_alone, received_runs, constructor_is, no_value, with_value, own_fields, whole_fields, method_of, Good, free, own, its, is_named, is_utf8_named, constants_here, class_of_its, class_here, super_good, live_good, made_is_live, entry_there, Needed, needed_static, variable_there, setter_there, class_test_there, class_cast_there, IsWritten, helper_written, helper_had, helper_listed, class_base_there, entry_called}
 use Rattle.module_uses.specs.Accepted.{IsAccepted}
 use Rattle.module_uses.specs.Bodies.{AreBodies}
 use Rattle.module_uses.specs.Built.{can_look_up, Usable, has_static, has_cell, is_static, has_kind, has_no_value}
@@ -284,7 +285,7 @@ module _ (entries : List EntryPoint) (files : List SourceFile) (l : Linked) (all
       leads = leads_to (home_of c) (some_constants c) (used_at_home its_class stands_there class_listed (binding_of (some_constants c)) (uses_constants c parts.class.superclass parts.entries));
       others = map entry_member parts.entries;
       class = stands_at_home its_class stands_there class_listed m.good.is_written;
-      marked = marked c (is_named entries files l all live written ps a bodies p are are_live run owned c m.good);
+      marked = marked c (is_named entries files l all live written ps a bodies p are are_live run owned c m.good) (is_utf8_named entries files l all live written ps a bodies p are are_live run owned c m.good);
       no_char = byte_not c (free entries files l all live written ps a bodies p are are_live run owned c m.good) (codes "java.lang.Character") refl;
     }
 
@@ -659,7 +660,7 @@ module _ (entries : List EntryPoint) (files : List SourceFile) (l : Linked) (all
       record {
         ancestors = its.parts.ancestors;
         constants = stands_at_home (constants_piece c its.parts.ancestors) s its.constants its.here;
-        marked = marked c (subst (λ (n : Name). IsTrue (is_class_name n)) (class_found w c its.parts.class its.are.class_is).1 (class_named entries files w a its.parts.class (class_found w c its.parts.class its.are.class_is).0));
+        marked = let found = class_found w c its.parts.class its.are.class_is in marked c (subst (λ (n : Name). IsTrue (is_class_name n)) found.1 (class_named entries files w a its.parts.class found.0)) (subst (λ (n : Name). IsTrue (is_utf8 n)) found.1 (class_utf8 entries files w a its.parts.class found.0));
       }
 
   -- a method that is called on arrays is found on objects of the class of all objects

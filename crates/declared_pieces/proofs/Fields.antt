@@ -1,7 +1,9 @@
 -- The names and the fields of the classes of an accepted folder.
 use Rattle.std.proofs.Common.{◌≡◌, true, List, Option, Some, None, IsTrue, refl, sym, subst, ◌∙◌}
 use Rattle.std.specs.List.{Contains}
+use Rattle.std.specs.Str.{is_utf8}
 use Rattle.std.proofs.lemmas.List.Elements.{All-contains}
+use Rattle.std.proofs.lemmas.Str.{is_utf8-from_IsUtf8}
 use Rattle.object_helpers.proofs.Members.{same-class}
 use Rattle.object_helpers.proofs.Worlds.{judged}
 use Rattle.object_helpers.specs.Accepted.{IsAccepted}
@@ -54,6 +56,9 @@ module _ (entries : List EntryPoint) (files : List SourceFile) (w : Classes) (a 
 
   pub class_named : (d : ClassDef) → Contains w d → IsTrue (is_class_name d.name)
   class_named d i = (listing d i).name.0
+
+  pub class_utf8 : (d : ClassDef) → Contains w d → IsTrue (is_utf8 d.name)
+  class_utf8 d i = is_utf8-from_IsUtf8 d.name (listing d i).name.1
 
   field_named : (d : ClassDef) (f : FieldDef) → Contains w d → Contains d.fields f → IsTrue (is_plain_name f.name)
   field_named d f i k = let all = All-contains IsListedField d.fields f (listing d i).fields k in all.0.0

@@ -1,6 +1,7 @@
 -- What the code of the written classes can use has its pieces.
 use Rattle.std.proofs.Common.{◌≡◌, ◌&&◌, ◌||◌, not, Bool, true, false, List, inl, inr, Option, Some, None, IsTrue, refl, sym, ap, subst, ◌∙◌, ◌⊎◌, if◌then◌else◌}
 use Rattle.std.specs.Prelude.{◌↔◌}
+use Rattle.std.specs.Str.{is_utf8}
 use Rattle.std.specs.List.{Contains, filter, flat_map, list_any}
 use Rattle.std.proofs.lemmas.Bool.{and_parts, and_from, or_cases, or_left, or_right}
 use Rattle.std.proofs.lemmas.List.Elements.{Contains-append_left}
@@ -14,7 +15,7 @@ use Rattle.object_helpers.specs.Standing.{call_type}
 use Rattle.object_helpers.specs.Built.{Usable, has_static, is_static, has_no_value}
 use Rattle.declared_pieces.proofs.Blocks.{OwnPieces, own_pieces, method_there, helper_there}
 use Rattle.declared_pieces.proofs.Chains.{Stands}
-use Rattle.declared_pieces.proofs.Fields.{static_there, class_named}
+use Rattle.declared_pieces.proofs.Fields.{static_there, class_named, class_utf8}
 use Rattle.declared_pieces.proofs.HelperNames.{one_helper}
 use Rattle.declared_pieces.proofs.Below.{stands_above}
 use Rattle.declared_pieces.proofs.Live.{classes_kept}
@@ -186,6 +187,9 @@ module _ (entries : List EntryPoint) (files : List SourceFile) (l : Linked) (all
 
     pub is_named : IsTrue (is_class_name c)
     is_named = subst (λ (n : Name). IsTrue (is_class_name n)) (looked.named entries files l all written ps a bodies p are exact owned c stood) (class_named entries files w a its.class (class_found w c its.class own.are.class_is).0)
+
+    pub is_utf8_named : IsTrue (is_utf8 c)
+    is_utf8_named = subst (λ (n : Name). IsTrue (is_utf8 n)) (looked.named entries files l all written ps a bodies p are exact owned c stood) (class_utf8 entries files w a its.class (class_found w c its.class own.are.class_is).0)
 
     pub constants_here : Contains ps (constants_piece c its.ancestors)
     constants_here = looked.constants_here entries files l all written ps a bodies p are exact owned c stood

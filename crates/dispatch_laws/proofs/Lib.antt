@@ -12,4 +12,5 @@ pub use Rattle.ir_mean.proofs.AncestorsFound
 pub use Rattle.ir_mean.proofs.HijackedCalls
 pub use Rattle.ir_mean.proofs.LawsHold
 pub use Rattle.ir_mean.proofs.LookedUpCalls
+pub use Rattle.ir_mean.proofs.NeverNull
 pub use Rattle.ir_mean.proofs.SubtypesFound

@@ -300,6 +300,11 @@ abbrev pub class_looked_up : IrType → Option TypeRef → Option (List ℕ)
 class_looked_up t None = None
 class_looked_up t (Some r) = looked_class (receiver_class t)
 
+-- a value where null has no meaning
+abbrev pub never_null : Value → Run
+never_null null env s = wrong
+never_null v env s = given v env s
+
 module _ (world : World) where
   -- New: an object of the class is made, with its fields at the zeros of their types; its constructor runs on it, with one unit less; and it is given
   abbrev pub construct : Low → List ℕ → MethodName → List Value → Run
@@ -330,9 +335,9 @@ module _ (world : World) where
   abbrev pub checked : Low → Run → Run
   checked low r env s = go_on (r env s) (λ v. answered low (not_null v))
 
-  -- a receiver, by whether it is sure; null where it is sure has no meaning, since nothing takes it
+  -- a receiver, by whether it is sure: null is wrong at once where it is, in front of what is evaluated behind the receiver
   abbrev pub receiving : Bool → Low → Run → Run
-  receiving true low r env s = r env s
+  receiving true low r env s = go_on (r env s) never_null
   receiving false low r env s = checked low r env s
 
   -- a call of a method on a receiver, which isn't null

@@ -1,5 +1,5 @@
 -- The meaning of expressions, statements and items with a bound. Sections are those of ECMA-262, 11th edition (2020).
-use Rattle.std.specs.Prelude.{ℕ, zero, suc, Bool, true, false, not, List, [], ◌∷◌, ◌||◌, ℤ, pos, slice_get, Option, Some, None, if◌then◌else◌}
+use Rattle.std.specs.Prelude.{ℕ, zero, suc, Bool, true, false, not, List, [], ◌∷◌, ◌||◌, ℤ, pos, slice_get, codes, Option, Some, None, if◌then◌else◌}
 use Rattle.std.specs.List.{list_any}
 use Rattle.int_arithmetic.specs.BigInts.{is_in_range}
 use Rattle.int_arithmetic.specs.Numbers.{is_exact, quotient_or_zero, remainder_or_zero}
@@ -149,6 +149,11 @@ abbrev pub code_call : Low → Name → Option Code → List Value → State →
 code_call low f None vs s = wrong
 code_call low f (Some c) vs s = then_do (low c.body (function_scope f c vs) s) returned
 
+-- a function that is called by a property runs with the object as its `this` (12.3.6.2, 9.2.1.2)
+abbrev pub function_on : Low → Name → Value → Option Code → List Value → State → Out ExpressionEnd
+function_on low f this None vs s = wrong
+function_on low f this (Some c) vs s = then_do (low c.body (record { file = f; this_value = this_is this; bindings = bind_parameters c.parameters vs (bind_declared c.body (λ x. absent)) }) s) returned
+
 abbrev pub value_or_wrong : Option Value → Evaluation
 value_or_wrong (Some v) sc s = done (gives v s)
 value_or_wrong None sc s = wrong
@@ -223,7 +228,7 @@ this_of (this_is v) s = done (gives v s)
 this_of (making m (Some v)) s = done (gives v s)
 this_of (making m None) s = wrong
 
--- `super()` gives this object, unless there is one (12.3.5.1)
+-- `super()` gives this object, unless there is one (12.3.7.1)
 abbrev pub with_this : Making → Option Value → Scope → ExpressionEnd → Out StatementEnd
 with_this m None sc (gives v s) = done (ends normally (record { file = sc.file; this_value = making m (Some v); bindings = sc.bindings }) s)
 with_this m (Some w) sc (gives v s) = wrong
@@ -234,11 +239,15 @@ abbrev pub typed : List Value → Evaluation
 typed (v ∷ []) sc s = done (gives (text (type_word v)) s)
 typed _ sc s = wrong
 
--- and of a name, which needs no binding
-abbrev pub typed_cell : Cell → State → Out ExpressionEnd
-typed_cell absent s = done (gives (text (type_word undefined)) s)
-typed_cell (unset const) s = wrong
-typed_cell (holds const v) s = done (gives (text (type_word v)) s)
+-- the constructors of typed arrays, whose names hold a digit (22.2): functions of the standard, which are no values here
+abbrev pub typed_arrays : List Name
+typed_arrays = codes "Int8Array" ∷ codes "Uint8Array" ∷ codes "Uint8ClampedArray" ∷ codes "Int16Array" ∷ codes "Uint16Array" ∷ codes "Int32Array" ∷ codes "Uint32Array" ∷ codes "Float32Array" ∷ codes "Float64Array" ∷ codes "BigInt64Array" ∷ codes "BigUint64Array" ∷ []
+
+-- and of a name, which needs no binding where the standard has none either
+abbrev pub typed_name : Name → Cell → State → Out ExpressionEnd
+typed_name x absent s = if is_among typed_arrays x then wrong else done (gives (text (type_word undefined)) s)
+typed_name x (unset const) s = wrong
+typed_name x (holds const v) s = done (gives (text (type_word v)) s)
 
 abbrev pub truth_or_wrong : Option Bool → Evaluation
 truth_or_wrong (Some b) sc s = done (gives (boolean b) s)
@@ -413,7 +422,7 @@ module _ (program : Program) where
   abbrev pub call_with_this : Low → Value → Callee → List Value → Evaluation
   call_with_this low this (fill_of a) vs sc s = fill a vs sc s
   call_with_this low this (value_called (method (l ∷ ls) x)) vs sc s = method_call low l ls (method_code program l x) this vs s
-  call_with_this low this (value_called (function f x)) vs sc s = code_call low f (code_of program f x) vs s
+  call_with_this low this (value_called (function f x)) vs sc s = function_on low f this (code_of program f x) vs s
   call_with_this low this (value_called _) vs sc s = wrong
 
   -- asking for a property of undefined or null is wrong before the arguments are evaluated (12.3.6.1)
@@ -421,7 +430,7 @@ module _ (program : Program) where
   call_property low es this None sc s = wrong
   call_property low es this (Some c) sc s = in_order es (call_with_this low this c) sc s
 
-  -- `new` of a class (12.3.3.1), and what `super()` makes: the constructor of a class, for an object of the target (9.2.2)
+  -- `new` of a class (12.3.5.1), and what `super()` makes: the constructor of a class, for an object of the target (9.2.2)
   abbrev pub construct : Low → List ClassLink → List ClassLink → List Value → State → Out ExpressionEnd
   construct low [] target vs s = wrong
   construct low (l ∷ ls) target vs s = construct_by low l ls (members_of program l) target vs s
@@ -480,7 +489,7 @@ module _ (program : Program) where
     evaluate low (binary_of e Or g) sc s = then_do (evaluate low e sc s) (with_value (λ v. one_of (evaluate low g) v sc))
     evaluate low (binary_of e BitOr g) sc s = bits_or (over_zero g (ratio_of low e)) (evaluate low e) (evaluate low g) sc s
     evaluate low (binary_of e op g) sc s = in_order (evaluate low e ∷ evaluate low g ∷ []) (binary op) sc s
-    evaluate low (unary_of TypeOf (name_use x)) sc s = typed_cell (cell_of program x sc s) s
+    evaluate low (unary_of TypeOf (name_use x)) sc s = typed_name x (cell_of program x sc s) s
     evaluate low (unary_of TypeOf e) sc s = in_order (evaluate low e ∷ []) typed sc s
     evaluate low (unary_of Not e) sc s = in_order (evaluate low e ∷ []) negated sc s
     evaluate low (conditional_of c e g) sc s = in_order (evaluate low c ∷ []) (chosen (evaluate low e) (evaluate low g)) sc s
@@ -565,7 +574,7 @@ module _ (program : Program) where
   properties low sc [] own act s = act own s
   properties low sc (p ∷ ps) own act s = then_do (evaluate low p.value sc s) (with_value (λ v. properties low sc ps (with_property p.name v own) act))
 
-  -- an item of a module with this bound, by its production (15.2.1.21)
+  -- an item of a module with this bound, by its production (15.2.1.22)
   abbrev pub run_item : ℕ → Name → Item → State → Out ExpressionEnd
   -- a function is there before anything runs, and its declaration does nothing (14.1)
   run_item m f (function_item x xs ss) s = done (gives undefined s)

@@ -54,7 +54,7 @@ are_same_classes [] [] = true
 are_same_classes (k ∷ ks) (l ∷ ls) = is_same_class k l
 are_same_classes _ _ = false
 
--- 7.2.15
+-- 7.2.16
 abbrev pub is_strictly_equal : Value → Value → Bool
 is_strictly_equal undefined undefined = true
 is_strictly_equal null null = true

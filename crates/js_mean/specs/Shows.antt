@@ -1,6 +1,7 @@
 -- What the files of a program show when a public module is loaded.
 use Rattle.std.specs.Prelude.{ℕ, ℤ, pos, negsuc, ◌+◌, ◌-◌, ◌*◌, ◌^◌, ◌==◌, ◌&&◌, Bool, List, [], ◌∷◌, ◌++◌, drop, nat_lt, nat_le, codes, Option, Some, None, if◌then◌else◌}
 use Rattle.std.specs.List.{list_all}
+use Rattle.std.specs.Str.{is_utf8}
 use Rattle.js_tree.specs.Names.{is_same_text}
 use Rattle.js_tree.specs.Spelling.{Spells}
 use Rattle.js_tree.specs.Terms.{Name, Module}
@@ -59,7 +60,7 @@ read_back (behind_digit d) (u ∷ us) = with_byte (digit_value d * 16 + digit_va
 
 abbrev pub if_marker : List ℕ → Option (List ℕ) → Option (List ℕ)
 if_marker us None = None
-if_marker us (Some c) = if is_class_name c && is_same_text (class_binding Marker c) us then Some c else None
+if_marker us (Some c) = if is_class_name c && is_utf8 c && is_same_text (class_binding Marker c) us then Some c else None
 
 -- the class that has this text as its marker, if there is one
 abbrev pub class_marked : List ℕ → Option (List ℕ)

@@ -1,9 +1,10 @@
 -- Small modules with what is thrown, and functions with the statements on it, on properties and on arrays.
 use Rattle.std.specs.Prelude.{ℕ, List, [], ◌∷◌, pos, negsuc, codes, true}
-use Rattle.js_tree.specs.Terms.{Name, Expression, boolean_literal, number_literal, text_literal, name_use, this_use, property_of, index_of, call_of, method_call_of, new_of, list_of, binary_of, conditional_of, host_call, no_expressions, expression, Statement, const_of, let_of, expression_statement, assign_name, assign_property, assign_index, super_call, throw_of, return_of, break_to, while_of, labeled_of, try_catch, try_finally, Property, constructor_of, method_of, Item, object_item, let_item, expression_item, function_item, class_item, subclass_item}
+use Rattle.js_tree.specs.Terms.{Name, Expression, boolean_literal, number_literal, text_literal, name_use, this_use, property_of, index_of, call_of, method_call_of, new_of, list_of, binary_of, unary_of, conditional_of, host_call, no_expressions, expression, Statement, const_of, let_of, expression_statement, assign_name, assign_property, assign_index, super_call, throw_of, return_of, break_to, while_of, labeled_of, try_catch, try_finally, Property, constructor_of, method_of, Item, object_item, let_item, expression_item, function_item, class_item, subclass_item}
 use Rattle.js_tree.specs.declared.items.JsImport.{JsImport}
 use Rattle.js_tree.specs.declared.operators.BinaryOperator.TheVariants.{Add, In, InstanceOf}
 use Rattle.js_tree.specs.declared.operators.HostFunction.TheVariants.{ConsoleLog}
+use Rattle.js_tree.specs.declared.operators.UnaryOperator.TheVariants.{TypeOf}
 use Rattle.js_tree.specs.Views.{statements_of}
 use Rattle.js_mean.specs.States.{Program}
 use Rattle.js_mean.specs.Rows.{main_file, file}
@@ -120,6 +121,11 @@ once = super_call ∷ []
 
 abbrev pub twice : List Statement
 twice = super_call ∷ super_call ∷ []
+
+-- `function g_() { return (typeof this); }`, `function h_() { return this.a_; }`, `const k_ = {g_: g_, h_: h_, a_: "x"};`: both are called by
+-- the object's properties, and `g_` by its name
+abbrev pub on_object : Program
+on_object = main_file (function_item (codes "g_") [] (statements_of (returns (unary_of TypeOf this_use) ∷ [])) ∷ function_item (codes "h_") [] (statements_of (returns (property_of this_use (codes "a_")) ∷ [])) ∷ object_item (codes "k_") (record { name = codes "g_"; value = name_use (codes "g_") } ∷ record { name = codes "h_"; value = name_use (codes "h_") } ∷ record { name = codes "a_"; value = word (codes "x") } ∷ []) ∷ logs (method_call_of (name_use (codes "k_")) (codes "g_") no_expressions) ∷ logs (method_call_of (name_use (codes "k_")) (codes "h_") no_expressions) ∷ logs (call_of (codes "g_") no_expressions) ∷ [])
 
 -- an object that is written as a literal, with a property that is set and one that an index names
 abbrev pub literal : Program

@@ -114,9 +114,9 @@ compared_bigs = (binary_of (big 1) StrictEqual (big 1), yes) ∷ (binary_of (big
 abbrev pub converted : List Row
 converted = (host_call BigInt (minus 4), big_below_zero 4) ∷ (host_call BigInt (boolean_literal true), is_big 1) ∷ (host_call BigInt null_literal, None) ∷ (host_call Number (big_minus 4), below_zero 4) ∷ (host_call Number (big (2 ^ 53 + 1)), None) ∷ (host_call Number undefined_literal, None) ∷ (host_call_of_two BigIntAsIntN (whole 64) (big (2 ^ 62)), is_big (2 ^ 62)) ∷ (host_call_of_two BigIntAsIntN (whole 64) (binary_of (big (2 ^ 62)) Multiply (big 2)), big_below_zero (2 ^ 63 - 1)) ∷ (host_call_of_two BigIntAsIntN (whole 32) (big 4294967295), big_below_zero 0) ∷ (host_call_of_two BigIntAsIntN (whole 0) (big 5), is_big 0) ∷ (host_call_of_two BigIntAsIntN (whole 200) (big_minus 4), big_below_zero 4) ∷ (host_call_of_two BigIntAsUintN (whole 64) (big_minus 0), is_big (2 ^ 64 - 1)) ∷ (host_call_of_two BigIntAsUintN (whole 128) (big_minus 0), None) ∷ (host_call_of_two BigIntAsIntN (whole 64) (whole 1), None) ∷ (host_call_of_two BigIntAsIntN (minus 0) (big 1), None) ∷ []
 
--- the kinds of values; a name that nothing declares is of none
+-- the kinds of values; a name that nothing declares is of none, unless the standard has it
 abbrev pub kinds : List Row
-kinds = (unary_of TypeOf undefined_literal, is_text (codes "undefined")) ∷ (unary_of TypeOf null_literal, is_text (codes "object")) ∷ (unary_of TypeOf (boolean_literal true), is_text (codes "boolean")) ∷ (unary_of TypeOf (whole 1), is_text (codes "number")) ∷ (unary_of TypeOf (big 1), is_text (codes "bigint")) ∷ (unary_of TypeOf (word []), is_text (codes "string")) ∷ (unary_of TypeOf (list_of no_expressions), is_text (codes "object")) ∷ (unary_of TypeOf none, is_text (codes "undefined")) ∷ (unary_of TypeOf (unary_of TypeOf none), is_text (codes "string")) ∷ []
+kinds = (unary_of TypeOf undefined_literal, is_text (codes "undefined")) ∷ (unary_of TypeOf null_literal, is_text (codes "object")) ∷ (unary_of TypeOf (boolean_literal true), is_text (codes "boolean")) ∷ (unary_of TypeOf (whole 1), is_text (codes "number")) ∷ (unary_of TypeOf (big 1), is_text (codes "bigint")) ∷ (unary_of TypeOf (word []), is_text (codes "string")) ∷ (unary_of TypeOf (list_of no_expressions), is_text (codes "object")) ∷ (unary_of TypeOf none, is_text (codes "undefined")) ∷ (unary_of TypeOf (name_use (codes "Int8Array")), None) ∷ (unary_of TypeOf (name_use (codes "BigUint64Array")), None) ∷ (unary_of TypeOf (name_use (codes "Int8Arrays")), is_text (codes "undefined")) ∷ (unary_of TypeOf (unary_of TypeOf none), is_text (codes "string")) ∷ []
 
 abbrev two_items : Expression
 two_items = list_of (expression (whole 5) (expression (word (codes "a")) no_expressions))

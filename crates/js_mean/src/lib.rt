@@ -78,19 +78,23 @@ pub fn worked_classes()
 {}
 
 /// Worked programs with classes and objects. A class extends one that is imported; an imported binding is seen to change; a constructor without
-/// `super()` makes nothing, and a second `super()` is wrong; a function of the standard is no value. A value that nothing catches ends the
-/// program, and an object is shown by its marker: one with the marker of `java.lang.Character` as the char that its property `c` holds.
+/// `super()` makes nothing, and a second `super()` is wrong; a function of the standard is no value. A function that is called by a
+/// property has the object as its `this`, and one that is called by its name has undefined. A value that nothing catches ends the program, and an object is shown by
+/// its marker, which is that of a class: one with the marker of `java.lang.Character` as the char that its property `c` holds.
 pub fn worked_objects()
     ensures imported_class { js_shows (throwing.imported_class) (codes "main") 2 ≡ record { lines = codes "ab" ∷ codes "yes" ∷ codes "no" ∷ codes "yes" ∷ codes "no" ∷ codes "0" ∷ codes "1" ∷ []; end = Done normal } }
     ensures imported_class_within_1 { js_shows (throwing.imported_class) (codes "main") 1 ≡ record { lines = []; end = Going } }
     ensures super_once { js_shows (throwing.supers (throwing.once)) (codes "main") 2 ≡ record { lines = codes "x" ∷ []; end = Done normal } }
     ensures super_twice { js_shows (throwing.supers (throwing.twice)) (codes "main") 2 ≡ record { lines = codes "x" ∷ []; end = Wrong } }
     ensures no_super { js_shows (throwing.supers []) (codes "main") 2 ≡ record { lines = codes "x" ∷ []; end = Wrong } }
+    ensures on_object { js_shows (throwing.on_object) (codes "main") 1 ≡ record { lines = codes "object" ∷ codes "x" ∷ codes "undefined" ∷ []; end = Done normal } }
     ensures literal { js_shows (throwing.literal) (codes "main") 1 ≡ record { lines = codes "ab" ∷ codes "undefined" ∷ []; end = Wrong } }
     ensures thrown_object { js_shows (throwing.throws_object (codes "i_a_B$24") undefined_literal) (codes "main") 2 ≡ record { lines = []; end = Done (uncaught (shown.object_of (codes "a.B$"))) } }
     ensures thrown_char { js_shows (throwing.throws_object (codes "i_java_lang_Character") (number_literal (pos 97))) (codes "main") 2 ≡ record { lines = []; end = Done (uncaught (shown.char 97)) } }
     ensures thrown_no_char { js_shows (throwing.throws_object (codes "i_java_lang_Character") undefined_literal) (codes "main") 2 ≡ record { lines = []; end = Wrong } }
     ensures no_marker { js_shows (throwing.throws_object (codes "i_$41") undefined_literal) (codes "main") 2 ≡ record { lines = []; end = Wrong } }
+    ensures no_text { js_shows (throwing.throws_object (codes "i_$ff") undefined_literal) (codes "main") 2 ≡ record { lines = []; end = Wrong } }
+    ensures no_byte { js_shows (throwing.throws_object (codes "i_$g0") undefined_literal) (codes "main") 2 ≡ record { lines = []; end = Wrong } }
     ensures thrown_number { js_shows (throwing.throws_value (number_literal (negsuc 2147483647))) (codes "main") 1 ≡ record { lines = codes "x" ∷ []; end = Done (uncaught (shown.number (negsuc 2147483647))) } }
     ensures thrown_long { js_shows (throwing.throws_value (big_literal (pos 5))) (codes "main") 1 ≡ record { lines = codes "x" ∷ []; end = Done (uncaught (shown.long (pos 5))) } }
     ensures thrown_array { js_shows (throwing.throws_value (list_of no_expressions)) (codes "main") 1 ≡ record { lines = codes "x" ∷ []; end = Wrong } }

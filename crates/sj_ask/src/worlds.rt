@@ -22,7 +22,7 @@ pub struct WorldOracle<'w> {
 impl<'w> WorldOracle<'w> {
     /// The oracle that answers by the world `w` for the member `k`. It takes no memory.
     pub fn new(w: &'w LinkedWorld, k: &'w Member) -> WorldOracle<'w>
-        ensures { stand_of result.world.now result.member.now ≡ stand_of w.now k.now }
+        ensures { ⟦<WorldOracle<'w> as Oracle>⟧.stand result ≡ stand_of w.now k.now }
     {
         WorldOracle {
             world: w,

@@ -1,7 +1,8 @@
 -- The names of the modules of a plan, with `.js`, are names of files.
-use Rattle.std.proofs.Common.{◌≡◌, ◌<◌, ◌/◌, ◌%◌, ◌^◌, ◌==◌, ◌++◌, ◌&&◌, ℕ, zero, suc, Bool, true, false, List, [], ◌∷◌, Contains, inl, inr, refl, sym, ap, subst, ◌∙◌, map, length, arith, slice_index}
+use Rattle.std.proofs.Common.{◌≡◌, ◌<◌, ◌+◌, ◌/◌, ◌%◌, ◌^◌, ◌==◌, ◌++◌, ◌&&◌, ℕ, zero, suc, Bool, true, false, List, [], ◌∷◌, Contains, inl, inr, refl, sym, ap, subst, ◌∙◌, map, length, arith, slice_index}
 use Rattle.std.specs.Prelude.{◌⊎◌, codes, nat_le, if◌then◌else◌}
-use Rattle.std.specs.Fmt.{decimal, digits, digits_onto, digit_glyph}
+use Rattle.std.specs.Int.Digits.{digits_of, AllBelowBase}
+use Rattle.std.proofs.lemmas.Int.Digits.{all_below_base_digits_of}
 use Rattle.std.specs.Int.{byte_at, bytes_high_first, to_be_bytes, w32}
 use Rattle.std.specs.List.{list_all}
 use Rattle.std.proofs.lemmas.Bool.{and_parts, and_from, eqb-true}
@@ -10,6 +11,7 @@ use Rattle.hex.specs.Hex.{encode_with, lower_digits}
 use Rattle.js_tree.specs.Names.{is_file, is_file_character, is_file_rest, is_same_text}
 use Rattle.module_names.specs.Names.{Key, mark, internal_name, count_with, names_behind, names_of, sha1_digest}
 use Rattle.sha1.specs.Sha1.{sha1, digest_bytes}
+use Rattle.sj_mangling.specs.Numerals.{number_text}
 use Rattle.sj_names.specs.EntryPoints.{is_entry, is_id_byte, is_public_id}
 use Rattle.sj_split.proofs.Ids.{each_passes}
 use Rattle.sj_split.proofs.Members.{cons_cases, from_map, further, at_first, Mapped}
@@ -77,27 +79,20 @@ passes_below test (suc n) d h low = go (split d n low) (λ l. passes_below test 
     go (inr e) rest = subst (λ (k : ℕ). test k ≡ true) (sym e) (and_parts (all_below test n) (test n) h).1
 
 -- decimal numerals
-glyph_fits : (n : ℕ) → is_file_character (digit_glyph false (n % 10)) ≡ true
-glyph_fits n = passes_below (λ d. is_file_character (digit_glyph false d)) 10 (n % 10) refl (omega arith)
+numeral_digit : (d : ℕ) → d < 10 → is_file_character (48 + d) ≡ true
+numeral_digit d small = passes_below (λ k. is_file_character (48 + k)) 10 d refl small
 
-digits_fit : (k n : ℕ) (behind : List ℕ) → Fits behind → Fits (digits_onto k 10 false n behind)
-digits_fit zero n behind h = h
-digits_fit (suc k) n behind h = go (n / 10 == 0) (digits_fit k (n / 10) (digit_glyph false (n % 10) ∷ behind) here)
-  where
-    here : Fits (digit_glyph false (n % 10) ∷ behind)
-    here = fits_more (digit_glyph false (n % 10)) behind (glyph_fits n) h
+numeral_digits : (ds : List ℕ) → AllBelowBase 10 ds → Fits (map (λ d. 48 + d) ds)
+numeral_digits [] h = refl
+numeral_digits (d ∷ ds) h = fits_more (48 + d) (map (λ d. 48 + d) ds) (numeral_digit d h.0) (numeral_digits ds h.1)
 
-    go : (b : Bool) → Fits (digits_onto k 10 false (n / 10) (digit_glyph false (n % 10) ∷ behind)) → Fits (if b then digit_glyph false (n % 10) ∷ behind else digits_onto k 10 false (n / 10) (digit_glyph false (n % 10) ∷ behind))
-    go true rest = here
-    go false rest = rest
-
-decimal_fits : (n : ℕ) → Fits (decimal n)
-unfolding digits
-decimal_fits n = digits_fit 64 n [] refl
+numeral_fits : (n : ℕ) → Fits (number_text n)
+numeral_fits zero = refl
+numeral_fits (suc n) = numeral_digits (digits_of 10 (suc n)) (all_below_base_digits_of 10 (suc n) (omega arith))
 
 mark_fits : (n : ℕ) → Fits (mark n)
 mark_fits zero = refl
-mark_fits (suc n) = fits_more 45 (decimal (suc n)) refl (decimal_fits (suc n))
+mark_fits (suc n) = fits_more 45 (number_text (suc n)) refl (numeral_fits (suc n))
 
 -- digests
 abbrev AreSmall : List ℕ → Type 0

@@ -1,5 +1,5 @@
 // The contents of folders in memory, in which each folder's parts have names, each of them once.
-ghost use Rattle.std.specs.Prelude.{◌≡◌, ◌↔◌, false, IfOk, IfSome, IsErrOf, IsTrue, option_map};
+ghost use Rattle.std.specs.Prelude.{◌≡◌, ◌↔◌, false, IfOk, IfSome, IsErrOf, IsTrue, option_map, true};
 ghost use Rattle.sj_outside.specs.Contents.{file_at, file_part, folder_at, folder_part, is_new, is_well, no_parts};
 ghost use Rattle.sj_outside.specs.View.{parts_view};
 
@@ -51,7 +51,8 @@ impl Contents {
 
     /// No file and no folder.
     pub fn new(alloc: Global) -> Contents
-        ensures { contents_view result ≡ no_parts }
+        ensures contents { contents_view result ≡ no_parts }
+        ensures well { is_well (contents_view result) ≡ true }
     {
         Contents {
             parts: Vec::new(alloc),
@@ -67,6 +68,7 @@ impl Contents {
         bytes: &[u8],
     ) -> Result<Contents, ContentsError>
         ensures contents { IfOk result (λ c. contents_view c ≡ file_part name.now bytes.now (contents_view self)) }
+        ensures well { IfOk result (λ c. is_well (contents_view c) ≡ true) }
         ensures bad_name { IsErrOf result ContentsError.BadName ↔ (is_new name.now (contents_view self) ≡ false) }
     {
         let mut parts = self.parts;
@@ -90,6 +92,7 @@ impl Contents {
         inner: Contents,
     ) -> Result<Contents, ContentsError>
         ensures contents { IfOk result (λ c. contents_view c ≡ folder_part name.now (contents_view inner) (contents_view self)) }
+        ensures well { IfOk result (λ c. is_well (contents_view c) ≡ true) }
         ensures bad_name { IsErrOf result ContentsError.BadName ↔ (is_new name.now (contents_view self) ≡ false) }
     {
         let mut parts = self.parts;
@@ -115,7 +118,8 @@ impl Contents {
 
     /// The bytes of the file at `path`, if one is held there.
     pub fn file_at(&self, path: &str) -> Option<&Bytes>
-        ensures { option_map (λ r. r.now) result ≡ file_at (contents_view self.now) path.now }
+        ensures bytes { option_map (λ r. r.now) result ≡ file_at (contents_view self.now) path.now }
+        ensures well { is_well (contents_view self.now) ≡ true }
     {
         match found_at(self.parts.as_slice(), path)? {
             Found::File(bytes) => Some(bytes),

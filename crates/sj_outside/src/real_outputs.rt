@@ -54,6 +54,8 @@ impl<R: Files> Outputs for RealOutputs<'_, R> {
     }
 }
 
+/// Puts `bytes` as `OUT/K/name`: whole, or not at all. They are written beside under a name that no module has, which ends in `.part`, and that file
+/// is renamed. So where the disk is full the file that stood there stays.
 fn put_file<R: Files>(
     rt: &R,
     alloc: Global,
@@ -65,5 +67,13 @@ fn put_file<R: Files>(
     let folder = format!(in alloc; "{out}/{edit}")?;
     fs::create_dir_all(rt, folder.as_str())?;
     let path = format!(in alloc; "{folder}/{name}")?;
-    write_file(rt, path.as_str(), bytes)
+    let beside = format!(in alloc; "{folder}/.{name}.part")?;
+    let replaced = match write_file(rt, beside.as_str(), bytes) {
+        Ok(()) => fs::rename(rt, beside.as_str(), path.as_str()),
+        Err(error) => Err(error),
+    };
+    if replaced.is_err() {
+        let _ = fs::remove_file(rt, beside.as_str());
+    }
+    replaced
 }

@@ -13,7 +13,7 @@ use Rattle.sjsir.specs.declared.making.Made.{Made}
 use Rattle.sjsir.specs.declared.making.Made.TheVariants.{File, NoListing, NoFile, TooDeep}
 use Rattle.sjsir.specs.Output.{Output, IsOutput, printed, made, no_listing, no_class_file, too_deep, IsFileOf, status_of, AtEnd, IsWhole, IsFront, first_lines}
 use Rattle.sjsir.specs.Printing.{HasPrinted, PrintsAll, all_printed, stopped, status_after}
-use Rattle.sjsir.specs.Writing.{Ends, all_written, faulted, out_of_memory}
+use Rattle.sjsir.specs.Writing.{Ends, all_written, faulted, out_of_memory, EndsWithLine}
 use Rattle.sjsir.specs.declared.answers.Status.{Status}
 use Rattle.sjsir.specs.declared.answers.Status.TheVariants.{Done, SomeRefused, Usage, ReadFault, WriteFault, NoMemory}
 use Rattle.sjsir.specs.declared.stops.Stop.{Stop}
@@ -54,6 +54,12 @@ pub line_ends : (puts : Option (List PutFile)) (t0 t1 : Option (List ℕ)) (stat
 line_ends puts t0 t1 status s text first second (all_written w) = all_written (Writes-line puts t0 t1 text w)
 line_ends puts t0 t1 status s text first second (faulted f x) = faulted (cut_line puts t0 t1 text f) (inr x)
 line_ends puts t0 t1 status s text first second (out_of_memory f) = out_of_memory (cut_line puts t0 t1 text f)
+
+-- the same where it is asked of both sinks
+pub line_alone : (puts : Option (List PutFile)) (t0 t1 : Option (List ℕ)) (ended : Status) (text : List ℕ) (cause : Type 0) (s : Status) → Ends ended (Appends t0 t1 text) (Appends t0 t1 []) cause s → EndsWithLine ended puts puts t0 t1 text cause s
+line_alone puts t0 t1 ended text cause s (all_written w) = all_written (Appends-none puts, w)
+line_alone puts t0 t1 ended text cause s (faulted f x) = faulted (Appends-none puts, f) x
+line_alone puts t0 t1 ended text cause s (out_of_memory f) = out_of_memory (Appends-none puts, f)
 
 -- a file alone that was refused
 pub put_refused : (p0 p1 : Option (List PutFile)) (text : Option (List ℕ)) (events : List Event) → Appends p0 p1 [] → WritesFront p0 p1 text text events

@@ -114,15 +114,6 @@ pub data IsFront (words : List (List ℕ)) (contents : Parts) (puts_old puts_new
   front_of : (output : Output) → IsOutput words contents output → WritesFront puts_old puts_new text_old text_new output.events → IsFront words contents puts_old puts_new text_old text_new
   first_lines : (files others texts : List (List ℕ)) (all : Bool) → command words ≡ Some (print (files ++ others)) → AreFileLines contents files all texts → Writes puts_old puts_new text_old text_new (map (λ text. line text) texts) → IsFront words contents puts_old puts_new text_old text_new
 
--- the answer to words that are no command
-abbrev pub IsUsageAnswer : Status → Type 0
-IsUsageAnswer Usage = ⊤
-IsUsageAnswer WriteFault = ⊤
-IsUsageAnswer NoMemory = ⊤
-IsUsageAnswer Done = ⊥
-IsUsageAnswer SomeRefused = ⊥
-IsUsageAnswer ReadFault = ⊥
-
 -- there is one output at most
 abbrev pub HasOneOutput : Type 0
 HasOneOutput = (words : List (List ℕ)) (contents : Parts) (one other : Output) → IsOutput words contents one → IsOutput words contents other → one ≡ other

@@ -33,6 +33,7 @@ pub enum Made {
 
 /// What the text in the file at `path` comes to.
 pub fn made_at<F: Folders>(alloc: Global, path: &str, folders: &mut F) -> Result<Made, Stop>
+    ensures same { F.holds folders.new ≡ F.holds folders.old }
     ensures told { (c : Parts) → F.holds folders.old ≡ Some c → IfOk result (λ m. making.IsMadeAt c path.now m) }
     ensures read_fault { spec.HasCause (result ≡ Err Stop.ReadFault) (F.faults folders.old) (F.faults folders.new) }
     ensures no_write_fault { result ≡ Err Stop.WriteFault → ⊥ }

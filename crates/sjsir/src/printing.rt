@@ -29,6 +29,7 @@ pub fn print_files<F: Folders, L: Lines>(
     folders: &mut F,
     lines: &mut L,
 ) -> Status
+    ensures same { F.holds folders.new ≡ F.holds folders.old }
     ensures told { (c : Parts) → F.holds folders.old ≡ Some c → spec.PrintsAll c (map string_bytes files.now) (L.printed lines.old) (L.printed lines.new) result }
     ensures causes { spec.HasCauses (F.faults folders.old) (F.faults folders.new) (L.faults lines.old) (L.faults lines.new) result }
     ensures missing { (c : Parts) → F.holds folders.old ≡ Some c → spec.AreHeld c (map string_bytes files.now) → F.missing folders.new ≡ F.missing folders.old }

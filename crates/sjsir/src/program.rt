@@ -1,11 +1,11 @@
 // The top call.
-ghost use Rattle.std.specs.Prelude.{◌≡◌, ◌⊎◌, None, Some, [], map, string_bytes};
+ghost use Rattle.std.specs.Prelude.{◌≡◌, ◌⊎◌, ◌≤◌, None, Some, map, string_bytes};
 ghost use Rattle.sj_outside.specs.Contents.{Parts};
 ghost use Rattle.sj_outside.specs.Faults.{Rose};
-ghost use Rattle.sj_outside.specs.Writing.{Appends};
 ghost use Rattle.sjsir.specs.Command.{command};
 ghost use Rattle.sjsir.specs.Output as output;
 ghost use Rattle.sjsir.specs.Printing.{HasNamed};
+ghost use Rattle.sjsir.specs.Writing as writing;
 
 use crate::answers::Status;
 use crate::making::{Made, made_at};
@@ -47,9 +47,14 @@ pub fn run<F: Folders, O: Outputs, L: Lines>(
     ensures missing { (c : Parts) → F.holds folders.old ≡ Some c → HasNamed c (command (map string_bytes words.items)) → F.missing folders.new ≡ F.missing folders.old }
 
     // Words that are no command are answered so, also where the folders tell nothing.
-    ensures no_command { command (map string_bytes words.items) ≡ None → output.IsUsageAnswer result }
+    ensures no_command { command (map string_bytes words.items) ≡ None → writing.EndsWithLine Status.Usage (O.puts outputs.old) (O.puts outputs.new) (L.printed lines.old) (L.printed lines.new) output.usage_line (Rose (L.faults lines.old) (L.faults lines.new)) result }
     ensures usage { result ≡ Status.Usage → command (map string_bytes words.items) ≡ None }
-    ensures usage_line { result ≡ Status.Usage → Appends (O.puts outputs.old) (O.puts outputs.new) [] × Appends (L.printed lines.old) (L.printed lines.new) output.usage_line }
+
+    // What the folders hold stays, and no count falls.
+    ensures same { F.holds folders.new ≡ F.holds folders.old }
+    ensures read_faults { F.faults folders.old ≤ F.faults folders.new }
+    ensures output_faults { O.faults outputs.old ≤ O.faults outputs.new }
+    ensures line_faults { L.faults lines.old ≤ L.faults lines.new }
 
     // Each fault has its cause.
     ensures read_fault { result ≡ Status.ReadFault → Rose (F.faults folders.old) (F.faults folders.new) }

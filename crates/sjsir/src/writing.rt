@@ -1,5 +1,5 @@
 // What is written.
-ghost use Rattle.std.specs.Prelude.{◌≡◌, ◌⊎◌, [], IfOk, string_bytes};
+ghost use Rattle.std.specs.Prelude.{◌≡◌, ◌⊎◌, ◌≤◌, [], IfOk, string_bytes};
 ghost use Rattle.sj_outside.specs.Faults.{Rose};
 ghost use Rattle.sj_outside.specs.Writing.{Appends, Writes, WritesFront};
 ghost use Rattle.sjsir.specs.Making as making;
@@ -18,7 +18,8 @@ const TOO_DEEP: &str = "refused: more than 600 parentheses stand one in another\
 
 /// Prints the last text of a run, and answers `status` where that goes well.
 pub fn print_text<L: Lines>(alloc: Global, status: Status, text: &str, lines: &mut L) -> Status
-    ensures { spec.Ends status (Appends (L.printed lines.old) (L.printed lines.new) text.now) (Appends (L.printed lines.old) (L.printed lines.new) []) (Rose (L.faults lines.old) (L.faults lines.new)) result }
+    ensures ends { spec.Ends status (Appends (L.printed lines.old) (L.printed lines.new) text.now) (Appends (L.printed lines.old) (L.printed lines.new) []) (Rose (L.faults lines.old) (L.faults lines.new)) result }
+    ensures faults { L.faults lines.old ≤ L.faults lines.new }
 {
     match lines.line(alloc, text.as_bytes()) {
         Ok(()) => status,
@@ -35,8 +36,10 @@ pub fn write_made<O: Outputs, L: Lines>(
     outputs: &mut O,
     lines: &mut L,
 ) -> Status
-    ensures { let written = making.output_of out.now made.now in
+    ensures ends { let written = making.output_of out.now made.now in
         spec.Ends written.status (Writes (O.puts outputs.old) (O.puts outputs.new) (L.printed lines.old) (L.printed lines.new) written.events) (WritesFront (O.puts outputs.old) (O.puts outputs.new) (L.printed lines.old) (L.printed lines.new) written.events) (Rose (O.faults outputs.old) (O.faults outputs.new) ⊎ Rose (L.faults lines.old) (L.faults lines.new)) result }
+    ensures output_faults { O.faults outputs.old ≤ O.faults outputs.new }
+    ensures line_faults { L.faults lines.old ≤ L.faults lines.new }
 {
     match made {
         Made::File(bytes) => match outputs.put(alloc, ".", 1, out, bytes.as_slice()) {

@@ -1,10 +1,9 @@
 -- The edits of one folder more.
-use Rattle.std.proofs.Common.{◌≡◌, ◌<◌, ◌⊎◌, inl, inr, ℕ, zero, suc, ◌+◌, Bool, true, false, List, [], ◌∷◌, ◌++◌, refl, sym, ap, subst, ◌∙◌, append-nil, Option, Some, map, take, length, arith, Contains, get_or}
+use Rattle.std.proofs.Common.{◌≡◌, ◌<◌, ◌⊎◌, inl, inr, ℕ, zero, suc, ◌+◌, Bool, true, false, List, [], ◌∷◌, ◌++◌, refl, sym, ap, subst, ◌∙◌, append-nil, append_assoc, Option, Some, take, length, arith, Contains, get_or}
 use Rattle.std.specs.Prelude.{slice_get, ◌&&◌, Err}
 use Rattle.std.specs.List.{flat_map, list_all}
 use Rattle.std.proofs.lemmas.Grind.{flat_map-append}
 use Rattle.std.proofs.lemmas.List.{length-append, length-take-le}
-use Rattle.std.proofs.lemmas.List.Elements.{Contains-append_cases}
 use Rattle.std.proofs.lemmas.List.Folds.{list_all-append}
 use Rattle.std.proofs.lemmas.Option.{slice_get_within, slice_get_read, get_or_from_slice_get}
 use Rattle.sj_session.proofs.Taken.{more_taken}
@@ -16,9 +15,9 @@ use Rattle.sj_outside.specs.declared.answers.PutFile.{PutFile}
 use Rattle.sj_outside.proofs.Laws.{Writes-none, Writes-then}
 use Rattle.folder_files.specs.Files.{AreFilesOf, HasRead}
 use Rattle.sj_split.specs.declared.plans.Style.{Style}
-use Rattle.sjslink.specs.Editing.{PutsShown, none, links, IsShownEdit, IsEditWritten, IsEditCut, nothing, front_of, EditEnds, FirstEdits, AreWritten, AreCut}
-use Rattle.sjslink.specs.Headline.{AcceptedEdit, Shows, files_put}
-use Rattle.sjslink.specs.Output.{Edited, AreEdited, IsEdited, events_of, was_accepted, put_of}
+use Rattle.sjslink.specs.Editing.{IsShownEdit, IsEditWritten, IsEditCut, nothing, front_of, EditEnds, FirstEdits, AreWritten, AreCut}
+use Rattle.sjslink.specs.Headline.{Answer, IsAnswerAt, AreAnswers, puts_for, puts_from}
+use Rattle.sjslink.specs.Output.{Edited, AreEdited, IsEdited, events_of, was_accepted}
 use Rattle.sjslink.specs.declared.editing.Fault.{Fault}
 use Rattle.sjslink.specs.declared.editing.Fault.TheVariants.{Read, Write, NoMemory}
 use Rattle.sjslink.proofs.Read.{edit_of_read}
@@ -40,6 +39,13 @@ module _ {X : Type 0} where
       go (inl f) = inl f
       go (inr p) = inr (ap suc p.0, p.1)
 
+-- what is put for one answer more
+puts_more : (out : List ℕ) (number : ℕ) (answers : List Answer) (a : Answer) → puts_from out number (answers ++ a ∷ []) ≡ puts_from out number answers ++ puts_for out (number + length answers) a
+puts_more out number [] a = let here : number ≡ number + 0 = omega arith in append-nil (puts_for out number a) ∙ ap (λ n. puts_for out n a) here
+puts_more out number (b ∷ bs) a =
+    let next : (number + 1) + length bs ≡ number + length (b ∷ bs) = omega arith in
+    ap (λ ps. puts_for out number b ++ ps) (puts_more out (number + 1) bs a ∙ ap (λ n. puts_from out (number + 1) bs ++ puts_for out n a) next) ∙ sym (append_assoc (puts_for out number b) (puts_from out (number + 1) bs) (puts_for out (number + length (b ∷ bs)) a))
+
 module _ (contents : Parts) (out : List ℕ) (entries : List EntryPoint) (style : Style) where
   edited_more : (paths : List (List ℕ)) (edits : List Edited) (path : List ℕ) (e : Edited) → AreEdited contents out entries style paths edits → IsEdited contents out entries style (length paths + 1) path e → AreEdited contents out entries style (paths ++ path ∷ []) (edits ++ e ∷ [])
   edited_more paths edits path e are is = record {
@@ -53,21 +59,19 @@ module _ (contents : Parts) (out : List ℕ) (entries : List EntryPoint) (style 
       go i p f (inr a) (inl b) = absurd (omega (arith, slice_get_within edits i f b, a.0, are.whole))
       go i p f (inr a) (inr b) = subst (λ n. IsEdited contents out entries style (n + 1) p f) (sym a.0) (subst (λ q. IsEdited contents out entries style (length paths + 1) q f) a.1 (subst (λ g. IsEdited contents out entries style (length paths + 1) path g) b.1 is))
 
+  answered_more : (paths : List (List ℕ)) (answers : List Answer) (path : List ℕ) (a : Answer) → AreAnswers contents entries style paths answers → IsAnswerAt contents entries style path a → AreAnswers contents entries style (paths ++ path ∷ []) (answers ++ a ∷ [])
+  answered_more paths answers path a are is = record {
+    whole = length-append answers (a ∷ []) ∙ ap (λ n. n + 1) are.whole ∙ sym (length-append paths (path ∷ []));
+    each = λ i p b at_p at_b. go i p b (got_pushed paths path i p at_p) (got_pushed answers a i b at_b);
+  }
+    where
+      go : (i : ℕ) (p : List ℕ) (b : Answer) → (slice_get paths i ≡ Some p) ⊎ ((i ≡ length paths) × (path ≡ p)) → (slice_get answers i ≡ Some b) ⊎ ((i ≡ length answers) × (a ≡ b)) → IsAnswerAt contents entries style p b
+      go i p b (inl f) (inl g) = are.each i p b f g
+      go i p b (inl f) (inr g) = absurd (omega (arith, slice_get_within paths i p f, g.0, are.whole))
+      go i p b (inr f) (inl g) = absurd (omega (arith, slice_get_within answers i b g, f.0, are.whole))
+      go i p b (inr f) (inr g) = subst (λ q. IsAnswerAt contents entries style q b) f.1 (subst (λ c. IsAnswerAt contents entries style path c) g.1 is)
+
   module _ (folders : List (List ℕ)) (k : ℕ) (path : List ℕ) (at : slice_get folders k ≡ Some path) (files : List SourceFile) (are : AreFilesOf contents path files) where
-    -- those of the accepted edits that have this number
-    abbrev accepted_of : {puts : List PutFile} → PutsShown out entries (k + 1) files puts → List AcceptedEdit
-    accepted_of none = []
-    accepted_of (links fs show) = record { number = k + 1; path = path; links = fs } ∷ []
-
-    puts_are : (puts : List PutFile) (s : PutsShown out entries (k + 1) files puts) → puts ≡ flat_map (files_put out) (accepted_of s)
-    puts_are _ none = refl
-    puts_are _ (links fs show) = sym (append-nil (map (put_of out (k + 1)) fs))
-
-    accepted_shows : (puts : List PutFile) (s : PutsShown out entries (k + 1) files puts) (edit : AcceptedEdit) → Contains (accepted_of s) edit → Shows contents entries folders edit
-    accepted_shows _ none edit has = absurd (omega (arith, has.1))
-    accepted_shows _ (links fs show) edit (zero, within, is) = subst (λ (a : AcceptedEdit). Shows contents entries folders a) is (record { place = k; number = refl; path = at; files = files; is_folder = are; show = show })
-    accepted_shows _ (links fs show) edit (suc j, within, is) = absurd (omega (arith, within))
-
     -- what is written for one more
     events_more : (edits : List Edited) (e : Edited) → flat_map events_of (edits ++ e ∷ []) ≡ flat_map events_of edits ++ e.events
     events_more edits e = flat_map-append events_of edits (e ∷ []) ∙ ap (λ es. flat_map events_of edits ++ es) (append-nil e.events)
@@ -77,9 +81,9 @@ module _ (contents : Parts) (out : List ℕ) (entries : List EntryPoint) (style 
     more first e s = record {
       edits = first.edits ++ e ∷ [];
       are_edited = subst (λ (ps : List (List ℕ)). AreEdited contents out entries style ps (first.edits ++ e ∷ [])) (sym (more_taken folders k path at)) (edited_more (take k folders) first.edits path e first.are_edited one);
-      accepted = first.accepted ++ accepted_of s.shown;
-      shown = λ edit has. either edit (Contains-append_cases first.accepted (accepted_of s.shown) edit has);
-      put = ap (flat_map put_in) (events_more first.edits e) ∙ flat_map-append put_in (flat_map events_of first.edits) e.events ∙ ap (λ ps. ps ++ flat_map put_in e.events) first.put ∙ ap (λ ps. flat_map (files_put out) first.accepted ++ ps) (puts_are _ s.shown) ∙ sym (flat_map-append (files_put out) first.accepted (accepted_of s.shown));
+      answers = first.answers ++ s.answer ∷ [];
+      are_answers = subst (λ (ps : List (List ℕ)). AreAnswers contents entries style ps (first.answers ++ s.answer ∷ [])) (sym (more_taken folders k path at)) (answered_more (take k folders) first.answers path s.answer first.are_answers (record { files = files; is_folder = are; is_answer = s.is_answer }));
+      put = ap (flat_map put_in) (events_more first.edits e) ∙ flat_map-append put_in (flat_map events_of first.edits) e.events ∙ ap (λ ps. ps ++ flat_map put_in e.events) first.put ∙ ap (λ ps. puts_from out 1 first.answers ++ ps) (s.put ∙ ap (λ n. puts_for out n s.answer) next) ∙ sym (puts_more out 1 first.answers s.answer);
     }
       where
         size : length (take k folders) ≡ k
@@ -88,9 +92,8 @@ module _ (contents : Parts) (out : List ℕ) (entries : List EntryPoint) (style 
         one : IsEdited contents out entries style (length (take k folders) + 1) path e
         one = subst (λ n. IsEdited contents out entries style (n + 1) path e) (sym size) (record { files = files; is_folder = are; is_output = s.is_output })
 
-        either : (edit : AcceptedEdit) → Contains first.accepted edit ⊎ Contains (accepted_of s.shown) edit → Shows contents entries folders edit
-        either edit (inl has) = first.shown edit has
-        either edit (inr has) = accepted_shows _ s.shown edit has
+        next : k + 1 ≡ 1 + length first.answers
+        next = omega (arith, size, first.are_answers.whole)
 
     flags_more : (edits : List Edited) (e : Edited) (all one : Bool) → all ≡ list_all was_accepted edits → one ≡ e.is_accepted → (all && one) ≡ list_all was_accepted (edits ++ e ∷ [])
     flags_more edits e all one a b = ap (λ t. t && one) a ∙ ap (λ t. list_all was_accepted edits && t) (b ∙ sym (and_true e.is_accepted)) ∙ sym (list_all-append was_accepted edits (e ∷ []))
@@ -113,7 +116,7 @@ module _ (contents : Parts) (out : List ℕ) (entries : List EntryPoint) (style 
 -- before the first folder nothing is written
 pub none_written : (contents : Parts) (out : List ℕ) (entries : List EntryPoint) (style : Style) (folders : List (List ℕ)) (puts : Option (List PutFile)) (text : Option (List ℕ)) → AreWritten contents out entries style folders puts puts text text 0 true
 none_written contents out entries style folders puts text = record {
-  first = record { edits = []; are_edited = record { whole = refl; each = λ i path e at_path at_edit. cc }; accepted = []; shown = λ edit has. absurd (omega (arith, has.1)); put = refl };
+  first = record { edits = []; are_edited = record { whole = refl; each = λ i path e at_path at_edit. cc }; answers = []; are_answers = record { whole = refl; each = λ i path a at_path at_answer. cc }; put = refl };
   all = refl;
   written = Writes-none puts text;
 }

@@ -1,5 +1,5 @@
 -- What is written for an edit that a session takes or refuses.
-use Rattle.std.proofs.Common.{◌≡◌, ℕ, true, false, List, [], ◌∷◌, ◌++◌, sym, ap, subst, ◌∙◌, Option, map, length}
+use Rattle.std.proofs.Common.{◌≡◌, ℕ, true, false, List, [], ◌∷◌, ◌++◌, refl, sym, ap, subst, ◌∙◌, Option, map, length}
 use Rattle.std.specs.Prelude.{Err}
 use Rattle.std.proofs.lemmas.List.{length-map}
 use Rattle.sj_agree.specs.Agrees.{Agrees}
@@ -15,8 +15,8 @@ use Rattle.sj_session.specs.ModuleFile.{ModuleFile}
 use Rattle.sj_session.specs.Sessions.{Standing, IsTaken, ShowTheSame, work_told}
 use Rattle.sj_session.specs.declared.answers.Report.{Report}
 use Rattle.sj_split.specs.declared.plans.Style.{Style}
-use Rattle.sjslink.specs.Editing.{WrittenCut, PutsShown, none, links, IsShownEdit, front_of, EditEnds}
-use Rattle.sjslink.specs.Headline.{ShowFolder}
+use Rattle.sjslink.specs.Editing.{WrittenCut, IsShownEdit, front_of, EditEnds}
+use Rattle.sjslink.specs.Headline.{ShowFolder, linked_to, refused_with, is_linked, is_refused}
 use Rattle.sjslink.specs.Output.{Edited, IsEditOutput, linked, refuses, accepted_line, refused_line, puts_of}
 use Rattle.sjslink.specs.declared.editing.Fault.{Fault}
 use Rattle.sjslink.specs.declared.editing.Fault.TheVariants.{Read, Write, NoMemory}
@@ -31,7 +31,7 @@ module _ (out : List ℕ) (number : ℕ) (old new : Standing) (files : List Sour
   taken_edit = record { is_accepted = true; events = taken_events }
 
   pub taken : (folder : Folder) (report : Report) → folder.files ≡ files → modules ≡ new.files → text ≡ accepted_line number report.modules (work_told report) → IsTaken old folder report new → ShowTheSame old.entries folder new.files → IsShownEdit out old.entries old.options.style number files taken_edit
-  taken folder report files_are modules_are text_is is show = record { is_output = output; shown = subst (PutsShown out old.entries number files) (sym (puts_before_line out number (map as_file modules) text)) (links (map as_file modules) shows) }
+  taken folder report files_are modules_are text_is is show = record { is_output = output; answer = linked_to (map as_file modules); is_answer = is_linked (map as_file modules) verdict shows; put = puts_before_line out number (map as_file modules) text }
     where
       same : is.links ≡ modules
       same = sym (ap (λ (s : Standing). s.files) is.taken) ∙ sym modules_are
@@ -42,12 +42,13 @@ module _ (out : List ℕ) (number : ℕ) (old new : Standing) (files : List Sour
       link : IsLinkOf old.entries files old.options.style (map as_file modules)
       link = subst (λ (fs : List SourceFile). IsLinkOf old.entries fs old.options.style (map as_file modules)) files_are (subst (λ (ms : List ModuleFile). IsLinkOf old.entries folder.files old.options.style (map as_file ms)) same is.linked)
 
-      shows : ShowFolder old.entries files (map as_file modules)
-      shows = subst (λ (fs : List SourceFile). ShowFolder old.entries fs (map as_file modules)) files_are (record {
+      shows : ShowFolder old.entries old.options.style files (map as_file modules)
+      shows = subst (λ (fs : List SourceFile). ShowFolder old.entries old.options.style fs (map as_file modules)) files_are (subst (λ (ms : List ModuleFile). ShowFolder old.entries old.options.style folder.files (map as_file ms)) same (record {
         world = is.linked.world;
         is_accepted = is.linked.is_accepted;
-        agrees = λ id named. subst (λ (ms : List ModuleFile). Agrees is.linked.world old.entries (map as_file ms) id) (sym modules_are) (show is.linked.world id is.linked.is_accepted named);
-      })
+        linked = is.linked;
+        agrees = λ id named. subst (λ (ms : List ModuleFile). Agrees is.linked.world old.entries (map as_file ms) id) (ap (λ (s : Standing). s.files) is.taken) (show is.linked.world id is.linked.is_accepted named);
+      }))
 
       work : IsWork old.entries files (work_told report)
       work = subst (λ (fs : List SourceFile). IsWork old.entries fs (work_told report)) files_are is.work
@@ -70,7 +71,7 @@ module _ (out : List ℕ) (entries : List EntryPoint) (style : Style) (number : 
   refuses_edit others code place shown text files_are place_is text_is verdict =
       let of_files : IsVerdict entries files (refused code place) = subst (λ (fs : List SourceFile). IsVerdict entries fs (refused code place)) files_are verdict in
       let same : refused_line number code place ≡ text = ap (refused_line number code) (sym place_is) ∙ sym text_is in
-      record { is_output = subst (λ (t : List ℕ). IsEditOutput out entries style number files (refused_edit t)) same (refuses code place of_files); shown = none }
+      record { is_output = subst (λ (t : List ℕ). IsEditOutput out entries style number files (refused_edit t)) same (refuses code place of_files); answer = refused_with code place; is_answer = is_refused code place of_files; put = refl }
 
   -- an edit of which the writing was cut off
   pub edit_cut : (p0 p1 : Option (List PutFile)) (t0 t1 : Option (List ℕ)) (e : Edited) (cause : Type 0) (fault : Fault) → IsShownEdit out entries style number files e → WrittenCut (WritesFront p0 p1 t0 t1 e.events) cause fault → EditEnds out entries style number files p0 p1 t0 t1 (Err fault)

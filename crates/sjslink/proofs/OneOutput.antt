@@ -18,7 +18,7 @@ use Rattle.entries_file.specs.EntriesFile.{entries_of}
 use Rattle.entries_file.proofs.Steps.{valid_entries}
 use Rattle.sj_names.specs.EntryPoints.{AreEntries}
 use Rattle.sj_split.specs.declared.plans.Style.{Style}
-use Rattle.sjslink.specs.Headline.{HasOneOutput}
+use Rattle.sjslink.specs.Laws.{HasOneOutput}
 use Rattle.sjslink.specs.Input.{IsLinkCommand, HasEntries, planned_style}
 use Rattle.sjslink.specs.Output.{Output, no_command, bad_entries, edited, Edited, AreEdited, IsEdited, IsEditOutput, linked, refuses, accepted_line, refused_line, puts_of, events_of, status_of, entries_line}
 use Rattle.sjslink.specs.declared.answers.Status.TheVariants.{BadEntries}

@@ -12,7 +12,8 @@ use Rattle.sj_outside.specs.Writing.{Appends, Event, put, line, put_in, text_in,
 use Rattle.sj_outside.specs.declared.answers.PutFile.{PutFile}
 use Rattle.sj_outside.proofs.Laws.{Appends-none, Appends-then, Writes-line, Writes-then, WritesFront-of, Rose-within}
 use Rattle.sjslink.specs.Editing.{Written, WrittenCut}
-use Rattle.sjslink.specs.Output.{put_of, puts_of}
+use Rattle.sjslink.specs.Output.{puts_of}
+use Rattle.sjslink.specs.Puts.{put_of}
 use Rattle.sjslink.specs.declared.editing.Fault.{Fault}
 use Rattle.sjslink.specs.declared.editing.Fault.TheVariants.{Read, Write, NoMemory}
 

@@ -9,8 +9,8 @@ use Rattle.sj_outside.specs.Faults.{Rose}
 use Rattle.sj_outside.specs.Writing.{put_in, Writes, WritesFront}
 use Rattle.sj_outside.specs.declared.answers.PutFile.{PutFile}
 use Rattle.sj_split.specs.declared.plans.Style.{Style}
-use Rattle.sjslink.specs.Output.{Edited, IsEditOutput, AreEdited, events_of, was_accepted, put_of, AtEnd, IsWhole, IsFront}
-use Rattle.sjslink.specs.Headline.{AcceptedEdit, ShowFolder, Shows, files_put, ShowsTheSame, ShowsFront}
+use Rattle.sjslink.specs.Output.{Edited, IsEditOutput, AreEdited, events_of, was_accepted, AtEnd, IsWhole, IsFront}
+use Rattle.sjslink.specs.Headline.{Answer, IsAnswer, AreAnswers, puts_for, puts_from, ShowsTheSame, ShowsPrefix}
 use Rattle.sjslink.specs.declared.answers.Status.{Status}
 use Rattle.sjslink.specs.declared.answers.Status.TheVariants.{Done, SomeRefused}
 use Rattle.sjslink.specs.declared.editing.Fault.{Fault}
@@ -40,17 +40,13 @@ pub record HasReadCause (old new : ℕ) (result : Result (List EntryPoint) NoEnt
   pub never_falls : old ≤ new
   pub failed : result ≡ Err NoEntries.ReadFault → Rose old new
 
-module _ (out : List ℕ) (entries : List EntryPoint) (number : ℕ) (files : List SourceFile) where
-  -- the files that are put for the edit of a folder show what its classes show, if any are put
-  pub data PutsShown : List PutFile → Type 0 where
-    none : PutsShown []
-    links : (links : List File) → ShowFolder entries files links → PutsShown (map (put_of out number) links)
-
 module _ (out : List ℕ) (entries : List EntryPoint) (style : Style) (number : ℕ) (files : List SourceFile) where
-  -- what is written for the edit of a folder of these files
+  -- what is written for the edit of a folder of these files, with the answer to the folder
   pub record IsShownEdit (edited : Edited) : Type 0 where
     pub is_output : IsEditOutput out entries style number files edited
-    pub shown : PutsShown out entries number files (flat_map put_in edited.events)
+    pub answer : Answer
+    pub is_answer : IsAnswer entries style files answer
+    pub put : flat_map put_in edited.events ≡ puts_for out number answer
 
   module _ (puts_old puts_new : Option (List PutFile)) (text_old text_new : Option (List ℕ)) where
     -- it was written, and the folder was accepted or not
@@ -77,13 +73,13 @@ abbrev pub AreHeld : Parts → List (List ℕ) → Type 0
 AreHeld contents folders = (path : List ℕ) → Contains folders path → IsTrue (is_some (folder_at contents path))
 
 module _ (contents : Parts) (out : List ℕ) (entries : List EntryPoint) (style : Style) (folders : List (List ℕ)) where
-  -- the edits of the first folders, and those of them that were accepted
+  -- the edits of the first folders, and the answers to these
   pub record FirstEdits (n : ℕ) : Type 0 where
     pub edits : List Edited
     pub are_edited : AreEdited contents out entries style (take n folders) edits
-    pub accepted : List AcceptedEdit
-    pub shown : (edit : AcceptedEdit) → Contains accepted edit → Shows contents entries folders edit
-    pub put : flat_map put_in (flat_map events_of edits) ≡ flat_map (files_put out) accepted
+    pub answers : List Answer
+    pub are_answers : AreAnswers contents entries style (take n folders) answers
+    pub put : flat_map put_in (flat_map events_of edits) ≡ puts_from out 1 answers
 
   module _ (puts_old puts_new : Option (List PutFile)) (text_old text_new : Option (List ℕ)) where
     -- what is written for the first folders was written
@@ -108,4 +104,4 @@ pub record RunEnds (words : List (List ℕ)) (contents : Parts) (puts_old puts_n
   pub whole : AtEnd status (IsWhole words contents puts_old puts_new text_old text_new status)
   pub front : IsFront words contents puts_old puts_new text_old text_new
   pub agrees : (status ≡ Done) ⊎ (status ≡ SomeRefused) → ShowsTheSame words contents puts_old puts_new
-  pub shown : ShowsFront words contents puts_old puts_new
+  pub shown : ShowsPrefix words contents puts_old puts_new

@@ -6,7 +6,7 @@ use Rattle.sj_names.specs.declared.counters.Meter.{Meter}
 use Rattle.sj_names.specs.declared.entry_points.EntryPoint.{EntryPoint}
 use Rattle.sj_names.specs.declared.folders.SourceFile.{SourceFile}
 use Rattle.sj_outside.specs.Contents.{Parts}
-use Rattle.sj_outside.specs.Writing.{Event, put, line, Writes, WritesFront}
+use Rattle.sj_outside.specs.Writing.{Appends, Event, put, line, Writes, WritesFront}
 use Rattle.sj_outside.specs.declared.answers.PutFile.{PutFile}
 use Rattle.sj_split.specs.declared.plans.Style.{Style}
 use Rattle.sj_words.specs.Earlier.{split_command}
@@ -15,6 +15,7 @@ use Rattle.folder_files.specs.Files.{AreFilesOf}
 use Rattle.sj_session.specs.Verdicts.{accepted, refused, IsVerdict}
 use Rattle.sj_session.specs.Edits.{IsLinkOf, IsWork}
 use Rattle.sjslink.specs.Input.{IsLinkCommand, HasEntries, planned_style}
+use Rattle.sjslink.specs.Puts.{put_of}
 use Rattle.sjslink.specs.declared.answers.Status.{Status}
 use Rattle.sjslink.specs.declared.answers.Status.TheVariants.{Done, SomeRefused, Usage, ReadFault, WriteFault, NoMemory, BadEntries}
 
@@ -39,10 +40,6 @@ accepted_line number modules work = codes "edit " ++ (decimal number ++ (codes "
 -- the line of an edit that is refused: its number, the code and the place
 abbrev pub refused_line : ℕ → ℕ → List ℕ → List ℕ
 refused_line number code place = codes "edit " ++ (decimal number ++ (codes " refused " ++ (decimal code ++ (codes " " ++ (place ++ codes "\n")))))
-
--- a file of an edit, as it is put
-abbrev pub put_of : List ℕ → ℕ → File → PutFile
-put_of out number one = record { out = out; edit = number; name = one.name; bytes = one.bytes }
 
 abbrev pub puts_of : List ℕ → ℕ → List File → List Event
 puts_of out number files = map (λ f. put (put_of out number f)) files
@@ -100,15 +97,9 @@ pub data Ends (done : Status) (whole front cause : Type 0) : Status → Type 0 w
   faulted : front → cause → Ends done whole front cause WriteFault
   out_of_memory : front → Ends done whole front cause NoMemory
 
--- the answer to words that are no command
-abbrev pub IsUsageAnswer : Status → Type 0
-IsUsageAnswer Usage = ⊤
-IsUsageAnswer WriteFault = ⊤
-IsUsageAnswer NoMemory = ⊤
-IsUsageAnswer Done = ⊥
-IsUsageAnswer SomeRefused = ⊥
-IsUsageAnswer ReadFault = ⊥
-IsUsageAnswer (BadEntries n) = ⊥
+-- How a run ended that puts nothing and prints one line.
+abbrev pub EndsWithLine : Status → Option (List PutFile) → Option (List PutFile) → Option (List ℕ) → Option (List ℕ) → List ℕ → Type 0 → Status → Type 0
+EndsWithLine done puts_old puts_new text_old text_new text cause status = Ends done (Appends puts_old puts_new [] × Appends text_old text_new text) (Appends puts_old puts_new [] × Appends text_old text_new []) cause status
 
 -- the whole output was written, and this is the status of it
 pub record IsWhole (words : List (List ℕ)) (contents : Parts) (puts_old puts_new : Option (List PutFile)) (text_old text_new : Option (List ℕ)) (status : Status) : Type 0 where

@@ -48,6 +48,10 @@ pub fn edit_folders<F: Folders, O: Outputs, L: Lines>(
     requires { length link.now.folders < 2 ^ 32 }
     ensures ends { (c : Parts) → F.holds folders.old ≡ Some c → editing.EditsEnd c link.now.out session.old.entries session.old.options.style link.now.folders (O.puts outputs.old) (O.puts outputs.new) (L.printed lines.old) (L.printed lines.new) result }
     ensures missing { (c : Parts) → F.holds folders.old ≡ Some c → editing.AreHeld c link.now.folders → F.missing folders.new ≡ F.missing folders.old }
+    ensures same { F.holds folders.new ≡ F.holds folders.old }
+    ensures read_faults { F.faults folders.old ≤ F.faults folders.new }
+    ensures output_faults { O.faults outputs.old ≤ O.faults outputs.new }
+    ensures line_faults { L.faults lines.old ≤ L.faults lines.new }
     ensures read_fault { result ≡ Err Fault.Read → Rose (F.faults folders.old) (F.faults folders.new) }
     ensures write_fault { result ≡ Err Fault.Write → Rose (O.faults outputs.old) (O.faults outputs.new) ⊎ Rose (L.faults lines.old) (L.faults lines.new) }
 {

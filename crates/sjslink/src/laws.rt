@@ -1,5 +1,5 @@
 // What the clauses of a run rest on: each of their words leads to one thing.
-ghost use Rattle.sjslink.specs.Headline.{ReadsOneProgram, HasOneOutput};
+ghost use Rattle.sjslink.specs.Laws.{ReadsOneProgram, HasOneOutput};
 
 /// Files are read as one program at most: so nothing hangs on which program is meant where files show what classes show.
 pub fn programs_are_read_once()

@@ -1,11 +1,11 @@
 // The top call.
-ghost use Rattle.std.specs.Prelude.{◌≡◌, ◌⊎◌, ◌<◌, ◌^◌, ℕ, List, [], Some, None, Ok, length, map, string_bytes};
+ghost use Rattle.std.specs.Prelude.{◌≡◌, ◌⊎◌, ◌≤◌, ◌<◌, ◌^◌, ℕ, List, [], Some, None, Ok, length, map, string_bytes};
 ghost use Rattle.sj_outside.specs.Contents.{Parts};
 ghost use Rattle.sj_outside.specs.Faults.{Rose};
 ghost use Rattle.sj_outside.specs.Writing.{Appends};
 ghost use Rattle.sj_words.specs.Earlier.{split_command as command};
 ghost use Rattle.sjslink.specs.Editing.{AreHeld, RunEnds};
-ghost use Rattle.sjslink.specs.Headline.{ShowsTheSame, ShowsFront};
+ghost use Rattle.sjslink.specs.Headline.{ShowsTheSame, ShowsPrefix};
 ghost use Rattle.sjslink.specs.Input.{HasEntries, HasNamed, HoldWhatIsNamed, IsLinkCommand, planned_style as planned};
 ghost use Rattle.sjslink.specs.Output as output;
 
@@ -44,19 +44,28 @@ pub fn run<F: Folders, O: Outputs, L: Lines>(
     // In every case what was written is nothing, or a front of the output, or of what is written for the first folders.
     ensures front { (c : Parts) → F.holds folders.old ≡ Some c → output.IsFront (map string_bytes words.items) c (O.puts outputs.old) (O.puts outputs.new) (L.printed lines.old) (L.printed lines.new) }
 
-    // The files that a run has put that edited all its folders show, for each folder that was accepted, what its classes show.
+    // The headline: a link command that has answered all its folders has put the files of those that are accepted, in their order. The files of
+    // each are those that its folder is linked to, and show what its classes show.
     ensures agrees { (c : Parts) → F.holds folders.old ≡ Some c → (result ≡ Status.Done) ⊎ (result ≡ Status.SomeRefused) → ShowsTheSame (map string_bytes words.items) c (O.puts outputs.old) (O.puts outputs.new) }
 
-    // In every case what was put is a front of such files.
-    ensures shown { (c : Parts) → F.holds folders.old ≡ Some c → ShowsFront (map string_bytes words.items) c (O.puts outputs.old) (O.puts outputs.new) }
+    // In every case what was put is a prefix of such files of the first folders.
+    ensures shown { (c : Parts) → F.holds folders.old ≡ Some c → ShowsPrefix (map string_bytes words.items) c (O.puts outputs.old) (O.puts outputs.new) }
 
     // Nothing is asked for that the folders lack, but for what the words name.
     ensures missing { (c : Parts) → F.holds folders.old ≡ Some c → HoldWhatIsNamed c (map string_bytes words.items) → F.missing folders.new ≡ F.missing folders.old }
 
     // Words that are no command are answered so, also where the folders tell nothing.
-    ensures no_command { command (map string_bytes words.items) ≡ None → output.IsUsageAnswer result }
+    ensures no_command { command (map string_bytes words.items) ≡ None → output.EndsWithLine Status.Usage (O.puts outputs.old) (O.puts outputs.new) (L.printed lines.old) (L.printed lines.new) output.usage_line (Rose (L.faults lines.old) (L.faults lines.new)) result }
     ensures usage { result ≡ Status.Usage → command (map string_bytes words.items) ≡ None }
-    ensures usage_line { result ≡ Status.Usage → Appends (O.puts outputs.old) (O.puts outputs.new) [] × Appends (L.printed lines.old) (L.printed lines.new) output.usage_line }
+
+    // So is a bad entries file.
+    ensures bad_entries { (number : ℕ) → result ≡ Status.BadEntries number → Appends (O.puts outputs.old) (O.puts outputs.new) [] × Appends (L.printed lines.old) (L.printed lines.new) (output.entries_line number) }
+
+    // What the folders hold stays, and no count falls.
+    ensures same { F.holds folders.new ≡ F.holds folders.old }
+    ensures read_faults { F.faults folders.old ≤ F.faults folders.new }
+    ensures output_faults { O.faults outputs.old ≤ O.faults outputs.new }
+    ensures line_faults { L.faults lines.old ≤ L.faults lines.new }
 
     // Each fault has its cause.
     ensures read_fault { result ≡ Status.ReadFault → Rose (F.faults folders.old) (F.faults folders.new) }
@@ -80,6 +89,11 @@ fn run_link<F: Folders, O: Outputs, L: Lines>(
     ensures ends { (words : List (List ℕ)) (c : Parts) → IsLinkCommand words link.now → F.holds folders.old ≡ Some c → RunEnds words c (O.puts outputs.old) (O.puts outputs.new) (L.printed lines.old) (L.printed lines.new) result }
     ensures missing { (c : Parts) → F.holds folders.old ≡ Some c → HasNamed c link.now → F.missing folders.new ≡ F.missing folders.old }
     ensures no_usage { result ≡ Status.Usage → ⊥ }
+    ensures bad_entries { (number : ℕ) → result ≡ Status.BadEntries number → Appends (O.puts outputs.old) (O.puts outputs.new) [] × Appends (L.printed lines.old) (L.printed lines.new) (output.entries_line number) }
+    ensures same { F.holds folders.new ≡ F.holds folders.old }
+    ensures read_faults { F.faults folders.old ≤ F.faults folders.new }
+    ensures output_faults { O.faults outputs.old ≤ O.faults outputs.new }
+    ensures line_faults { L.faults lines.old ≤ L.faults lines.new }
     ensures read_fault { result ≡ Status.ReadFault → Rose (F.faults folders.old) (F.faults folders.new) }
     ensures write_fault { result ≡ Status.WriteFault → Rose (O.faults outputs.old) (O.faults outputs.new) ⊎ Rose (L.faults lines.old) (L.faults lines.new) }
 {
@@ -103,6 +117,11 @@ fn edit_all<F: Folders, O: Outputs, L: Lines>(
     ensures ends { (words : List (List ℕ)) (c : Parts) → IsLinkCommand words link.now → F.holds folders.old ≡ Some c → HasEntries c link.now.entries (Ok entries) → RunEnds words c (O.puts outputs.old) (O.puts outputs.new) (L.printed lines.old) (L.printed lines.new) result }
     ensures missing { (c : Parts) → F.holds folders.old ≡ Some c → AreHeld c link.now.folders → F.missing folders.new ≡ F.missing folders.old }
     ensures no_usage { result ≡ Status.Usage → ⊥ }
+    ensures no_bad_entries { (number : ℕ) → result ≡ Status.BadEntries number → ⊥ }
+    ensures same { F.holds folders.new ≡ F.holds folders.old }
+    ensures read_faults { F.faults folders.old ≤ F.faults folders.new }
+    ensures output_faults { O.faults outputs.old ≤ O.faults outputs.new }
+    ensures line_faults { L.faults lines.old ≤ L.faults lines.new }
     ensures read_fault { result ≡ Status.ReadFault → Rose (F.faults folders.old) (F.faults folders.new) }
     ensures write_fault { result ≡ Status.WriteFault → Rose (O.faults outputs.old) (O.faults outputs.new) ⊎ Rose (L.faults lines.old) (L.faults lines.new) }
 {
@@ -130,7 +149,8 @@ fn planned_style(style: sj_words::Style) -> Style
 }
 
 fn tell_bad_line<L: Lines>(alloc: Global, number: u32, lines: &mut L) -> Status
-    ensures { output.Ends (Status.BadEntries number) (Appends (L.printed lines.old) (L.printed lines.new) (output.entries_line number)) (Appends (L.printed lines.old) (L.printed lines.new) []) (Rose (L.faults lines.old) (L.faults lines.new)) result }
+    ensures ends { output.Ends (Status.BadEntries number) (Appends (L.printed lines.old) (L.printed lines.new) (output.entries_line number)) (Appends (L.printed lines.old) (L.printed lines.new) []) (Rose (L.faults lines.old) (L.faults lines.new)) result }
+    ensures faults { L.faults lines.old ≤ L.faults lines.new }
 {
     match entries_line(alloc, number) {
         Ok(text) => finish(alloc, Status::BadEntries(number), text.as_str(), lines),

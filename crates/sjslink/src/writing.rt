@@ -15,7 +15,8 @@ use std::alloc::Global;
 
 /// Prints the last line of a run, and answers `status` where that goes well.
 pub fn finish<L: Lines>(alloc: Global, status: Status, text: &str, lines: &mut L) -> Status
-    ensures { output.Ends status (Appends (L.printed lines.old) (L.printed lines.new) text.now) (Appends (L.printed lines.old) (L.printed lines.new) []) (Rose (L.faults lines.old) (L.faults lines.new)) result }
+    ensures ends { output.Ends status (Appends (L.printed lines.old) (L.printed lines.new) text.now) (Appends (L.printed lines.old) (L.printed lines.new) []) (Rose (L.faults lines.old) (L.faults lines.new)) result }
+    ensures faults { L.faults lines.old ≤ L.faults lines.new }
 {
     match lines.line(alloc, text.as_bytes()) {
         Ok(()) => status,

@@ -1,5 +1,7 @@
 use Rattle.std.proofs.Common.{refl}
+use Rattle.std.specs.Char.{encode_utf8}
 use Rattle.std.specs.Fmt.{digits}
+use Rattle.std.specs.Str.{is_utf8, chars}
 use Rattle.agree_recorded_folders.proofs.objects_uncaught_object.Goals as goal
 
 pub returns-clause-main_within_0 : goal.returns-clause-main_within_0
@@ -35,5 +37,5 @@ unfolding digits
 returns-clause-main_within_300 c = refl
 
 pub returns-clause-main_files : goal.returns-clause-main_files
-unfolding digits
+unfolding digits is_utf8 chars encode_utf8
 returns-clause-main_files c = refl

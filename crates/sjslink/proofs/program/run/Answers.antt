@@ -2,11 +2,13 @@ use Rattle.std.proofs.Common.{◌≡◌, map, Some, None, ap, sym, ◌∙◌}
 use Rattle.std.specs.Prelude.{string_bytes}
 use Rattle.std.proofs.Common.{arith}
 use Rattle.std.proofs.lemmas.Grind.{common_steps}
+use Rattle.sj_outside.proofs.Laws.{Appends-none}
 use Rattle.sj_words.specs.Earlier.{split_command as command}
+use Rattle.sjslink.specs.Headline.{none_put}
 use Rattle.sjslink.specs.Input.{IsLinkCommand}
-use Rattle.sjslink.specs.Output.{no_command, usage_line}
+use Rattle.sjslink.specs.Output.{no_command, out_of_memory, usage_line}
 use Rattle.sjslink.specs.declared.answers.Status.TheVariants.{Usage}
-use Rattle.sjslink.proofs.Ends.{line_ends_run, usage_is_no_edit}
+use Rattle.sjslink.proofs.Ends.{line_ends_run, usage_is_no_edit, line_alone, usage_is_no_bad_line}
 use Rattle.sjslink.proofs.Words.{none_generates, few_folders}
 use Rattle.std.proofs.lemmas.List.{length-map}
 use Rattle.sjslink.proofs.program.run.Goals as goal
@@ -24,12 +26,12 @@ returns-in-Ok-Some-Link-clause-shown g c contents tells =
 pub returns-in-Ok-clause-whole : goal.returns-in-Ok-clause-whole
 returns-in-Ok-clause-whole g c contents tells =
     let none : command (map string_bytes c.args.words.items) ≡ None = grind (arith, common_steps, none_generates) in
-    (line_ends_run (map string_bytes c.args.words.items) contents _ _ _ Usage usage_line _ c.finish.result (no_command none) (λ P p. p) usage_is_no_edit c.finish.ensures).whole
+    (line_ends_run (map string_bytes c.args.words.items) contents _ _ _ Usage usage_line _ c.finish.result (no_command none) (λ P p. p) usage_is_no_edit c.finish.ensures.ends).whole
 
 pub returns-in-Ok-clause-front : goal.returns-in-Ok-clause-front
 returns-in-Ok-clause-front g c contents tells =
     let none : command (map string_bytes c.args.words.items) ≡ None = grind (arith, common_steps, none_generates) in
-    (line_ends_run (map string_bytes c.args.words.items) contents _ _ _ Usage usage_line _ c.finish.result (no_command none) (λ P p. p) usage_is_no_edit c.finish.ensures).front
+    (line_ends_run (map string_bytes c.args.words.items) contents _ _ _ Usage usage_line _ c.finish.result (no_command none) (λ P p. p) usage_is_no_edit c.finish.ensures.ends).front
 
 pub run_link-requires : goal.run_link-requires
 run_link-requires g c =
@@ -49,3 +51,23 @@ returns-in-Ok-Some-Link-clause-missing g c contents tells held =
 
 pub returns-in-Ok-clause-usage : goal.returns-in-Ok-clause-usage
 returns-in-Ok-clause-usage g c ended = grind (arith, common_steps, none_generates)
+
+pub returns-in-Ok-clause-no_command : goal.returns-in-Ok-clause-no_command
+returns-in-Ok-clause-no_command g c none = line_alone _ _ _ _ Usage usage_line c.finish.result c.finish.ensures.ends
+
+pub returns-in-Ok-clause-bad_entries : goal.returns-in-Ok-clause-bad_entries
+returns-in-Ok-clause-bad_entries g c number e = absurd (usage_is_no_bad_line _ _ _ usage_line c.finish.result number c.finish.ensures.ends e)
+
+pub returns-in-Err-clause-no_command : goal.returns-in-Err-clause-no_command
+returns-in-Err-clause-no_command g c none = out_of_memory (Appends-none _, Appends-none _)
+
+pub returns-in-Ok-clause-agrees : goal.returns-in-Ok-clause-agrees
+returns-in-Ok-clause-agrees g c contents tells ended =
+    let none : command (map string_bytes c.args.words.items) ≡ None = grind (arith, common_steps, none_generates) in
+    (line_ends_run (map string_bytes c.args.words.items) contents _ _ _ Usage usage_line _ c.finish.result (no_command none) (λ P p. p) usage_is_no_edit c.finish.ensures.ends).agrees ended
+
+pub returns-in-Ok-clause-shown : goal.returns-in-Ok-clause-shown
+returns-in-Ok-clause-shown g c contents tells = λ link is. none_put (Appends-none _)
+
+pub returns-in-Err-clause-shown : goal.returns-in-Err-clause-shown
+returns-in-Err-clause-shown g c contents tells = λ link is. none_put (Appends-none _)

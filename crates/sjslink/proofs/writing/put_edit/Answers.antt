@@ -5,7 +5,7 @@ use Rattle.sj_session.specs.Modules.{as_file}
 use Rattle.sj_session.specs.ModuleFile.{ModuleFile}
 use Rattle.sj_outside.specs.Faults.{Rose}
 use Rattle.sj_outside.specs.Writing.{Appends}
-use Rattle.sjslink.specs.Output.{put_of}
+use Rattle.sjslink.specs.Puts.{put_of}
 use Rattle.sjslink.proofs.Puts.{puts_cut, puts_then_line}
 use Rattle.sjslink.proofs.writing.put_edit.Goals as goal
 

@@ -1,7 +1,7 @@
 use Rattle.std.proofs.Common.{◌≤◌, map, take}
 use Rattle.sj_outside.specs.Writing.{Appends}
 use Rattle.sj_session.specs.Modules.{as_file}
-use Rattle.sjslink.specs.Output.{put_of}
+use Rattle.sjslink.specs.Puts.{put_of}
 use Rattle.sjslink.proofs.writing.put_edit.Given as goal
 
 -- the first files were put
