@@ -33,20 +33,20 @@ module _ {X : Type 0} (P : X → Type 0) (tell : (x : X) → Decided (P x)) wher
     where
       go : Decided (P x) → Decided (Found P xs) → Decided (Found P (x ∷ xs))
       go (inl holds) rest = inl (record { item = x; among = at_first x xs; holds = holds })
-      go (inr no) (inl f) = inl (record { item = f.item; among = further x f.item xs f.among; holds = f.holds })
-      go (inr no) (inr none) = inr (λ f. elim (cons_cases x f.item xs f.among) [ inl is ↦ no (subst P (sym is) f.holds) | inr later ↦ none (record { item = f.item; among = later; holds = f.holds }) ])
+      go (inr denied) (inl f) = inl (record { item = f.item; among = further x f.item xs f.among; holds = f.holds })
+      go (inr denied) (inr none) = inr (λ f. elim (cons_cases x f.item xs f.among) [ inl is ↦ denied (subst P (sym is) f.holds) | inr later ↦ none (record { item = f.item; among = later; holds = f.holds }) ])
 
 abbrev is_told : (P : Type 0) → Decided P → Bool
 is_told P (inl p) = true
-is_told P (inr no) = false
+is_told P (inr denied) = false
 
 told : (P : Type 0) (d : Decided P) → is_told P d ≡ true → P
 told P (inl p) e = p
-told P (inr no) e = cc
+told P (inr denied) e = cc
 
 tells : (P : Type 0) (d : Decided P) → P → is_told P d ≡ true
 tells P (inl q) p = refl
-tells P (inr no) p = absurd (no p)
+tells P (inr denied) p = absurd (denied p)
 
 -- the texts of which it holds, in order
 pub record Listed (P : Bytes → Type 0) : Type 0 where

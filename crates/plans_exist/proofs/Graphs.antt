@@ -29,11 +29,15 @@ once (r ∷ rs) = put_by (list_any (is_same_reference r) (once rs)) r (once rs)
 
 none_same : (r : Reference) (rs : List Reference) → list_any (is_same_reference r) rs ≡ false → AllByRecursion (λ s. is_same_reference r s ≡ false) rs
 none_same r [] e = tt
-none_same r (s ∷ ss) e = go (is_same_reference r s) refl
+none_same r (s ∷ ss) e = go (is_same_reference r s) refl (none_same r ss)
   where
-    go : (b : Bool) → is_same_reference r s ≡ b → AllByRecursion (λ q. is_same_reference r q ≡ false) (s ∷ ss)
-    go true is = let w : true ≡ false = sym (ap (λ b. b || list_any (is_same_reference r) ss) is) ∙ e in cc
-    go false is = (is, none_same r ss (sym (ap (λ b. b || list_any (is_same_reference r) ss) is) ∙ e))
+    go : (b : Bool) → is_same_reference r s ≡ b → (list_any (is_same_reference r) ss ≡ false → AllByRecursion (λ q. is_same_reference r q ≡ false) ss) → AllByRecursion (λ q. is_same_reference r q ≡ false) (s ∷ ss)
+    go true is rest = let w : true ≡ false = sym (ap (λ b. b || list_any (is_same_reference r) ss) is) ∙ e in cc
+    go false is rest = (is, rest (sym (ap (λ b. b || list_any (is_same_reference r) ss) is) ∙ e))
+
+new_first : (r : Reference) (rs : List Reference) → AllByRecursion (λ s. is_same_reference r s ≡ false) rs → IsDistinct is_same_reference rs → IsDistinct is_same_reference (r ∷ rs)
+unfolding IsDistinct
+new_first r rs new rest = (new, rest)
 
 none_twice : (rs : List Reference) → IsDistinct is_same_reference (once rs)
 unfolding IsDistinct once
@@ -42,27 +46,27 @@ none_twice (r ∷ rs) = go (list_any (is_same_reference r) (once rs)) refl (none
   where
     go : (b : Bool) → list_any (is_same_reference r) (once rs) ≡ b → IsDistinct is_same_reference (once rs) → IsDistinct is_same_reference (put_by b r (once rs))
     go true e rest = rest
-    go false e rest = (none_same r (once rs) e, rest)
+    go false e rest = new_first r (once rs) (none_same r (once rs) e) rest
 
 from_once : (rs : List Reference) (one : Reference) → Contains (once rs) one → Contains rs one
 unfolding once
 from_once [] one h = h
-from_once (r ∷ rs) one h = go (list_any (is_same_reference r) (once rs)) h
+from_once (r ∷ rs) one h = go (list_any (is_same_reference r) (once rs)) (from_once rs one) h
   where
-    go : (b : Bool) → Contains (put_by b r (once rs)) one → Contains (r ∷ rs) one
-    go true h = further r one rs (from_once rs one h)
-    go false h = elim (cons_cases r one (once rs) h) [ inl is ↦ subst (Contains (r ∷ rs)) is (at_first r rs) | inr later ↦ further r one rs (from_once rs one later) ]
+    go : (b : Bool) → (Contains (once rs) one → Contains rs one) → Contains (put_by b r (once rs)) one → Contains (r ∷ rs) one
+    go true rest h = further r one rs (rest h)
+    go false rest h = elim (cons_cases r one (once rs) h) [ inl is ↦ subst (Contains (r ∷ rs)) is (at_first r rs) | inr later ↦ further r one rs (rest later) ]
 
 into_once : (rs : List Reference) (one : Reference) → Contains rs one → Contains (once rs) one
 unfolding once
 into_once [] one h = h
-into_once (r ∷ rs) one h = go (list_any (is_same_reference r) (once rs)) refl (cons_cases r one rs h)
+into_once (r ∷ rs) one h = go (list_any (is_same_reference r) (once rs)) refl (into_once rs one) (cons_cases r one rs h)
   where
-    go : (b : Bool) → list_any (is_same_reference r) (once rs) ≡ b → (r ≡ one) ⊎ Contains rs one → Contains (put_by b r (once rs)) one
-    go true e (inl is) = subst (Contains (once rs)) is (Contains-list_any is_same_reference same_reference (once rs) r e)
-    go true e (inr later) = into_once rs one later
-    go false e (inl is) = subst (Contains (r ∷ once rs)) is (at_first r (once rs))
-    go false e (inr later) = further r one (once rs) (into_once rs one later)
+    go : (b : Bool) → list_any (is_same_reference r) (once rs) ≡ b → (Contains rs one → Contains (once rs) one) → (r ≡ one) ⊎ Contains rs one → Contains (put_by b r (once rs)) one
+    go true e rest (inl is) = subst (Contains (once rs)) is (Contains-list_any is_same_reference same_reference (once rs) r e)
+    go true e rest (inr later) = rest later
+    go false e rest (inl is) = subst (Contains (r ∷ once rs)) is (at_first r (once rs))
+    go false e rest (inr later) = further r one (once rs) (rest later)
 
 references_are : (pieces : List Piece) (one : Reference) → Contains (once (flat_map piece_references pieces)) one ↔ IsReference pieces one
 references_are pieces one = (λ h. exact.0 (each-insert_all is_same_reference same_reference [] all one (from_once all one h)), λ r. into_once all one (listed (from-insert_all is_same_reference [] all one (exact.1 r))))

@@ -60,13 +60,13 @@ unfolding sort
 ascends_sort [] = tt
 ascends_sort (m ∷ ms) = ascends_put m (sort ms) (ascends_sort ms)
 
-in_order : (ms : List PlannedModule) → Ascends ms → (k : ℕ) (d : PlannedModule) → k + 1 < length ms → is_first (get_or ms (k + 1) d) (get_or ms k d) ≡ false
-in_order [] a k d within = absurd (omega arith)
-in_order (m ∷ []) a k d within = absurd (omega arith)
-in_order (m ∷ n ∷ ns) a zero d within = a.0
-in_order (m ∷ n ∷ ns) a (suc k) d within =
+ascending : (ms : List PlannedModule) → Ascends ms → (k : ℕ) (d : PlannedModule) → k + 1 < length ms → is_first (get_or ms (k + 1) d) (get_or ms k d) ≡ false
+ascending [] a k d within = absurd (omega arith)
+ascending (m ∷ []) a k d within = absurd (omega arith)
+ascending (m ∷ n ∷ ns) a zero d within = a.0
+ascending (m ∷ n ∷ ns) a (suc k) d within =
     let e : suc k + 1 ≡ suc (k + 1) = omega arith in
-    subst (λ i. is_first (get_or (m ∷ n ∷ ns) i d) (get_or (n ∷ ns) k d) ≡ false) (sym e) (in_order (n ∷ ns) a.1 k d (omega (arith, within)))
+    subst (λ i. is_first (get_or (m ∷ n ∷ ns) i d) (get_or (n ∷ ns) k d) ≡ false) (sym e) (ascending (n ∷ ns) a.1 k d (omega (arith, within)))
 
 moved_put : (m : PlannedModule) (ns : List PlannedModule) → IsPermutation (m ∷ ns) (put m ns)
 unfolding put
@@ -88,4 +88,4 @@ pub record IsSorted (ms sorted : List PlannedModule) : Type 0 where
   pub in_order : IsSortedByKey file (slice_cmp nat_cmp) sorted
 
 pub sorted_there : (ms : List PlannedModule) → (sorted : List PlannedModule) × IsSorted ms sorted
-sorted_there ms = (sort ms, record { moved = moved_sort ms; in_order = λ k d low within. in_order (sort ms) (ascends_sort ms) k d within })
+sorted_there ms = (sort ms, record { moved = moved_sort ms; in_order = λ k d low within. ascending (sort ms) (ascends_sort ms) k d within })

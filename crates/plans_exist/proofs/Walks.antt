@@ -44,14 +44,14 @@ walk_or_not [] a b = go (same_or_not a b)
   where
     go : Decided (a ≡ b) → Decided (Walk [] a b)
     go (inl e) = inl (subst (λ (n : Name). Walk [] a n) e stay)
-    go (inr no) = inr (λ w. no (no_step a b w))
+    go (inr denied) = inr (λ w. denied (no_step a b w))
 walk_or_not (one ∷ rest) a b = go (walk_or_not rest a b) (walk_or_not rest a one.from) (walk_or_not rest one.to b)
   where
     go : Decided (Walk rest a b) → Decided (Walk rest a one.from) → Decided (Walk rest one.to b) → Decided (Walk (one ∷ rest) a b)
     go (inl w) there back = inl (without_it one rest a b w)
-    go (inr no) (inl there) (inl back) = inl (by_it one rest a b there back)
-    go (inr no) (inl there) (inr none) = inr (λ w. elim (through one rest a b w) [ inl u ↦ no u | inr parts ↦ none parts.1 ])
-    go (inr no) (inr none) back = inr (λ w. elim (through one rest a b w) [ inl u ↦ no u | inr parts ↦ none parts.0 ])
+    go (inr denied) (inl there) (inl back) = inl (by_it one rest a b there back)
+    go (inr denied) (inl there) (inr none) = inr (λ w. elim (through one rest a b w) [ inl u ↦ denied u | inr parts ↦ none parts.1 ])
+    go (inr denied) (inr none) back = inr (λ w. elim (through one rest a b w) [ inl u ↦ denied u | inr parts ↦ none parts.0 ])
 
 abbrev to_of : Reference → Name
 to_of one = one.to
@@ -104,7 +104,7 @@ module _ (references : References) where
         both : (e : EntryPoint) → Decided (e.module ≡ id) → Decided (Walk references e.class class) → Decided (leads e)
         both e (inl is) (inl walk) = inl (is, walk)
         both e (inl is) (inr none) = inr (λ l. none l.1)
-        both e (inr no) other = inr (λ l. no l.0)
+        both e (inr denied) other = inr (λ l. denied l.0)
 
         go : Decided (Found leads entries) → Decided (Reaches references entries id class)
         go (inl f) = inl (record { entry = f.item; among = f.among; in_module = f.holds.0; walk = f.holds.1 })
