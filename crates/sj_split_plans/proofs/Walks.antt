@@ -11,7 +11,7 @@ use Rattle.sj_split.specs.Steps.{entry_class}
 use Rattle.sj_split.specs.Walks.{Name, Id, References, Walk, Reaches, IsReached, SameComponent}
 use Rattle.worklist.proofs.Inserted.{nothing_in}
 use Rattle.worklist.specs.Paths.{stay, on}
-use Rattle.plans_exist.proofs.Decided.{Decided, same_or_not, Found, found_or_not}
+use Rattle.sj_split_plans.proofs.Decided.{Decided, same_or_not, Found, found_or_not}
 
 no_step : (a b : Name) → Walk [] a b → a ≡ b
 no_step a _ stay = refl

@@ -20,8 +20,8 @@ use Rattle.sj_split.specs.declared.plans.Style.{Style}
 use Rattle.sj_split.specs.declared.plans.Style.TheVariants.{Fewest, Smallest}
 use Rattle.worklist.proofs.Inserted.{nothing_in}
 use Rattle.worklist.specs.Paths.{stay}
-use Rattle.plans_exist.proofs.Decided.{Listed, listed}
-use Rattle.plans_exist.proofs.Walks.{near, ends_near, component_or_not, named, reached_named, reached_or_not, reaches_or_not}
+use Rattle.sj_split_plans.proofs.Decided.{Listed, listed}
+use Rattle.sj_split_plans.proofs.Walks.{near, ends_near, component_or_not, named, reached_named, reached_or_not, reaches_or_not}
 
 below_each : (x y : Bytes) (ys : List Bytes) → Below x ys → Contains ys y → IsBefore x y
 below_each x y [] below h = nothing_in y h

@@ -15,9 +15,9 @@ use Rattle.sj_split.specs.declared.homes.Home.TheVariants.{Internal}
 use Rattle.sj_split.specs.declared.homes.Settled.{Settled}
 use Rattle.sj_split.specs.declared.plans.PlannedModule.{PlannedModule}
 use Rattle.sj_split.specs.declared.plans.Style.{Style}
-use Rattle.plans_exist.proofs.Settling.{homes_there}
-use Rattle.plans_exist.proofs.Sorting.{IsSorted, sorted_there}
-use Rattle.plans_exist.specs.Laws.{PlansExist}
+use Rattle.sj_split_plans.proofs.Settling.{homes_there}
+use Rattle.sj_split_plans.proofs.Sorting.{IsSorted, sorted_there}
+use Rattle.sj_split_plans.specs.Laws.{PlansExist}
 
 planned : (digest_of : Key → Digest) (graph : Graph) (entries : List EntryPoint) (style : Style) → ((homes : List Settled) × AreHomes graph.references entries style homes) → (modules : List PlannedModule) × IsPlan digest_of graph entries style modules
 planned digest_of graph entries style homes = (

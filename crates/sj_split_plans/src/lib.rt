@@ -3,7 +3,7 @@
 //! The functions here are laws: they do nothing when they run, and their clauses are theorems.
 #![tactic(auto)]
 
-ghost use Rattle.plans_exist.specs.Laws.{GraphsExist, PlansExist};
+ghost use Rattle.sj_split_plans.specs.Laws.{GraphsExist, PlansExist};
 
 /// Any pieces have a graph.
 pub fn graphs_exist()

@@ -16,7 +16,7 @@ use Rattle.sj_graph.specs.declared.graphs.Reference.{Reference}
 use Rattle.sj_split.proofs.Members.{at_first, further, cons_cases, into_map, from_map}
 use Rattle.sj_split.specs.Orders.{Bytes}
 use Rattle.sj_split_laws.proofs.Apart.{increasing_apart}
-use Rattle.plans_exist.specs.Laws.{GraphsExist}
+use Rattle.sj_split_plans.specs.Laws.{GraphsExist}
 
 -- references, each once
 abbrev put_by : Bool → Reference → List Reference → List Reference
