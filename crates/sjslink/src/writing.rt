@@ -6,6 +6,7 @@ ghost use Rattle.sj_outside.specs.Writing as events;
 ghost use Rattle.sj_session.specs.Modules.{as_file};
 ghost use Rattle.sjslink.specs.Editing as editing;
 ghost use Rattle.sjslink.specs.Output as output;
+ghost use Rattle.sjslink.specs.Puts.{put_of};
 
 use crate::Status;
 use crate::editing::Fault;
@@ -53,7 +54,7 @@ fn put_file<O: Outputs>(
     file: &ModuleFile,
     outputs: &mut O,
 ) -> Result<(), Fault>
-    ensures written { editing.Written (Appends (O.puts outputs.old) (O.puts outputs.new) (output.put_of out.now number (as_file file.now) ∷ [])) (Appends (O.puts outputs.old) (O.puts outputs.new) []) (Rose (O.faults outputs.old) (O.faults outputs.new)) result }
+    ensures written { editing.Written (Appends (O.puts outputs.old) (O.puts outputs.new) (put_of out.now number (as_file file.now) ∷ [])) (Appends (O.puts outputs.old) (O.puts outputs.new) []) (Rose (O.faults outputs.old) (O.faults outputs.new)) result }
     ensures faults { O.faults outputs.old ≤ O.faults outputs.new }
 {
     match outputs.put(

@@ -6,7 +6,7 @@ use Rattle.sj_outside.proofs.Laws.{Appends-none}
 use Rattle.sj_words.specs.Earlier.{split_command as command}
 use Rattle.sjslink.specs.Headline.{none_put}
 use Rattle.sjslink.specs.Input.{IsLinkCommand}
-use Rattle.sjslink.specs.Output.{no_command, out_of_memory, usage_line}
+use Rattle.sjslink.specs.Output.{no_command, usage_line}
 use Rattle.sjslink.specs.declared.answers.Status.TheVariants.{Usage}
 use Rattle.sjslink.proofs.Ends.{line_ends_run, usage_is_no_edit, line_alone, usage_is_no_bad_line}
 use Rattle.sjslink.proofs.Words.{none_generates, few_folders}
@@ -58,9 +58,6 @@ returns-in-Ok-clause-no_command g c none = line_alone _ _ _ _ Usage usage_line c
 pub returns-in-Ok-clause-bad_entries : goal.returns-in-Ok-clause-bad_entries
 returns-in-Ok-clause-bad_entries g c number e = absurd (usage_is_no_bad_line _ _ _ usage_line c.finish.result number c.finish.ensures.ends e)
 
-pub returns-in-Err-clause-no_command : goal.returns-in-Err-clause-no_command
-returns-in-Err-clause-no_command g c none = out_of_memory (Appends-none _, Appends-none _)
-
 pub returns-in-Ok-clause-agrees : goal.returns-in-Ok-clause-agrees
 returns-in-Ok-clause-agrees g c contents tells ended =
     let none : command (map string_bytes c.args.words.items) ≡ None = grind (arith, common_steps, none_generates) in
@@ -68,6 +65,3 @@ returns-in-Ok-clause-agrees g c contents tells ended =
 
 pub returns-in-Ok-clause-shown : goal.returns-in-Ok-clause-shown
 returns-in-Ok-clause-shown g c contents tells = λ link is. none_put (Appends-none _)
-
-pub returns-in-Err-clause-shown : goal.returns-in-Err-clause-shown
-returns-in-Err-clause-shown g c contents tells = λ link is. none_put (Appends-none _)
