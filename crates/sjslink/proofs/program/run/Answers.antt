@@ -6,7 +6,7 @@ use Rattle.sj_outside.proofs.Laws.{Appends-none}
 use Rattle.sj_words.specs.Earlier.{split_command as command}
 use Rattle.sjslink.specs.Headline.{none_put}
 use Rattle.sjslink.specs.Input.{IsLinkCommand}
-use Rattle.sjslink.specs.Output.{no_command, usage_line}
+use Rattle.sjslink.specs.Output.{no_command, out_of_memory, usage_line}
 use Rattle.sjslink.specs.declared.answers.Status.TheVariants.{Usage}
 use Rattle.sjslink.proofs.Ends.{line_ends_run, usage_is_no_edit, line_alone, usage_is_no_bad_line}
 use Rattle.sjslink.proofs.Words.{none_generates, few_folders}
@@ -54,6 +54,9 @@ returns-in-Ok-clause-usage g c ended = grind (arith, common_steps, none_generate
 
 pub returns-in-Ok-clause-no_command : goal.returns-in-Ok-clause-no_command
 returns-in-Ok-clause-no_command g c none = line_alone _ _ _ _ Usage usage_line c.finish.result c.finish.ensures.ends
+
+pub returns-clause-no_command : goal.returns-clause-no_command
+returns-clause-no_command g c none = out_of_memory (Appends-none _, Appends-none _)
 
 pub returns-in-Ok-clause-bad_entries : goal.returns-in-Ok-clause-bad_entries
 returns-in-Ok-clause-bad_entries g c number e = absurd (usage_is_no_bad_line _ _ _ usage_line c.finish.result number c.finish.ensures.ends e)
