@@ -75,7 +75,7 @@ holds "the older module" grep -qx older full/1/main.js
 holds "nothing beside the older module" test "$(ls -A full/1)" = main.js
 
 # less memory than the file has bytes
-holds "want of memory" test "$(ulimit -v 40000; "$program" link --optimize off entries out large > /dev/null 2>&1; echo $?)" = 5
+holds "want of memory" test "$(ulimit -v 16000; "$program" link --optimize off entries out large > /dev/null 2>&1; echo $?)" = 5
 
 if [ "${1:-}" = --many ]; then
   mkdir many
